@@ -1,0 +1,4 @@
+pub mod Nominal
+pub mod Data
+pub mod Delay
+pub mod Signed

@@ -1,0 +1,2 @@
+pub mod OscillatorControl
+pub mod IoControl

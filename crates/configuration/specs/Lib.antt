@@ -1,0 +1,2 @@
+pub mod CanControl
+pub mod TimeStampControl

@@ -1,0 +1,3 @@
+pub mod Control
+pub mod Status
+pub mod UserAddress

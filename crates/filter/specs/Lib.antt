@@ -1,0 +1,3 @@
+pub mod Control
+pub mod Object
+pub mod Mask

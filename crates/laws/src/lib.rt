@@ -1,0 +1,1 @@
+// Notation and laws that several crates cite: no code.
