@@ -1,0 +1,2 @@
+mod Search
+pub mod Dlcs

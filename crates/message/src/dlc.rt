@@ -1,0 +1,48 @@
+// Data length codes and the payload lengths that they mean.
+ghost use mathlib.Core.Path.{_≡_};
+ghost use Prim.Native.Nat.{_≤_};
+ghost use Rattle.message.specs.Dlc.{dlcs, lengthOf, dlcOf};
+
+// What DLC 0 to 15 mean, in bytes.
+pub const LENGTHS: [usize; 16] = [0, 1, 2, 3, 4, 5, 6, 7, 8, 12, 16, 20, 24, 32, 48, 64];
+
+pub enum Length {
+    Is(usize),
+    Bad,
+}
+
+pub enum Dlc {
+    Is(usize),
+    Bad,
+}
+
+// How many DLCs a frame may have, FD or classic.
+fn count(fdf: bool) -> usize
+    ensures { λ r. ⌜ (r ≡ dlcs fdf) × (r ≤ 16) ⌝ }
+{
+    if fdf { 16 } else { 9 }
+}
+
+pub fn len_for_dlc(dlc: usize, fdf: bool) -> Length
+    ensures { λ r. ⌜ r ≡ lengthOf fdf dlc ⌝ }
+{
+    if dlc < count(fdf) {
+        Length::Is(LENGTHS[dlc])
+    } else {
+        Length::Bad
+    }
+}
+
+pub fn dlc_for_len(len: usize, fdf: bool) -> Dlc
+    ensures { λ r. ⌜ r ≡ dlcOf fdf len ⌝ }
+{
+    let most = count(fdf);
+    let mut d = 0;
+    while d < most {
+        if LENGTHS[d] == len {
+            return Dlc::Is(d);
+        }
+        d += 1;
+    }
+    Dlc::Bad
+}
