@@ -1,0 +1,46 @@
+-- The table of checked cases: what the definitions that the contracts cite give, and what the scope document says.
+-- Assumes nothing.
+use mathlib.Core.Path.{_≡_}
+use mathlib.Core.List.{List, [], _∷_, _++_, map}
+use Prim.Native.Nat.{ℕ}
+use lib.IntN.{negsuc}
+use Rattle.words.specs.Words.{roundUp}
+use Rattle.fifo.specs.Control.{storedSize}
+use Rattle.fifo.specs.UserAddress.{CiFIFOUA}
+use Rattle.bit_timing.specs.Signed.{sevenOf}
+use Rattle.spi.specs.Instruction.{commandOf}
+use Rattle.spi.specs.Ram.{accessOf}
+use Rattle.spi.specs.Refusals.{answered}
+use Rattle.spi.specs.declared.instruction.OpCode.{OpCode}
+use Rattle.spi.specs.declared.refusal.Refusal.{Refusal}
+
+infix 20 _is_
+pub data Case : Type 0 where
+  _is_ : List ℕ → List ℕ → Case
+
+abbrev pub given : Case → List ℕ
+given (a is b) = a
+
+abbrev pub said : Case → List ℕ
+said (a is b) = b
+
+-- a RAM read's answer: nothing where it is in range, or the refusal's number and value
+abbrev pub readAnswer : ℕ → ℕ → List ℕ
+readAnswer a n = answered (accessOf a n (Refusal.InvalidReadLength n))
+
+unfoldable pub cases : List Case
+cases =
+    (commandOf OpCode.Read 0x05C is (0x30 ∷ 0x5C ∷ []))
+    ∷ (commandOf OpCode.Write 0x400 is (0x24 ∷ 0x00 ∷ []))
+    ∷ (commandOf OpCode.ReadCrc 0xE14 ++ (4 ∷ []) is (0xBE ∷ 0x14 ∷ 0x04 ∷ []))
+    ∷ ((CiFIFOUA .address 31 ∷ []) is (0x1CC ∷ []))
+    ∷ (readAnswer 0xBFC 4 is [])
+    ∷ (readAnswer 0xBFC 8 is (3 ∷ 0xBFC ∷ []))
+    ∷ (readAnswer 0x3FF 3 is (3 ∷ 0x3FF ∷ []))
+    ∷ ((roundUp 0 ∷ roundUp 1 ∷ roundUp 64 ∷ []) is (0 ∷ 4 ∷ 64 ∷ []))
+    ∷ ((storedSize 40 ∷ []) is (31 ∷ []))
+    ∷ ((sevenOf (negsuc 0) ∷ sevenOf (negsuc 63) ∷ []) is (0x7F ∷ 0x40 ∷ []))
+    ∷ []
+
+abbrev pub AsSaid : Type 0
+AsSaid = map given cases ≡ map said cases

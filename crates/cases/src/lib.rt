@@ -1,0 +1,1 @@
+// The scope document's table of checked cases: no code.

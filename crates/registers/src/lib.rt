@@ -1,0 +1,1 @@
+// All register kinds in one table, and what is proved of the whole table: no code.
