@@ -7,8 +7,9 @@ use lib.Bits.{bitAnd, and-mask}
 use lib.IntN.{ℤ, pos, negsuc, _-ℤ_}
 use mathlib.Core.Bool.{Bool, true, false}
 use lib.Dec.{ltb}
-use borrow.Author.Tests.{lt-ltb, le-ltb, ltb-false}
+use borrow.Author.Tests.{lt-ltb, le-ltb, ltb-true, ltb-false}
 use Rattle.laws.specs.If.{if_then_else_}
+use Rattle.laws.proofs.Choice.{by-if}
 use mir.Syntax.{w32}
 use mir.Val.{ofZ, SFits}
 use Rattle.bit_timing.specs.Signed.{sevenOf, numberOf, Small}
@@ -39,3 +40,8 @@ seven-number x h = go (ltb x 64) refl
     go : (b : Bool) → ltb x 64 ≡ b → sevenOf (if b then pos x else pos x -ℤ pos 128) ≡ x
     go true e = refl
     go false e = rw (less x h) (omega (arith, ltb-false x 64 e))
+
+-- seven bits stand for a small number
+pub number-small : (x : ℕ) → x < 128 → Small (numberOf x)
+number-small x h =
+    by-if Small (ltb x 64) (λ t. ltb-true x 64 t) (λ t. rw (less x h) (omega (arith, ltb-false x 64 t)))
