@@ -1,7 +1,8 @@
-// Input and output control, IOCON.
+// Input and output control, IOCON. A pin's number is taken modulo 2.
 ghost use mathlib.Core.Path.{_≡_};
+ghost use Prim.Native.Nat.{_%_};
 ghost use Rattle.field.specs.Field.{flag, mark};
-ghost use Rattle.chip.specs.IoControl.{IOCON, TRIS0, TRIS1, XSTBYEN, LAT0, LAT1, GPIO0, GPIO1, PM0, PM1, TXCANOD, SOF, INTOD};
+ghost use Rattle.chip.specs.IoControl.{IOCON, TRIS, LAT, GPIO, PM, XSTBYEN, TXCANOD, SOF, INTOD};
 
 pub struct IoControl(pub u32);
 
@@ -22,28 +23,52 @@ impl IoControl {
         IoControl(Self::RESET)
     }
 
-    pub fn tris0(self) -> bool
-        ensures { λ r. ⌜ r ≡ flag TRIS0 (self .0) ⌝ }
+    pub fn tris(self, pin: u8) -> bool
+        ensures { λ r. ⌜ r ≡ flag (TRIS (pin % 2)) (self .0) ⌝ }
     {
-        field::bit(self.0, 0)
+        field::bit(self.0, pin as u32 % 2)
     }
 
-    pub fn with_tris0(self, on: bool) -> IoControl
-        ensures { λ r. ⌜ r .0 ≡ mark TRIS0 on (self .0) ⌝ }
+    pub fn with_tris(self, pin: u8, on: bool) -> IoControl
+        ensures { λ r. ⌜ r .0 ≡ mark (TRIS (pin % 2)) on (self .0) ⌝ }
     {
-        IoControl(field::set_bit(self.0, 0, on))
+        IoControl(field::set_bit(self.0, pin as u32 % 2, on))
     }
 
-    pub fn tris1(self) -> bool
-        ensures { λ r. ⌜ r ≡ flag TRIS1 (self .0) ⌝ }
+    pub fn lat(self, pin: u8) -> bool
+        ensures { λ r. ⌜ r ≡ flag (LAT (pin % 2)) (self .0) ⌝ }
     {
-        field::bit(self.0, 1)
+        field::bit(self.0, 8 + pin as u32 % 2)
     }
 
-    pub fn with_tris1(self, on: bool) -> IoControl
-        ensures { λ r. ⌜ r .0 ≡ mark TRIS1 on (self .0) ⌝ }
+    pub fn with_lat(self, pin: u8, on: bool) -> IoControl
+        ensures { λ r. ⌜ r .0 ≡ mark (LAT (pin % 2)) on (self .0) ⌝ }
     {
-        IoControl(field::set_bit(self.0, 1, on))
+        IoControl(field::set_bit(self.0, 8 + pin as u32 % 2, on))
+    }
+
+    pub fn gpio(self, pin: u8) -> bool
+        ensures { λ r. ⌜ r ≡ flag (GPIO (pin % 2)) (self .0) ⌝ }
+    {
+        field::bit(self.0, 16 + pin as u32 % 2)
+    }
+
+    pub fn with_gpio(self, pin: u8, on: bool) -> IoControl
+        ensures { λ r. ⌜ r .0 ≡ mark (GPIO (pin % 2)) on (self .0) ⌝ }
+    {
+        IoControl(field::set_bit(self.0, 16 + pin as u32 % 2, on))
+    }
+
+    pub fn pm(self, pin: u8) -> bool
+        ensures { λ r. ⌜ r ≡ flag (PM (pin % 2)) (self .0) ⌝ }
+    {
+        field::bit(self.0, 24 + pin as u32 % 2)
+    }
+
+    pub fn with_pm(self, pin: u8, on: bool) -> IoControl
+        ensures { λ r. ⌜ r .0 ≡ mark (PM (pin % 2)) on (self .0) ⌝ }
+    {
+        IoControl(field::set_bit(self.0, 24 + pin as u32 % 2, on))
     }
 
     pub fn xstbyen(self) -> bool
@@ -56,78 +81,6 @@ impl IoControl {
         ensures { λ r. ⌜ r .0 ≡ mark XSTBYEN on (self .0) ⌝ }
     {
         IoControl(field::set_bit(self.0, 6, on))
-    }
-
-    pub fn lat0(self) -> bool
-        ensures { λ r. ⌜ r ≡ flag LAT0 (self .0) ⌝ }
-    {
-        field::bit(self.0, 8)
-    }
-
-    pub fn with_lat0(self, on: bool) -> IoControl
-        ensures { λ r. ⌜ r .0 ≡ mark LAT0 on (self .0) ⌝ }
-    {
-        IoControl(field::set_bit(self.0, 8, on))
-    }
-
-    pub fn lat1(self) -> bool
-        ensures { λ r. ⌜ r ≡ flag LAT1 (self .0) ⌝ }
-    {
-        field::bit(self.0, 9)
-    }
-
-    pub fn with_lat1(self, on: bool) -> IoControl
-        ensures { λ r. ⌜ r .0 ≡ mark LAT1 on (self .0) ⌝ }
-    {
-        IoControl(field::set_bit(self.0, 9, on))
-    }
-
-    pub fn gpio0(self) -> bool
-        ensures { λ r. ⌜ r ≡ flag GPIO0 (self .0) ⌝ }
-    {
-        field::bit(self.0, 16)
-    }
-
-    pub fn with_gpio0(self, on: bool) -> IoControl
-        ensures { λ r. ⌜ r .0 ≡ mark GPIO0 on (self .0) ⌝ }
-    {
-        IoControl(field::set_bit(self.0, 16, on))
-    }
-
-    pub fn gpio1(self) -> bool
-        ensures { λ r. ⌜ r ≡ flag GPIO1 (self .0) ⌝ }
-    {
-        field::bit(self.0, 17)
-    }
-
-    pub fn with_gpio1(self, on: bool) -> IoControl
-        ensures { λ r. ⌜ r .0 ≡ mark GPIO1 on (self .0) ⌝ }
-    {
-        IoControl(field::set_bit(self.0, 17, on))
-    }
-
-    pub fn pm0(self) -> bool
-        ensures { λ r. ⌜ r ≡ flag PM0 (self .0) ⌝ }
-    {
-        field::bit(self.0, 24)
-    }
-
-    pub fn with_pm0(self, on: bool) -> IoControl
-        ensures { λ r. ⌜ r .0 ≡ mark PM0 on (self .0) ⌝ }
-    {
-        IoControl(field::set_bit(self.0, 24, on))
-    }
-
-    pub fn pm1(self) -> bool
-        ensures { λ r. ⌜ r ≡ flag PM1 (self .0) ⌝ }
-    {
-        field::bit(self.0, 25)
-    }
-
-    pub fn with_pm1(self, on: bool) -> IoControl
-        ensures { λ r. ⌜ r .0 ≡ mark PM1 on (self .0) ⌝ }
-    {
-        IoControl(field::set_bit(self.0, 25, on))
     }
 
     pub fn txcanod(self) -> bool

@@ -1,0 +1,50 @@
+// Lines: what was asked, and behind `->` the answer.
+use libc::STDOUT_FILENO;
+use message::Dlc;
+use message::Length;
+
+fn asked(line: &[u8]) {
+    io::write_all(STDOUT_FILENO, line);
+    io::write_all(STDOUT_FILENO, b" -> ");
+}
+
+fn end() {
+    io::write_all(STDOUT_FILENO, b"\n");
+}
+
+pub fn number_line(line: &[u8], n: u32) {
+    asked(line);
+    io::print_decimal(STDOUT_FILENO, n as u64);
+    end();
+}
+
+pub fn flag_line(line: &[u8], on: bool) {
+    number_line(line, if on { 1 } else { 0 });
+}
+
+pub fn word_line(line: &[u8], w: u32) {
+    asked(line);
+    io::print_hex(STDOUT_FILENO, w as u64, 8);
+    end();
+}
+
+pub fn crc_line(line: &[u8], c: u16) {
+    asked(line);
+    io::print_hex(STDOUT_FILENO, c as u64, 4);
+    end();
+}
+
+// A length or a DLC, or 99 where there is none.
+pub fn length(l: Length) -> u32 {
+    match l {
+        Length::Is(n) => (n % 99) as u32,
+        Length::Bad => 99,
+    }
+}
+
+pub fn dlc(d: Dlc) -> u32 {
+    match d {
+        Dlc::Is(n) => (n % 99) as u32,
+        Dlc::Bad => 99,
+    }
+}
