@@ -1,8 +1,7 @@
 -- CiDBTCFG: data bit time. Fields by the data sheet's names and bits.
 -- Assumes nothing.
-use Prim.Native.Nat.{ℕ, _+_, _-_, _*_}
-use mathlib.Core.List.{List, [], _∷_}
-use Rattle.field.specs.Field.{Field, _‥_, bit}
+use mathlib.Core.List.{[], _∷_}
+use Rattle.field.specs.Field.{Field, _‥_}
 use Rattle.field.specs.Register.{Register}
 
 abbrev pub SJW : Field

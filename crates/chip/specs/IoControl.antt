@@ -1,7 +1,7 @@
 -- IOCON: input and output control. Fields by the data sheet's names and bits.
 -- Assumes nothing.
 use Prim.Native.Nat.{ℕ, _+_}
-use mathlib.Core.List.{List, [], _∷_}
+use mathlib.Core.List.{[], _∷_}
 use Rattle.field.specs.Field.{Field, bit}
 use Rattle.field.specs.Register.{Register}
 

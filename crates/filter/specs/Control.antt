@@ -1,7 +1,7 @@
 -- CiFLTCONk: the control of filters 4k to 4k + 3, one byte a filter. Fields by the data sheet's names and bits.
 -- Assumes nothing.
 use Prim.Native.Nat.{ℕ, _+_, _*_}
-use mathlib.Core.List.{List, [], _∷_}
+use mathlib.Core.List.{[], _∷_}
 use Rattle.field.specs.Field.{Field, place, bit}
 use Rattle.field.specs.Register.{Register}
 

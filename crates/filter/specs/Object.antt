@@ -1,7 +1,7 @@
 -- CiFLTOBJm: the object of a filter. Fields by the data sheet's names and bits.
 -- Assumes nothing.
-use Prim.Native.Nat.{ℕ, _+_, _-_, _*_}
-use mathlib.Core.List.{List, [], _∷_}
+use Prim.Native.Nat.{_+_, _*_}
+use mathlib.Core.List.{[], _∷_}
 use Rattle.field.specs.Field.{Field, _‥_, bit}
 use Rattle.field.specs.Register.{Register}
 

@@ -1,6 +1,6 @@
 -- What an instruction's bytes say, and what a range test tells.
 -- Assumes nothing.
-use mathlib.Core.Path.{_≡_, refl, sym, ap, _∙_}
+use mathlib.Core.Path.{_≡_}
 use mathlib.Core.List.{List, _++_}
 use Prim.Native.Nat.{ℕ, _+_, _*_, _/_, _%_, _^_, _≤_, _<_}
 use native.Mathlib.Omega.{arith}
@@ -8,7 +8,7 @@ use lib.Dec.{leb}
 use borrow.Author.Tests.{leb-true}
 use mathlib.Core.Bool.{true}
 use Rattle.laws.proofs.Table.{both}
-use Rattle.words.specs.Words.{beBytes, beAt}
+use Rattle.words.specs.Words.{beAt}
 use Rattle.words.proofs.Laws.{be-back}
 use Rattle.spi.specs.Instruction.{codeOf, commandOf}
 use Rattle.spi.specs.Ram.{inRange}
