@@ -93,3 +93,10 @@ length-le fdf n d =
     let h : d < 16 = omega (arith, ltb-true d (dlcs fdf) t, dlcs-le fdf) in
     rw (← f) (leb-true _ 64 (at short 16 all-short d h)))
     (λ t e. let z : _≡_ {A = ℕ} 0 1 = cc in absurd (omega arith))
+
+-- a payload that has a DLC, and its DLC, are small
+pub dlc-16 : (fdf : Bool) (n d : ℕ) → dlcOf fdf n ≡ Dlc.Is d → d < 16
+dlc-16 fdf n d e = omega (arith, dlc-lt fdf n d e, dlcs-le fdf)
+
+pub payload-le : (fdf : Bool) (n d : ℕ) → dlcOf fdf n ≡ Dlc.Is d → n ≤ 64
+payload-le fdf n d e = length-le fdf n d (length-back fdf n d e)

@@ -1,2 +1,4 @@
 mod Search
 pub mod Dlcs
+mod Objects
+pub mod Checks

@@ -1,1 +1,3 @@
 pub mod Dlc
+pub mod Object
+pub mod Message

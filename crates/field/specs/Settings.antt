@@ -1,0 +1,14 @@
+-- Fields set one after the other.
+-- Assumes nothing.
+use Prim.Native.Nat.{ℕ}
+use mathlib.Core.List.{List, [], _∷_}
+use Rattle.field.specs.Field.{Field, write}
+
+infix 69 _:=_
+pub data Setting : Type 0 where
+  _:=_ : Field → ℕ → Setting
+
+-- a word with fields set, the first setting first
+abbrev pub settings : List Setting → ℕ → ℕ
+settings [] w = w
+settings (f := v ∷ ss) w = settings ss (write f v w)

@@ -1,0 +1,11 @@
+-- `message::header::length_of` meets its contract.
+-- Assumes nothing.
+use borrow.Author.Needs.{needs}
+use Rattle.message.proofs.header.length_of.Statement.{statement}
+use Rattle.message.proofs.header.length_of.Tie as tie
+
+pub length-of-spec : {M : Type 1} → statement M
+length-of-spec =
+    tie.close
+    (tie.spec (search needs) (search needs) (search needs) (search needs)
+    (λ c. rw (c .len-for-dlc .ensures, c .before .bit .ensures, c .before .before .get .ensures)))

@@ -1,0 +1,13 @@
+-- `message::header::second_word` meets its contract.
+-- Assumes nothing.
+use borrow.Author.Needs.{needs}
+use Rattle.message.specs.Object.{word1}
+use Rattle.message.proofs.header.second_word.Statement.{statement}
+use Rattle.message.proofs.header.second_word.Tie as tie
+
+pub second-word-spec : {M : Type 1} → statement M
+unfolding word1
+second-word-spec =
+    tie.close
+    (tie.spec (search needs) (search needs) (search needs) (search needs) (search needs) (search needs) (search needs)
+    (λ c. rw (c .set2 .ensures, c .before .set-bit5 .ensures, c .before .before .set-bit4 .ensures, c .before .before .before .set-bit3 .ensures, c .before .before .before .before .set-bit2 .ensures, c .before .before .before .before .before .set-bit .ensures, c .before .before .before .before .before .before .set .ensures)))

@@ -1,0 +1,43 @@
+-- `message::tx::encode` meets its contract: what is not refused fits.
+-- Assumes nothing.
+use mathlib.Core.Path.{_≡_, sym, _∙_}
+use native.Mathlib.Omega.{arith}
+use denote.Ref.{now}
+use borrow.Author.Needs.{needs}
+use lib.ListN.{length}
+use Rattle.message.specs.Message.{encoding}
+use Rattle.message.proofs.Dlcs.{dlc-16, payload-le}
+use Rattle.message.proofs.Checks.{Sound, sound}
+use Rattle.message.proofs.tx.encode.Statement.{statement}
+use Rattle.message.proofs.tx.encode.Tie as tie
+
+pub encode-spec : {M : Type 1} → statement M
+unfolding encoding
+encode-spec =
+    tie.close
+    (tie.spec (λ c κs. search needs) (search needs)
+    (λ c κs.
+    let k = c .before .before .before in
+    let d = c .before .d .given in
+    sound _ _ _ (d .0 .0) (sym (k .check .ensures) ∙ d .1) .id)
+    (λ c.
+    let k = c .before .before .before .before in
+    let d = c .before .before .d .given in
+    record { fits = omega (arith, dlc-16 _ _ _ (sound _ _ _ (d .0 .0) (sym (k .check .ensures) ∙ d .1) .dlc)) })
+    (λ c κs.
+    let k = c .before .before .before .before in
+    let d = c .before .before .d .given in
+    let s = sound _ _ _ (d .0 .0) (sym (k .check .ensures) ∙ d .1) in
+    (dlc-16 _ _ _ (s .dlc), s .seq-fits))
+    (λ c κs.
+    let k = c .before .before .before .before .before in
+    let d = c .before .before .before .d .given in
+    payload-le _ _ _ (sound _ _ _ (d .0 .0) (sym (k .check .ensures) ∙ d .1) .dlc))
+    (search needs) (λ c κs. search needs)
+    (λ c.
+    let k = c .before .before .before .before .before .before in
+    let d = c .before .before .before .before .d .given in
+    rw (sym (k .check .ensures) ∙ d .1, c .object-of .ensures, c .before .second-word .ensures, c .before .before .first-word .ensures))
+    (λ c.
+    let k = c .before .before .before .before in
+    rw (sym (k .check .ensures) ∙ c .before .before .r .given .1, c .empty .ensures)))

@@ -1,0 +1,99 @@
+-- Messages: what is sent and received, the object that one is written as, and the one that an object's bytes hold.
+-- Assumes nothing.
+use Prim.Native.Nat.{ℕ, _+_, _^_}
+use mathlib.Core.Bool.{Bool, true, false}
+use mathlib.Core.Path.{_≡_}
+use mathlib.Core.List.{List, [], _++_}
+use lib.ListN.{length, take, drop}
+use lib.Dec.{ltb, leb}
+use Rattle.laws.specs.If.{if_then_else_}
+use Rattle.field.specs.Field.{read, flag}
+use Rattle.words.specs.Words.{leAt}
+use Rattle.parts.specs.Parts.{zeroed}
+use Rattle.spi.specs.declared.refusal.Refusal.{Refusal}
+use Rattle.spi.specs.declared.refusal.Done.{Done}
+use Rattle.message.specs.declared.dlc.Dlc.{Dlc}
+use Rattle.message.specs.declared.dlc.Length.{Length}
+use Rattle.message.specs.declared.header.Header.{Header}
+use Rattle.message.specs.declared.object.Stamp.{Stamp}
+use Rattle.message.specs.declared.object.Object.{Object}
+use Rattle.message.specs.declared.tx.Checked.{Checked}
+use Rattle.message.specs.declared.tx.Encoded.{Encoded}
+use Rattle.message.specs.Dlc.{dlcOf, lengthOf}
+use Rattle.message.specs.Object.{DLC, FDF, SEQ, topId, word0, word1, headerOf, objectBytes}
+
+-- SEQ is 0 in a message received; a timestamp is only in one received with RXTSEN at 1
+pub record Message : Type 0 where
+  pub header : Header
+  pub seq : ℕ
+  pub stamp : Stamp
+  pub payload : List ℕ
+
+-- ---- from a message to its object
+
+-- the DLC of a message, or its refusal: 21, 24 for SEQ, 22, in this order; n is the payload's length
+abbrev pub byDlc : Dlc → Checked
+byDlc (Dlc.Is d) = Checked.Dlc d
+byDlc Dlc.Bad = Checked.Bad Refusal.BadPayload
+
+unfoldable pub checkOf : Header → (seq n : ℕ) → Checked
+checkOf h seq n =
+    if ltb (topId (h .extended)) (h .id) then Checked.Bad Refusal.BadIdentifier
+    else if leb (2 ^ 23) seq then Checked.Bad Refusal.BadSetting
+    else byDlc (dlcOf (h .fdf) n)
+
+pub data Encoding : Type 0 where
+  refused : Refusal → Encoding
+  object : List ℕ → Encoding
+
+abbrev pub coded : Checked → Message → Encoding
+coded (Checked.Dlc d) m = object (objectBytes (word0 (m .header)) (word1 (m .header) (m .seq) d) (m .stamp) (m .payload))
+coded (Checked.Bad r) m = refused r
+
+unfoldable pub encoding : Message → Encoding
+encoding m = coded (checkOf (m .header) (m .seq) (length (m .payload))) m
+
+-- ---- from an object's bytes to its message
+
+-- where the payload starts, with a timestamp or without
+abbrev pub bodyAt : Bool → ℕ
+bodyAt true = 12
+bodyAt false = 8
+
+pub data Decoding : Type 0 where
+  holds : Message → Decoding
+  badDlc : Decoding
+  short : Decoding
+
+unfoldable pub messageIn : (sending stamped : Bool) → ℕ → List ℕ → Message
+messageIn sending stamped n b = record {
+  header = headerOf (leAt b 0) (leAt b 4);
+  seq = if sending then read SEQ (leAt b 4) else 0;
+  stamp = if stamped then Stamp.At (leAt b 8) else Stamp.None;
+  payload = take n (drop (bodyAt stamped) b);
+}
+
+abbrev pub byLength : Length → (sending stamped : Bool) → List ℕ → Decoding
+byLength (Length.Is n) sending stamped b =
+    if leb (bodyAt stamped + n) (length b) then holds (messageIn sending stamped n b) else short
+byLength Length.Bad sending stamped b = badDlc
+
+-- an object to send or received, its bytes followed by any others: the payload's length goes by the DLC, also where RTR is 1
+unfoldable pub decoding : (sending stamped : Bool) → List ℕ → Decoding
+decoding sending stamped b =
+    if ltb (length b) (bodyAt stamped) then short
+    else byLength (lengthOf (flag FDF (leAt b 4)) (read DLC (leAt b 4))) sending stamped b
+
+-- ---- the same in the code's structs
+
+-- bytes in an object's array
+abbrev pub objectIn : List ℕ → Object
+objectIn bs = record { bytes = zeroed 76 bs; len = length bs }
+
+-- r has the bytes of o, and behind them bs
+abbrev pub Appends : Object → Object → List ℕ → Type 0
+Appends o r bs = (front : List ℕ) → o ≡ objectIn front → r ≡ objectIn (front ++ bs)
+
+abbrev pub encodedAs : Encoding → Encoded
+encodedAs (refused r) = record { done = Done.Bad r; object = objectIn [] }
+encodedAs (object bs) = record { done = Done.Good; object = objectIn bs }

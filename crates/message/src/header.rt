@@ -1,0 +1,85 @@
+// The first two words of an object: identifier, kind, flags, DLC and SEQ.
+ghost use mathlib.Core.Path.{_≡_};
+ghost use Prim.Native.Nat.{_<_, _≤_, _^_};
+ghost use Rattle.field.specs.Field.{read, flag, Fits};
+ghost use Rattle.message.specs.Object.{SEQ, DLC, FDF, topId, sidOf, eidOf, idIn, word0, word1, headerOf};
+ghost use Rattle.message.specs.Dlc.{lengthOf};
+use crate::Length;
+use crate::len_for_dlc;
+
+pub struct Header {
+    pub extended: bool,
+    pub id: u32,
+    pub rtr: bool,
+    pub brs: bool,
+    pub fdf: bool,
+    pub esi: bool,
+}
+
+// An extended identifier gives SID its top 11 bits and EID its low 18; a standard one is SID, and EID is 0.
+pub fn sid_of(extended: bool, id: u32) -> u32
+    requires { ⌜ id ≤ topId extended ⌝ }
+    ensures { λ r. ⌜ (r ≡ sidOf extended id) × (r < 2 ^ 11) ⌝ }
+{
+    if extended { id >> 18 } else { id }
+}
+
+pub fn eid_of(extended: bool, id: u32) -> u32
+    ensures { λ r. ⌜ (r ≡ eidOf extended id) × (r < 2 ^ 18) ⌝ }
+{
+    if extended { id % 0x4_0000 } else { 0 }
+}
+
+pub fn first_word(h: Header) -> u32
+    requires { ⌜ h .id ≤ topId (h .extended) ⌝ }
+    ensures { λ r. ⌜ r ≡ word0 h ⌝ }
+{
+    let sid = field::set(0, 0, 11, sid_of(h.extended, h.id));
+    field::set(sid, 11, 18, eid_of(h.extended, h.id))
+}
+
+pub fn second_word(h: Header, seq: u32, dlc: u32) -> u32
+    requires { ⌜ Fits DLC dlc × Fits SEQ seq ⌝ }
+    ensures { λ r. ⌜ r ≡ word1 h seq dlc ⌝ }
+{
+    let a = field::set(0, 0, 4, dlc);
+    let b = field::set_bit(a, 4, h.extended);
+    let c = field::set_bit(b, 5, h.rtr);
+    let d = field::set_bit(c, 6, h.brs);
+    let e = field::set_bit(d, 7, h.fdf);
+    let f = field::set_bit(e, 8, h.esi);
+    field::set(f, 9, 23, seq)
+}
+
+fn identifier(extended: bool, w: u32) -> u32
+    ensures { λ r. ⌜ r ≡ idIn extended w ⌝ }
+{
+    let sid = field::get(w, 0, 11);
+    if extended {
+        sid * 0x4_0000 + field::get(w, 11, 18)
+    } else {
+        sid
+    }
+}
+
+// The header that two words hold: reserved bits, and EID in a standard frame, are ignored.
+pub fn header_of(a: u32, b: u32) -> Header
+    ensures { λ r. ⌜ r ≡ headerOf a b ⌝ }
+{
+    let extended = field::bit(b, 4);
+    Header {
+        extended: extended,
+        id: identifier(extended, a),
+        rtr: field::bit(b, 5),
+        brs: field::bit(b, 6),
+        fdf: field::bit(b, 7),
+        esi: field::bit(b, 8),
+    }
+}
+
+// The payload length that the second word means.
+pub fn length_of(b: u32) -> Length
+    ensures { λ r. ⌜ r ≡ lengthOf (flag FDF b) (read DLC b) ⌝ }
+{
+    len_for_dlc(field::get(b, 0, 4) as usize, field::bit(b, 7))
+}

@@ -1,0 +1,71 @@
+// A message to send: tested, and written as an object.
+ghost use mathlib.Core.Path.{_≡_};
+ghost use lib.ListN.{length};
+ghost use Rattle.message.specs.Object.{topId};
+ghost use Rattle.message.specs.Message.{checkOf, encoding, encodedAs};
+use crate::Dlc;
+use crate::Header;
+use crate::Object;
+use crate::Stamp;
+use crate::dlc_for_len;
+use crate::first_word;
+use crate::object;
+use crate::second_word;
+use spi::Done;
+use spi::Refusal;
+
+pub enum Checked {
+    Dlc(usize),
+    Bad(Refusal),
+}
+
+// An object, or why there is none.
+pub struct Encoded {
+    pub done: Done,
+    pub object: Object,
+}
+
+fn top_id(extended: bool) -> u32
+    ensures { λ r. ⌜ r ≡ topId extended ⌝ }
+{
+    if extended { 0x1FFF_FFFF } else { 0x7FF }
+}
+
+// The DLC of a message with a payload of n bytes, or its refusal.
+fn check(h: Header, seq: u32, n: usize) -> Checked
+    ensures { λ r. ⌜ r ≡ checkOf h seq n ⌝ }
+{
+    if top_id(h.extended) < h.id {
+        return Checked::Bad(Refusal::BadIdentifier);
+    }
+    if 0x80_0000 <= seq {
+        return Checked::Bad(Refusal::BadSetting);
+    }
+    match dlc_for_len(n, h.fdf) {
+        Dlc::Is(d) => Checked::Dlc(d),
+        Dlc::Bad => Checked::Bad(Refusal::BadPayload),
+    }
+}
+
+pub fn encode(header: Header, seq: u32, stamp: Stamp, payload: &[u8]) -> Encoded
+    ensures { λ r. ⌜ r ≡ encodedAs (encoding (record { header = header; seq = seq; stamp = stamp; payload = now (payload .entry) })) ⌝ }
+{
+    match check(header, seq, payload.len()) {
+        Checked::Dlc(d) => {
+            let a = first_word(header);
+            let b = second_word(header, seq, d as u32);
+            let o = object::object_of(a, b, stamp, payload);
+            Encoded {
+                done: Done::Good,
+                object: o,
+            }
+        }
+        Checked::Bad(r) => {
+            let o = object::empty();
+            Encoded {
+                done: Done::Bad(r),
+                object: o,
+            }
+        }
+    }
+}

@@ -1,0 +1,2 @@
+mod Middle
+pub mod Laws
