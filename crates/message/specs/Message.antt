@@ -17,6 +17,10 @@ use Rattle.message.specs.declared.dlc.Length.{Length}
 use Rattle.message.specs.declared.header.Header.{Header}
 use Rattle.message.specs.declared.object.Stamp.{Stamp}
 use Rattle.message.specs.declared.object.Object.{Object}
+use Rattle.message.specs.declared.rx.Payload.{Payload}
+use Rattle.message.specs.declared.rx.Frame.{Frame}
+use Rattle.message.specs.declared.rx.Reading.{Reading}
+use Rattle.message.specs.declared.rx.Decoded.{Decoded}
 use Rattle.message.specs.declared.tx.Checked.{Checked}
 use Rattle.message.specs.declared.tx.Encoded.{Encoded}
 use Rattle.message.specs.Dlc.{dlcOf, lengthOf}
@@ -97,3 +101,24 @@ Appends o r bs = (front : List ℕ) → o ≡ objectIn front → r ≡ objectIn 
 abbrev pub encodedAs : Encoding → Encoded
 encodedAs (refused r) = record { done = Done.Bad r; object = objectIn [] }
 encodedAs (object bs) = record { done = Done.Good; object = objectIn bs }
+
+-- bytes in a payload's array
+abbrev pub payloadIn : List ℕ → Payload
+payloadIn bs = record { bytes = zeroed 64 bs; len = length bs }
+
+abbrev pub frameOf : Message → Frame
+frameOf m = record { header = m .header; seq = m .seq; stamp = m .stamp; payload = payloadIn (m .payload) }
+
+-- what stands in a frame where there is none
+abbrev pub blank : Message
+blank = record {
+  header = record { extended = false; id = 0; rtr = false; brs = false; fdf = false; esi = false };
+  seq = 0;
+  stamp = Stamp.None;
+  payload = [];
+}
+
+abbrev pub decodedAs : Decoding → Decoded
+decodedAs (holds m) = record { reading = Reading.Whole; frame = frameOf m }
+decodedAs badDlc = record { reading = Reading.BadDlc; frame = frameOf blank }
+decodedAs short = record { reading = Reading.Short; frame = frameOf blank }

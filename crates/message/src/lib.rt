@@ -2,6 +2,7 @@
 mod dlc;
 mod header;
 mod object;
+mod rx;
 mod tx;
 
 pub use dlc::Dlc;
@@ -18,5 +19,10 @@ pub use header::second_word;
 pub use header::sid_of;
 pub use object::Object;
 pub use object::Stamp;
+pub use rx::Decoded;
+pub use rx::Frame;
+pub use rx::Payload;
+pub use rx::Reading;
+pub use rx::decode;
 pub use tx::Encoded;
 pub use tx::encode;
