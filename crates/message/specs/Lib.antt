@@ -1,3 +1,4 @@
 pub mod Dlc
 pub mod Object
 pub mod Message
+pub mod Laws

@@ -1,12 +1,12 @@
 -- Message objects: two words, a timestamp word where there is one, the payload.
 -- Assumes nothing.
-use Prim.Native.Nat.{ℕ, _+_, _-_, _*_, _/_, _%_, _^_, _<_}
+use Prim.Native.Nat.{ℕ, _+_, _-_, _*_, _/_, _%_, _^_}
 use mathlib.Core.Bool.{Bool, true, false}
 use mathlib.Core.List.{List, [], _∷_, _++_}
 use lib.ListN.{length, replicate}
 use Rattle.laws.specs.If.{if_then_else_}
 use Rattle.field.specs.Field.{Field, _‥_, bit, read, flag, digit}
-use Rattle.field.specs.Settings.{Setting, _:=_, settings}
+use Rattle.field.specs.Settings.{_:=_, settings}
 use Rattle.words.specs.Words.{leBytes, roundUp}
 use Rattle.message.specs.declared.header.Header.{Header}
 use Rattle.message.specs.declared.object.Stamp.{Stamp}

@@ -1,6 +1,5 @@
 // An object's bytes, read as the message that they hold.
 ghost use mathlib.Core.Path.{_≡_};
-ghost use mathlib.Core.List.{[]};
 ghost use Prim.Native.Nat.{_+_, _≤_};
 ghost use lib.ListN.{length};
 ghost use Rattle.laws.specs.If.{if_then_else_};

@@ -1,6 +1,5 @@
 // A message to send: tested, and written as an object.
 ghost use mathlib.Core.Path.{_≡_};
-ghost use lib.ListN.{length};
 ghost use Rattle.message.specs.Object.{topId};
 ghost use Rattle.message.specs.Message.{checkOf, encoding, encodedAs};
 use crate::Dlc;

@@ -1,13 +1,12 @@
 -- `message::object::with_payload` meets its contract: the zeros behind the payload are at most three.
 -- Assumes nothing.
-use mathlib.Core.Path.{_≡_, sym, ap, _∙_}
+use mathlib.Core.Path.{sym, ap, _∙_}
 use mathlib.Core.List.{List, _++_, append-assoc}
 use Prim.Native.Nat.{ℕ, _-_}
 use native.Mathlib.Omega.{arith}
 use denote.Ref.{now}
 use borrow.Author.Needs.{needs}
 use lib.ListN.{length}
-use Rattle.words.specs.Words.{roundUp}
 use Rattle.message.specs.Object.{padded}
 use Rattle.message.specs.Message.{objectIn}
 use Rattle.message.proofs.Objects.{some-zeros, zeros-length}

@@ -1,13 +1,11 @@
 -- `message::tx::encode` meets its contract: what is not refused fits.
 -- Assumes nothing.
-use mathlib.Core.Path.{_≡_, sym, _∙_}
+use mathlib.Core.Path.{sym, _∙_}
 use native.Mathlib.Omega.{arith}
-use denote.Ref.{now}
 use borrow.Author.Needs.{needs}
-use lib.ListN.{length}
 use Rattle.message.specs.Message.{encoding}
 use Rattle.message.proofs.Dlcs.{dlc-16, payload-le}
-use Rattle.message.proofs.Checks.{Sound, sound}
+use Rattle.message.proofs.Checks.{sound}
 use Rattle.message.proofs.tx.encode.Statement.{statement}
 use Rattle.message.proofs.tx.encode.Tie as tie
 

@@ -1,0 +1,192 @@
+-- From a message to its object and back, and from bytes to their message and back.
+-- Assumes nothing.
+use mathlib.Core.Path.{_≡_, refl, sym, ap, ap₂, _∙_}
+use mathlib.Core.Bool.{Bool, true, false}
+use mathlib.Core.List.{List, _++_, append-assoc}
+use Prim.Native.Nat.{ℕ, _+_, _-_, _^_, _≤_, _<_}
+use native.Mathlib.Omega.{arith}
+use lib.ListN.{length, take, drop, length-append, length-replicate, length-take, length-drop}
+use lib.Seq.{take-append-seam}
+use lib.Dec.{ltb, leb}
+use borrow.Author.Tests.{lt-ltb, le-ltb, le-leb, lt-leb, leb-true}
+use Rattle.laws.specs.If.{if_then_else_}
+use Rattle.laws.proofs.Choice.{by-if}
+use Rattle.field.specs.Field.{read, flag}
+use Rattle.field.proofs.Laws.{field-lt}
+use Rattle.words.specs.Words.{leBytes, leAt, roundUp}
+use Rattle.words.proofs.Laws.{le-back, le-drop, le-length}
+use Rattle.message.specs.declared.dlc.Dlc.{Dlc}
+use Rattle.message.specs.declared.dlc.Length.{Length}
+use Rattle.message.specs.declared.header.Header.{Header}
+use Rattle.message.specs.declared.object.Stamp.{Stamp}
+use Rattle.message.specs.declared.tx.Checked.{Checked}
+use Rattle.message.specs.Dlc.{dlcOf, lengthOf}
+use Rattle.message.specs.Object.{DLC, FDF, SEQ, topId, word0, word1, headerOf, stampBytes, padded, objectBytes}
+use Rattle.message.specs.Message.{Message, checkOf, object, coded, encoding, Decoding, holds, bodyAt, messageIn, byLength, decoding}
+use Rattle.message.specs.Laws.{Stamped, RoundTrip, meaningful, Back, Lengths, Refuses}
+use Rattle.message.proofs.Dlcs.{length-back, dlc-back, dlc-16}
+use Rattle.message.proofs.Checks.{sound}
+use Rattle.message.proofs.Fields.{word0-lt, word1-lt, dlc-field, seq-field, fdf-flag, header-back, header-small, header-fdf, word0-again, word1-again}
+
+-- ---- a message that is not refused
+
+abbrev bytesOf : Message → ℕ → List ℕ
+bytesOf m d = objectBytes (word0 (m .header)) (word1 (m .header) (m .seq) d) (m .stamp) (m .payload)
+
+pub record Coded (m : Message) (bs : List ℕ) : Type 0 where
+  pub dlc : ℕ
+  pub checked : checkOf (m .header) (m .seq) (length (m .payload)) ≡ Checked.Dlc dlc
+  pub bytes : bytesOf m dlc ≡ bs
+
+pub is-coded : (m : Message) (bs : List ℕ) → encoding m ≡ object bs → Coded m bs
+unfolding encoding
+is-coded m bs = go (checkOf (m .header) (m .seq) (length (m .payload))) refl
+  where
+    go : (x : Checked) → checkOf (m .header) (m .seq) (length (m .payload)) ≡ x → coded x m ≡ object bs → Coded m bs
+    go (Checked.Dlc d) e f = record { dlc = d; checked = e; bytes = cc }
+    go (Checked.Bad r) e f = let z : _≡_ {A = ℕ} 0 1 = cc in absurd (omega arith)
+
+-- ---- the object's length
+
+padded-length : (p : List ℕ) → length (padded p) ≡ roundUp (length p)
+unfolding padded
+padded-length p = simp (length-append, length-replicate) (omega arith)
+
+pub object-length : (a b : ℕ) (s : Stamp) (p : List ℕ) → length (objectBytes a b s p) ≡ 8 + length (stampBytes s) + roundUp (length p)
+unfolding objectBytes
+object-length a b s p = simp (length-append, le-length, padded-length)
+
+pub lengths-hold : Lengths
+lengths-hold m bs e =
+    let c = is-coded m bs e in
+    ap length (sym (c .bytes)) ∙ object-length (word0 (m .header)) (word1 (m .header) (m .seq) (c .dlc)) (m .stamp) (m .payload)
+
+-- ---- reading back
+
+module _ (sending : Bool) (w₀ w₁ : ℕ) (p : List ℕ) (hl : lengthOf (flag FDF w₁) (read DLC w₁) ≡ Length.Is (length p)) where
+  abbrev result : Stamp → Message
+  result s = record { header = headerOf w₀ w₁; seq = if sending then read SEQ w₁ else 0; stamp = s; payload = p }
+
+  -- bytes with these words, this timestamp and this payload
+  read-as : (stamped : Bool) (b : List ℕ) (s : Stamp) → leAt b 0 ≡ w₀ → leAt b 4 ≡ w₁ → (if stamped then Stamp.At (leAt b 8) else Stamp.None) ≡ s
+      → take (length p) (drop (bodyAt stamped) b) ≡ p → bodyAt stamped + length p ≤ length b → decoding sending stamped b ≡ holds (result s)
+  unfolding decoding messageIn
+  read-as stamped b s f₀ f₁ fs fp long =
+      let first : ltb (length b) (bodyAt stamped) ≡ false = le-ltb (length b) (bodyAt stamped) (omega arith) in
+      let len : lengthOf (flag FDF (leAt b 4)) (read DLC (leAt b 4)) ≡ Length.Is (length p) = ap (λ (w : ℕ). lengthOf (flag FDF w) (read DLC w)) f₁ ∙ hl in
+      let second : leb (bodyAt stamped + length p) (length b) ≡ true = le-leb (bodyAt stamped + length p) (length b) long in
+      rw (first, len, second, f₀, f₁, fs, fp)
+
+  front : (r : List ℕ) → take (length p) (padded p ++ r) ≡ p
+  unfolding padded
+  front r = rw append-assoc (take-append-seam p _)
+
+  enough : (r : List ℕ) → length p ≤ length (padded p ++ r)
+  enough r = simp (length-append, padded-length) (omega arith)
+
+  module _ (h₀ : w₀ < 2 ^ 32) (h₁ : w₁ < 2 ^ 32) (r : List ℕ) where
+    with-stamp : (t : ℕ) → t < 2 ^ 32 → decoding sending true (objectBytes w₀ w₁ (Stamp.At t) p ++ r) ≡ holds (result (Stamp.At t))
+    unfolding objectBytes leBytes
+    with-stamp t h =
+        let b : List ℕ = objectBytes w₀ w₁ (Stamp.At t) p ++ r in
+        read-as true b (Stamp.At t) (le-back w₀ (drop 4 b) h₀) (le-drop b 4 ∙ le-back w₁ (drop 8 b) h₁)
+        (ap Stamp.At (le-drop b 8 ∙ le-back t (drop 12 b) h)) (front r) (omega (arith, enough r))
+
+    without : decoding sending false (objectBytes w₀ w₁ Stamp.None p ++ r) ≡ holds (result Stamp.None)
+    unfolding objectBytes leBytes
+    without =
+        let b : List ℕ = objectBytes w₀ w₁ Stamp.None p ++ r in
+        read-as false b Stamp.None (le-back w₀ (drop 4 b) h₀) (le-drop b 4 ∙ le-back w₁ (drop 8 b) h₁) refl (front r) (omega (arith, enough r))
+
+    by-stamp : (stamped : Bool) (s : Stamp) → Stamped stamped s → decoding sending stamped (objectBytes w₀ w₁ s p ++ r) ≡ holds (result s)
+    by-stamp true (Stamp.At t) h = with-stamp t h
+    by-stamp true Stamp.None h = absurd h
+    by-stamp false (Stamp.At t) h = absurd h
+    by-stamp false Stamp.None h = without
+
+pub round-trip : RoundTrip
+round-trip sending stamped m bs r e s =
+    let h : Header = m .header in
+    let c = is-coded m bs e in
+    let g = sound h (m .seq) (length (m .payload)) (c .dlc) (c .checked) in
+    let small = dlc-16 (h .fdf) (length (m .payload)) (c .dlc) (g .dlc) in
+    let w₀ : ℕ = word0 h in
+    let w₁ : ℕ = word1 h (m .seq) (c .dlc) in
+    let len : lengthOf (flag FDF w₁) (read DLC w₁) ≡ Length.Is (length (m .payload))
+    = ap₂ lengthOf (fdf-flag h (m .seq) (c .dlc) small (g .seq-fits)) (dlc-field h (m .seq) (c .dlc) small (g .seq-fits))
+    ∙ length-back (h .fdf) (length (m .payload)) (c .dlc) (g .dlc) in
+    let hd : headerOf w₀ w₁ ≡ h = header-back h (m .seq) (c .dlc) small (g .seq-fits) (g .id) in
+    let sq : (if sending then read SEQ w₁ else 0) ≡ m .seq
+    = ap (λ (x : ℕ). if sending then x else 0) (seq-field h (m .seq) (c .dlc) small (g .seq-fits)) ∙ s .seq in
+    ap (λ (b : List ℕ). decoding sending stamped (b ++ r)) (sym (c .bytes))
+    ∙ by-stamp sending w₀ w₁ (m .payload) len (word0-lt h (g .id)) (word1-lt h (m .seq) (c .dlc) small (g .seq-fits)) r stamped (m .stamp) (s .stamp)
+    ∙ (λ i. holds (record { header = hd i; seq = sq i; stamp = m .stamp; payload = m .payload }))
+
+-- ---- from bytes
+
+-- what bytes that hold a message are like
+pub record Held (sending stamped : Bool) (b : List ℕ) (m : Message) : Type 0 where
+  pub long : ℕ
+  pub length-is : lengthOf (flag FDF (leAt b 4)) (read DLC (leAt b 4)) ≡ Length.Is long
+  pub fits : bodyAt stamped + long ≤ length b
+  pub message : messageIn sending stamped long b ≡ m
+
+pub is-held : (sending stamped : Bool) (b : List ℕ) (m : Message) → decoding sending stamped b ≡ holds m → Held sending stamped b m
+unfolding decoding
+is-held sending stamped b m =
+    by-if (λ (x : Decoding). x ≡ holds m → Held sending stamped b m) (ltb (length b) (bodyAt stamped))
+    (λ t e. let z : _≡_ {A = ℕ} 0 1 = cc in absurd (omega arith))
+    (λ t. go (lengthOf (flag FDF (leAt b 4)) (read DLC (leAt b 4))) refl)
+  where
+    go : (l : Length) → lengthOf (flag FDF (leAt b 4)) (read DLC (leAt b 4)) ≡ l → byLength l sending stamped b ≡ holds m → Held sending stamped b m
+    go (Length.Is n) f =
+        by-if (λ (x : Decoding). x ≡ holds m → Held sending stamped b m) (leb (bodyAt stamped + n) (length b))
+        (λ t e. record { long = n; length-is = f; fits = leb-true (bodyAt stamped + n) (length b) t; message = cc })
+        (λ t e. let z : _≡_ {A = ℕ} 0 1 = cc in absurd (omega arith))
+    go Length.Bad f = λ e. let z : _≡_ {A = ℕ} 0 1 = cc in absurd (omega arith)
+
+-- a message that meets no refusal
+accepted : (h : Header) (seq n d : ℕ) → h .id ≤ topId (h .extended) → seq < 2 ^ 23 → dlcOf (h .fdf) n ≡ Dlc.Is d → checkOf h seq n ≡ Checked.Dlc d
+unfolding checkOf
+accepted h seq n d i s e = rw (le-ltb (topId (h .extended)) (h .id) i, lt-leb (2 ^ 23) seq s, e)
+
+seq-lt : (sending : Bool) (w : ℕ) → (if sending then read SEQ w else 0) < 2 ^ 23
+seq-lt true w = field-lt w 9 23
+seq-lt false w = omega arith
+
+payload-is : (sending stamped : Bool) (n : ℕ) (b : List ℕ) → length (take n (drop (bodyAt stamped) b)) ≡ length (messageIn sending stamped n b .payload)
+unfolding messageIn
+payload-is sending stamped n b = refl
+
+module _ (sending stamped : Bool) (b : List ℕ) (n : ℕ) (len : lengthOf (flag FDF (leAt b 4)) (read DLC (leAt b 4)) ≡ Length.Is n) (fits : bodyAt stamped + n ≤ length b) where
+  cut : length (take n (drop (bodyAt stamped) b)) ≡ n
+  cut = simp (length-take, length-drop) (omega arith)
+
+  written : encoding (messageIn sending stamped n b) ≡ object (meaningful sending stamped n b)
+  unfolding encoding messageIn
+  written =
+      let w₀ : ℕ = leAt b 0 in
+      let w₁ : ℕ = leAt b 4 in
+      let c : checkOf (headerOf w₀ w₁) (if sending then read SEQ w₁ else 0) (length (take n (drop (bodyAt stamped) b))) ≡ Checked.Dlc (read DLC w₁)
+      = ap (checkOf (headerOf w₀ w₁) (if sending then read SEQ w₁ else 0)) cut
+      ∙ accepted (headerOf w₀ w₁) _ n (read DLC w₁) (header-small w₀ w₁) (seq-lt sending w₁) (ap (λ (f : Bool). dlcOf f n) (header-fdf w₀ w₁) ∙ dlc-back (flag FDF w₁) n (read DLC w₁) len) in
+      rw (c, word0-again w₀ w₁, word1-again sending w₀ w₁)
+
+pub back : Back
+back sending stamped b m e =
+    let h = is-held sending stamped b m e in
+    let n : ℕ = h .long in
+    let w = written sending stamped b n (h .length-is) (h .fits) in
+    let l : n ≡ length (m .payload) = sym (cut sending stamped b n (h .length-is) (h .fits)) ∙ payload-is sending stamped n b ∙ ap (λ (x : Message). length (x .payload)) (h .message) in
+    ap encoding (sym (h .message)) ∙ w ∙ ap (λ (k : ℕ). object (meaningful sending stamped k b)) l
+
+-- ---- the refusals
+
+pub refuses : (m : Message) → Refuses m
+unfolding encoding checkOf
+refuses m = record {
+  identifier = λ i. rw (lt-ltb (topId (m .header .extended)) (m .header .id) i);
+  setting = λ i s. rw (le-ltb (topId (m .header .extended)) (m .header .id) i, le-leb (2 ^ 23) (m .seq) s);
+  payload = λ i s p. rw (le-ltb (topId (m .header .extended)) (m .header .id) i, lt-leb (2 ^ 23) (m .seq) s, p);
+  none = λ d i s p. (bytesOf m d, rw (le-ltb (topId (m .header .extended)) (m .header .id) i, lt-leb (2 ^ 23) (m .seq) s, p));
+}

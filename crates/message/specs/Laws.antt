@@ -1,0 +1,66 @@
+-- What is proved of messages and objects, as statements.
+-- Assumes nothing.
+use Prim.Native.Nat.{ℕ, _+_, _%_, _^_, _≤_, _<_}
+use mathlib.Core.Path.{_≡_}
+use mathlib.Core.Bool.{Bool, true, false}
+use mathlib.Core.List.{List, _++_}
+use lib.ListN.{length, take, drop}
+use Rattle.laws.specs.If.{if_then_else_}
+use Rattle.field.specs.Field.{flag}
+use Rattle.words.specs.Words.{leAt, roundUp}
+use Rattle.spi.specs.declared.refusal.Refusal.{Refusal}
+use Rattle.message.specs.declared.dlc.Dlc.{Dlc}
+use Rattle.message.specs.declared.object.Stamp.{Stamp}
+use Rattle.message.specs.Dlc.{dlcOf}
+use Rattle.message.specs.Object.{IDE, topId, stampBytes, objectBytes}
+use Rattle.message.specs.Message.{Message, refused, object, encoding, holds, decoding, bodyAt}
+
+-- a timestamp is a word, and is there exactly where RXTSEN is 1
+abbrev pub Stamped : Bool → Stamp → Type 0
+Stamped true (Stamp.At t) = t < 2 ^ 32
+Stamped true Stamp.None = ⊥
+Stamped false (Stamp.At t) = ⊥
+Stamped false Stamp.None = Unit {0}
+
+-- a message as an object of this kind can hold it: SEQ only in one to send
+pub record Suits (sending stamped : Bool) (m : Message) : Type 0 where
+  pub seq : (if sending then m .seq else 0) ≡ m .seq
+  pub stamp : Stamped stamped (m .stamp)
+
+-- every field comes back from the object, whatever bytes stand behind it
+abbrev pub RoundTrip : Type 0
+RoundTrip =
+    (sending stamped : Bool) (m : Message) (bs r : List ℕ) → encoding m ≡ object bs → Suits sending stamped m → decoding sending stamped (bs ++ r) ≡ holds m
+
+-- of word 0 an identifier's bits have a meaning, of word 1 all bits when sending, and those below SEQ when receiving
+abbrev pub meaning0 : Bool → ℕ → ℕ
+meaning0 extended w = w % 2 ^ (if extended then 29 else 11)
+
+abbrev pub meaning1 : Bool → ℕ → ℕ
+meaning1 sending w = w % 2 ^ (if sending then 32 else 9)
+
+-- the object with a payload of n bytes that bytes hold: 0 for every bit without a meaning, and nothing behind it
+abbrev pub meaningful : (sending stamped : Bool) → ℕ → List ℕ → List ℕ
+meaningful sending stamped n b =
+    objectBytes (meaning0 (flag IDE (leAt b 4)) (leAt b 0)) (meaning1 sending (leAt b 4))
+    (if stamped then Stamp.At (leAt b 8) else Stamp.None) (take n (drop (bodyAt stamped) b))
+
+-- a message that bytes hold is written as their meaningful bytes
+abbrev pub Back : Type 0
+Back =
+    (sending stamped : Bool) (b : List ℕ) (m : Message) → decoding sending stamped b ≡ holds m → encoding m ≡ object (meaningful sending stamped (length (m .payload)) b)
+
+-- an object's length: 8, 4 with a timestamp, the payload rounded up to 4
+abbrev pub Lengths : Type 0
+Lengths = (m : Message) (bs : List ℕ) → encoding m ≡ object bs → length bs ≡ 8 + length (stampBytes (m .stamp)) + roundUp (length (m .payload))
+
+-- refused exactly so: 21 for the identifier, then 24 for SEQ, then 22 for a length that has no DLC
+pub record Refuses (m : Message) : Type 0 where
+  pub identifier : topId (m .header .extended) < m .header .id → encoding m ≡ refused Refusal.BadIdentifier
+  pub setting : m .header .id ≤ topId (m .header .extended) → 2 ^ 23 ≤ m .seq → encoding m ≡ refused Refusal.BadSetting
+  pub payload :
+      m .header .id ≤ topId (m .header .extended) → m .seq < 2 ^ 23 → dlcOf (m .header .fdf) (length (m .payload)) ≡ Dlc.Bad
+      → encoding m ≡ refused Refusal.BadPayload
+  pub none :
+      (d : ℕ) → m .header .id ≤ topId (m .header .extended) → m .seq < 2 ^ 23 → dlcOf (m .header .fdf) (length (m .payload)) ≡ Dlc.Is d
+      → (bs : List ℕ) × (encoding m ≡ object bs)
