@@ -2,10 +2,15 @@
 -- Assumes nothing.
 use mathlib.Core.Path.{refl}
 use Rattle.words.specs.Words as W
+use Rattle.field.specs.Field as F
+use Rattle.header.specs.Dlc as D
+use Rattle.header.specs.Header as H
+use Rattle.message.specs.Object as O
+use Rattle.message.specs.Message as M
 use Rattle.spi.specs.Instruction as I
 use Rattle.spi.specs.Ram as R
 use Rattle.cases.specs.Cases.{cases, AsSaid}
 
 pub checked : AsSaid
-unfolding cases W.beBytes I.commandOf R.inRange R.accessOf
+unfolding cases F.withField W.leBytes W.beBytes I.commandOf R.inRange R.accessOf D.dlcOf H.word0 H.word1 O.padded O.objectBytes M.checkOf M.encoding
 checked = refl

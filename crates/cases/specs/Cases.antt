@@ -1,6 +1,7 @@
 -- The table of checked cases: what the definitions that the contracts cite give, and what the scope document says.
 -- Assumes nothing.
 use mathlib.Core.Path.{_≡_}
+use mathlib.Core.Bool.{Bool, true, false}
 use mathlib.Core.List.{List, [], _∷_, _++_, map}
 use Prim.Native.Nat.{ℕ}
 use lib.IntN.{negsuc}
@@ -10,7 +11,11 @@ use Rattle.fifo.specs.UserAddress.{CiFIFOUA}
 use Rattle.bit_timing.specs.Signed.{sevenOf}
 use Rattle.spi.specs.Instruction.{commandOf}
 use Rattle.spi.specs.Ram.{accessOf}
-use Rattle.spi.specs.Refusals.{answered}
+use Rattle.spi.specs.Refusals.{numbered, answered}
+use Rattle.header.specs.Header.{word0}
+use Rattle.message.specs.Message.{Message, Encoding, refused, object, encoding}
+use Rattle.header.specs.declared.Header.{Header}
+use Rattle.message.specs.declared.object.Stamp.{Stamp}
 use Rattle.spi.specs.declared.instruction.OpCode.{OpCode}
 use Rattle.spi.specs.declared.refusal.Refusal.{Refusal}
 
@@ -28,6 +33,18 @@ said (a is b) = b
 abbrev pub readAnswer : ℕ → ℕ → List ℕ
 readAnswer a n = answered (accessOf a n (Refusal.InvalidReadLength n))
 
+-- the header of a classic data frame
+abbrev pub classic : Bool → ℕ → Header
+classic extended id = record { extended = extended; id = id; rtr = false; brs = false; fdf = false; esi = false }
+
+-- an object's bytes, or the refusal's number
+abbrev pub bytesIn : Encoding → List ℕ
+bytesIn (refused r) = numbered r
+bytesIn (object bs) = bs
+
+abbrev pub written : Message → List ℕ
+written m = bytesIn (encoding m)
+
 unfoldable pub cases : List Case
 cases =
     (commandOf OpCode.Read 0x05C is (0x30 ∷ 0x5C ∷ []))
@@ -40,6 +57,9 @@ cases =
     ∷ ((roundUp 0 ∷ roundUp 1 ∷ roundUp 64 ∷ []) is (0 ∷ 4 ∷ 64 ∷ []))
     ∷ ((storedSize 40 ∷ []) is (31 ∷ []))
     ∷ ((sevenOf (negsuc 0) ∷ sevenOf (negsuc 63) ∷ []) is (0x7F ∷ 0x40 ∷ []))
+    ∷ ((word0 (classic true 0x18DA00F1) ∷ []) is (0x10078E36 ∷ []))
+    ∷ (written (record { header = classic false 0x123; seq = 5; stamp = Stamp.None; payload = 1 ∷ 2 ∷ 3 ∷ [] })
+    is (0x23 ∷ 0x01 ∷ 0 ∷ 0 ∷ 0x03 ∷ 0x0A ∷ 0 ∷ 0 ∷ 0x01 ∷ 0x02 ∷ 0x03 ∷ 0 ∷ []))
     ∷ []
 
 abbrev pub AsSaid : Type 0

@@ -6,11 +6,11 @@ use native.Mathlib.Omega.{arith}
 use lib.Dec.{ltb, leb}
 use borrow.Author.Tests.{ltb-false, leb-false}
 use Rattle.laws.proofs.Choice.{by-if}
-use Rattle.message.specs.declared.dlc.Dlc.{Dlc}
-use Rattle.message.specs.declared.header.Header.{Header}
+use Rattle.header.specs.declared.dlc.Dlc.{Dlc}
+use Rattle.header.specs.declared.Header.{Header}
 use Rattle.message.specs.declared.tx.Checked.{Checked}
-use Rattle.message.specs.Dlc.{dlcOf}
-use Rattle.message.specs.Object.{topId}
+use Rattle.header.specs.Dlc.{dlcOf}
+use Rattle.header.specs.Header.{topId}
 use Rattle.message.specs.Message.{byDlc, checkOf}
 
 pub record Sound (h : Header) (seq n d : ℕ) : Type 0 where

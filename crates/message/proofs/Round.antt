@@ -15,18 +15,19 @@ use Rattle.field.specs.Field.{read, flag}
 use Rattle.field.proofs.Laws.{field-lt}
 use Rattle.words.specs.Words.{leBytes, leAt, roundUp}
 use Rattle.words.proofs.Laws.{le-back, le-drop, le-length}
-use Rattle.message.specs.declared.dlc.Dlc.{Dlc}
-use Rattle.message.specs.declared.dlc.Length.{Length}
-use Rattle.message.specs.declared.header.Header.{Header}
+use Rattle.header.specs.declared.dlc.Dlc.{Dlc}
+use Rattle.header.specs.declared.dlc.Length.{Length}
+use Rattle.header.specs.declared.Header.{Header}
 use Rattle.message.specs.declared.object.Stamp.{Stamp}
 use Rattle.message.specs.declared.tx.Checked.{Checked}
-use Rattle.message.specs.Dlc.{dlcOf, lengthOf}
-use Rattle.message.specs.Object.{DLC, FDF, SEQ, topId, word0, word1, headerOf, stampBytes, padded, objectBytes}
+use Rattle.header.specs.Dlc.{dlcOf, lengthOf}
+use Rattle.header.specs.Header.{DLC, FDF, SEQ, topId, word0, word1, headerOf}
+use Rattle.message.specs.Object.{stampBytes, padded, objectBytes}
 use Rattle.message.specs.Message.{Message, checkOf, object, coded, encoding, Decoding, holds, bodyAt, messageIn, byLength, decoding}
 use Rattle.message.specs.Laws.{Stamped, RoundTrip, meaningful, Back, Lengths, Refuses}
-use Rattle.message.proofs.Dlcs.{length-back, dlc-back, dlc-16}
+use Rattle.header.proofs.Dlcs.{length-back, dlc-back, dlc-16}
 use Rattle.message.proofs.Checks.{sound}
-use Rattle.message.proofs.Fields.{word0-lt, word1-lt, dlc-field, seq-field, fdf-flag, header-back, header-small, header-fdf, word0-again, word1-again}
+use Rattle.header.proofs.Fields.{word0-lt, word1-lt, dlc-field, seq-field, fdf-flag, header-back, header-small, header-fdf, word0-again, word1-again}
 
 -- ---- a message that is not refused
 

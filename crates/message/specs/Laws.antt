@@ -1,6 +1,6 @@
 -- What is proved of messages and objects, as statements.
 -- Assumes nothing.
-use Prim.Native.Nat.{ℕ, _+_, _%_, _^_, _≤_, _<_}
+use Prim.Native.Nat.{ℕ, _+_, _^_, _≤_, _<_}
 use mathlib.Core.Path.{_≡_}
 use mathlib.Core.Bool.{Bool, true, false}
 use mathlib.Core.List.{List, _++_}
@@ -9,10 +9,11 @@ use Rattle.laws.specs.If.{if_then_else_}
 use Rattle.field.specs.Field.{flag}
 use Rattle.words.specs.Words.{leAt, roundUp}
 use Rattle.spi.specs.declared.refusal.Refusal.{Refusal}
-use Rattle.message.specs.declared.dlc.Dlc.{Dlc}
+use Rattle.header.specs.declared.dlc.Dlc.{Dlc}
 use Rattle.message.specs.declared.object.Stamp.{Stamp}
-use Rattle.message.specs.Dlc.{dlcOf}
-use Rattle.message.specs.Object.{IDE, topId, stampBytes, objectBytes}
+use Rattle.header.specs.Dlc.{dlcOf}
+use Rattle.header.specs.Header.{IDE, topId, meaning0, meaning1}
+use Rattle.message.specs.Object.{stampBytes, objectBytes}
 use Rattle.message.specs.Message.{Message, refused, object, encoding, holds, decoding, bodyAt}
 
 -- a timestamp is a word, and is there exactly where RXTSEN is 1
@@ -31,13 +32,6 @@ pub record Suits (sending stamped : Bool) (m : Message) : Type 0 where
 abbrev pub RoundTrip : Type 0
 RoundTrip =
     (sending stamped : Bool) (m : Message) (bs r : List ℕ) → encoding m ≡ object bs → Suits sending stamped m → decoding sending stamped (bs ++ r) ≡ holds m
-
--- of word 0 an identifier's bits have a meaning, of word 1 all bits when sending, and those below SEQ when receiving
-abbrev pub meaning0 : Bool → ℕ → ℕ
-meaning0 extended w = w % 2 ^ (if extended then 29 else 11)
-
-abbrev pub meaning1 : Bool → ℕ → ℕ
-meaning1 sending w = w % 2 ^ (if sending then 32 else 9)
 
 -- the object with a payload of n bytes that bytes hold: 0 for every bit without a meaning, and nothing behind it
 abbrev pub meaningful : (sending stamped : Bool) → ℕ → List ℕ → List ℕ

@@ -1,4 +1,3 @@
-pub mod Dlc
 pub mod Object
 pub mod Message
 pub mod Laws

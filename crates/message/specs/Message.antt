@@ -12,9 +12,9 @@ use Rattle.words.specs.Words.{leAt}
 use Rattle.parts.specs.Parts.{zeroed}
 use Rattle.spi.specs.declared.refusal.Refusal.{Refusal}
 use Rattle.spi.specs.declared.refusal.Done.{Done}
-use Rattle.message.specs.declared.dlc.Dlc.{Dlc}
-use Rattle.message.specs.declared.dlc.Length.{Length}
-use Rattle.message.specs.declared.header.Header.{Header}
+use Rattle.header.specs.declared.dlc.Dlc.{Dlc}
+use Rattle.header.specs.declared.dlc.Length.{Length}
+use Rattle.header.specs.declared.Header.{Header}
 use Rattle.message.specs.declared.object.Stamp.{Stamp}
 use Rattle.message.specs.declared.object.Object.{Object}
 use Rattle.message.specs.declared.rx.Payload.{Payload}
@@ -23,8 +23,9 @@ use Rattle.message.specs.declared.rx.Reading.{Reading}
 use Rattle.message.specs.declared.rx.Decoded.{Decoded}
 use Rattle.message.specs.declared.tx.Checked.{Checked}
 use Rattle.message.specs.declared.tx.Encoded.{Encoded}
-use Rattle.message.specs.Dlc.{dlcOf, lengthOf}
-use Rattle.message.specs.Object.{DLC, FDF, SEQ, topId, word0, word1, headerOf, objectBytes}
+use Rattle.header.specs.Dlc.{dlcOf, lengthOf}
+use Rattle.header.specs.Header.{DLC, FDF, SEQ, topId, word0, word1, headerOf}
+use Rattle.message.specs.Object.{objectBytes}
 
 -- SEQ is 0 in a message received; a timestamp is only in one received with RXTSEN at 1
 pub record Message : Type 0 where

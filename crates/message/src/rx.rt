@@ -5,14 +5,14 @@ ghost use lib.ListN.{length};
 ghost use Rattle.laws.specs.If.{if_then_else_};
 ghost use Rattle.field.specs.Field.{read};
 ghost use Rattle.words.specs.Words.{leAt};
-ghost use Rattle.message.specs.Object.{SEQ};
+ghost use Rattle.header.specs.Header.{SEQ};
 ghost use Rattle.message.specs.Message.{bodyAt, messageIn, decoding, payloadIn, frameOf, blank, decodedAs};
 ghost use Rattle.message.specs.declared.object.Stamp.{Stamp};
-use crate::Header;
-use crate::Length;
 use crate::Stamp;
-use crate::header_of;
-use crate::length_of;
+use header::Header;
+use header::Length;
+use header::header_of;
+use header::length_of;
 
 // What lies behind the first `len` bytes is 0.
 pub struct Payload {

@@ -1,15 +1,15 @@
 // A message to send: tested, and written as an object.
 ghost use mathlib.Core.Path.{_≡_};
-ghost use Rattle.message.specs.Object.{topId};
+ghost use Rattle.header.specs.Header.{topId};
 ghost use Rattle.message.specs.Message.{checkOf, encoding, encodedAs};
-use crate::Dlc;
-use crate::Header;
 use crate::Object;
 use crate::Stamp;
-use crate::dlc_for_len;
-use crate::first_word;
 use crate::object;
-use crate::second_word;
+use header::Dlc;
+use header::Header;
+use header::dlc_for_len;
+use header::first_word;
+use header::second_word;
 use spi::Done;
 use spi::Refusal;
 

@@ -174,11 +174,11 @@ fn wire() {
     );
     number_line(
         b"length of an FD frame's DLC 13",
-        print::length(message::len_for_dlc(13, true)),
+        print::length(header::len_for_dlc(13, true)),
     );
     number_line(
         b"DLC of an FD frame's 48 bytes",
-        print::dlc(message::dlc_for_len(48, true)),
+        print::dlc(header::dlc_for_len(48, true)),
     );
     word_line(
         b"write 00600580 to 05c, last four bytes",

@@ -1,7 +1,7 @@
 // Lines: what was asked, and behind `->` the answer.
+use header::Dlc;
+use header::Length;
 use libc::STDOUT_FILENO;
-use message::Dlc;
-use message::Length;
 
 fn asked(line: &[u8]) {
     io::write_all(STDOUT_FILENO, line);

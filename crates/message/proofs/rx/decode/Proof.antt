@@ -5,7 +5,7 @@ use native.Mathlib.Omega.{arith}
 use borrow.Author.Needs.{needs}
 use borrow.Author.Tests.{lt-ltb, le-ltb, le-leb, lt-leb}
 use Rattle.message.specs.Message.{decoding}
-use Rattle.message.proofs.Dlcs.{length-le}
+use Rattle.header.proofs.Dlcs.{length-le}
 use Rattle.message.proofs.rx.decode.Statement.{statement}
 use Rattle.message.proofs.rx.decode.Tie as tie
 

@@ -4,7 +4,7 @@ use mathlib.Core.Path.{sym, _∙_}
 use native.Mathlib.Omega.{arith}
 use borrow.Author.Needs.{needs}
 use Rattle.message.specs.Message.{encoding}
-use Rattle.message.proofs.Dlcs.{dlc-16, payload-le}
+use Rattle.header.proofs.Dlcs.{dlc-16, payload-le}
 use Rattle.message.proofs.Checks.{sound}
 use Rattle.message.proofs.tx.encode.Statement.{statement}
 use Rattle.message.proofs.tx.encode.Tie as tie

@@ -1,9 +1,9 @@
--- `message::header::second_word` meets its contract.
+-- `header::second_word` meets its contract.
 -- Assumes nothing.
 use borrow.Author.Needs.{needs}
-use Rattle.message.specs.Object.{word1}
-use Rattle.message.proofs.header.second_word.Statement.{statement}
-use Rattle.message.proofs.header.second_word.Tie as tie
+use Rattle.header.specs.Header.{word1}
+use Rattle.header.proofs.second_word.Statement.{statement}
+use Rattle.header.proofs.second_word.Tie as tie
 
 pub second-word-spec : {M : Type 1} → statement M
 unfolding word1

@@ -1,9 +1,9 @@
--- `message::header::sid_of` meets its contract.
+-- `header::sid_of` meets its contract.
 -- Assumes nothing.
 use mathlib.Core.Path.{refl}
 use native.Mathlib.Omega.{arith}
-use Rattle.message.proofs.header.sid_of.Statement.{statement}
-use Rattle.message.proofs.header.sid_of.Tie as tie
+use Rattle.header.proofs.sid_of.Statement.{statement}
+use Rattle.header.proofs.sid_of.Tie as tie
 
 pub sid-of-spec : {M : Type 1} → statement M
 sid-of-spec =

@@ -6,8 +6,8 @@ use mathlib.Core.List.{List, [], _∷_}
 use lib.ListN.{getD, take}
 use lib.Dec.{ltb, eqb}
 use Rattle.laws.specs.If.{if_then_else_}
-use Rattle.message.specs.declared.dlc.Length.{Length}
-use Rattle.message.specs.declared.dlc.Dlc.{Dlc}
+use Rattle.header.specs.declared.dlc.Length.{Length}
+use Rattle.header.specs.declared.dlc.Dlc.{Dlc}
 
 -- the payload lengths that DLC 0 to 15 mean
 abbrev pub lengths : List ℕ

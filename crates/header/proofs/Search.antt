@@ -8,8 +8,8 @@ use native.Mathlib.Numerals.{add-one}
 use lib.ListN.{length, getD, take, drop}
 use lib.Seq.{drop-cons, drop-length, length-take-le, getD-take}
 use borrow.Author.Tests.{eq-eqb, ne-eqb}
-use Rattle.message.specs.Dlc.{lengths, seek}
-use Rattle.message.specs.declared.dlc.Dlc.{Dlc}
+use Rattle.header.specs.Dlc.{lengths, seek}
+use Rattle.header.specs.declared.dlc.Dlc.{Dlc}
 
 -- the first m lengths, from place d on
 abbrev pub from : ℕ → ℕ → List ℕ

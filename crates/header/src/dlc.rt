@@ -1,7 +1,7 @@
 // Data length codes and the payload lengths that they mean.
 ghost use mathlib.Core.Path.{_≡_};
 ghost use Prim.Native.Nat.{_≤_};
-ghost use Rattle.message.specs.Dlc.{dlcs, lengthOf, dlcOf};
+ghost use Rattle.header.specs.Dlc.{dlcs, lengthOf, dlcOf};
 
 // What DLC 0 to 15 mean, in bytes.
 pub const LENGTHS: [usize; 16] = [0, 1, 2, 3, 4, 5, 6, 7, 8, 12, 16, 20, 24, 32, 48, 64];

@@ -1,12 +1,12 @@
--- `message::dlc::dlc_for_len` meets its contract. The loop's invariant: a search from place d on finds what the whole search finds.
+-- `header::dlc::dlc_for_len` meets its contract. The loop's invariant: a search from place d on finds what the whole search finds.
 -- Assumes nothing.
 use mathlib.Core.Path.{_≡_, sym, _∙_}
 use Prim.Native.Nat.{_-_, _≤_}
 use borrow.Author.Needs.{needs}
-use Rattle.message.specs.Dlc.{seek, dlcOf}
-use Rattle.message.proofs.Search.{from, here, further, nowhere}
-use Rattle.message.proofs.dlc.dlc_for_len.Statement.{statement}
-use Rattle.message.proofs.dlc.dlc_for_len.Tie as tie
+use Rattle.header.specs.Dlc.{seek, dlcOf}
+use Rattle.header.proofs.Search.{from, here, further, nowhere}
+use Rattle.header.proofs.dlc.dlc_for_len.Statement.{statement}
+use Rattle.header.proofs.dlc.dlc_for_len.Tie as tie
 
 abbrev Inv-loop : tie.InvT-loop
 Inv-loop len fdf most d₀ d = (most ≤ 16) × (d ≤ most) × (seek (from most d) d len ≡ dlcOf fdf len)

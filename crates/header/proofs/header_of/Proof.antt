@@ -1,9 +1,9 @@
--- `message::header::header_of` meets its contract.
+-- `header::header_of` meets its contract.
 -- Assumes nothing.
 use borrow.Author.Needs.{needs}
-use Rattle.message.specs.Object.{headerOf}
-use Rattle.message.proofs.header.header_of.Statement.{statement}
-use Rattle.message.proofs.header.header_of.Tie as tie
+use Rattle.header.specs.Header.{headerOf}
+use Rattle.header.proofs.header_of.Statement.{statement}
+use Rattle.header.proofs.header_of.Tie as tie
 
 pub header-of-spec : {M : Type 1} → statement M
 unfolding headerOf

@@ -1,9 +1,9 @@
--- `message::header::first_word` meets its contract.
+-- `header::first_word` meets its contract.
 -- Assumes nothing.
 use borrow.Author.Needs.{needs}
-use Rattle.message.specs.Object.{word0}
-use Rattle.message.proofs.header.first_word.Statement.{statement}
-use Rattle.message.proofs.header.first_word.Tie as tie
+use Rattle.header.specs.Header.{word0}
+use Rattle.header.proofs.first_word.Statement.{statement}
+use Rattle.header.proofs.first_word.Tie as tie
 
 pub first-word-spec : {M : Type 1} → statement M
 unfolding word0

@@ -1,8 +1,8 @@
--- `message::header::length_of` meets its contract.
+-- `header::length_of` meets its contract.
 -- Assumes nothing.
 use borrow.Author.Needs.{needs}
-use Rattle.message.proofs.header.length_of.Statement.{statement}
-use Rattle.message.proofs.header.length_of.Tie as tie
+use Rattle.header.proofs.length_of.Statement.{statement}
+use Rattle.header.proofs.length_of.Tie as tie
 
 pub length-of-spec : {M : Type 1} → statement M
 length-of-spec =

@@ -2,10 +2,16 @@
 ghost use mathlib.Core.Path.{_≡_};
 ghost use Prim.Native.Nat.{_<_, _≤_, _^_};
 ghost use Rattle.field.specs.Field.{read, flag, Fits};
-ghost use Rattle.message.specs.Object.{SEQ, DLC, FDF, topId, sidOf, eidOf, idIn, word0, word1, headerOf};
-ghost use Rattle.message.specs.Dlc.{lengthOf};
-use crate::Length;
-use crate::len_for_dlc;
+ghost use Rattle.header.specs.Header.{SEQ, DLC, FDF, topId, sidOf, eidOf, idIn, word0, word1, headerOf};
+ghost use Rattle.header.specs.Dlc.{lengthOf};
+
+mod dlc;
+
+pub use dlc::Dlc;
+pub use dlc::LENGTHS;
+pub use dlc::Length;
+pub use dlc::dlc_for_len;
+pub use dlc::len_for_dlc;
 
 pub struct Header {
     pub extended: bool,

@@ -11,9 +11,8 @@ use Rattle.field.specs.Field.{Field, read, write, flag, digit}
 use Rattle.field.specs.Settings.{Setting, _:=_, settings}
 use Rattle.field.proofs.Laws.{field-lt, write-read}
 use Rattle.field.proofs.Sets.{AllFit, fieldAt, valueAt, own, settings-lt, tiled}
-use Rattle.message.specs.declared.header.Header.{Header}
-use Rattle.message.specs.Object.{SID, EID, DLC, IDE, RTR, BRS, FDF, ESI, SEQ, topId, sidOf, eidOf, idIn, word0, word1, headerOf}
-use Rattle.message.specs.Laws.{meaning0, meaning1}
+use Rattle.header.specs.declared.Header.{Header}
+use Rattle.header.specs.Header.{SID, EID, DLC, IDE, RTR, BRS, FDF, ESI, SEQ, topId, sidOf, eidOf, idIn, word0, word1, headerOf, meaning0, meaning1}
 
 -- ---- bits and truth values
 

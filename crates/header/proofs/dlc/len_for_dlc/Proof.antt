@@ -1,10 +1,10 @@
--- `message::dlc::len_for_dlc` meets its contract.
+-- `header::dlc::len_for_dlc` meets its contract.
 -- Assumes nothing.
 use borrow.Author.Tests.{lt-ltb, le-ltb}
 use borrow.Author.Needs.{needs}
-use Rattle.message.specs.Dlc.{lengthOf}
-use Rattle.message.proofs.dlc.len_for_dlc.Statement.{statement}
-use Rattle.message.proofs.dlc.len_for_dlc.Tie as tie
+use Rattle.header.specs.Dlc.{lengthOf}
+use Rattle.header.proofs.dlc.len_for_dlc.Statement.{statement}
+use Rattle.header.proofs.dlc.len_for_dlc.Tie as tie
 
 pub len-for-dlc-spec : {M : Type 1} → statement M
 unfolding lengthOf

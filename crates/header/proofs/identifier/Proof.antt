@@ -1,8 +1,8 @@
--- `message::header::identifier` meets its contract.
+-- `header::identifier` meets its contract.
 -- Assumes nothing.
 use borrow.Author.Needs.{needs}
-use Rattle.message.proofs.header.identifier.Statement.{statement}
-use Rattle.message.proofs.header.identifier.Tie as tie
+use Rattle.header.proofs.identifier.Statement.{statement}
+use Rattle.header.proofs.identifier.Tie as tie
 
 pub identifier-spec : {M : Type 1} → statement M
 identifier-spec =

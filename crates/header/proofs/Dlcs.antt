@@ -11,9 +11,9 @@ use lib.Dec.{ltb, leb, eqb}
 use borrow.Author.Tests.{lt-ltb, ltb-true, leb-true, eqb-true}
 use Rattle.laws.proofs.Choice.{by-if}
 use Rattle.laws.proofs.Table.{every, at}
-use Rattle.message.specs.Dlc.{lengths, dlcs, lengthOf, seek, dlcOf}
-use Rattle.message.specs.declared.dlc.Length.{Length}
-use Rattle.message.specs.declared.dlc.Dlc.{Dlc}
+use Rattle.header.specs.Dlc.{lengths, dlcs, lengthOf, seek, dlcOf}
+use Rattle.header.specs.declared.dlc.Length.{Length}
+use Rattle.header.specs.declared.dlc.Dlc.{Dlc}
 
 -- ---- what a search found stands where it was found
 

@@ -1,0 +1,3 @@
+mod Search
+pub mod Dlcs
+pub mod Fields

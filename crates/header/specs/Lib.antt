@@ -1,0 +1,2 @@
+pub mod Dlc
+pub mod Header
