@@ -30,5 +30,5 @@ some-zeros (suc (suc zero)) h = refl
 some-zeros (suc (suc (suc zero))) h = refl
 some-zeros (suc (suc (suc (suc k)))) h = absurd (omega arith)
 
-pub zeros-length : (k : ℕ) → k ≤ 3 → length (take {A = ℕ} k (0 ∷ 0 ∷ 0 ∷ [])) ≡ k
-zeros-length k h = length-take-le k (0 ∷ 0 ∷ 0 ∷ []) h
+pub three-length : (x y z k : ℕ) → k ≤ 3 → length (take {A = ℕ} k (x ∷ y ∷ z ∷ [])) ≡ k
+three-length x y z k h = length-take-le k (x ∷ y ∷ z ∷ []) h

@@ -9,7 +9,7 @@ use borrow.Author.Needs.{needs}
 use lib.ListN.{length}
 use Rattle.message.specs.Object.{padded}
 use Rattle.message.specs.Message.{objectIn}
-use Rattle.message.proofs.Objects.{some-zeros, zeros-length}
+use Rattle.message.proofs.Objects.{some-zeros, three-length}
 use Rattle.message.proofs.object.with_payload.Statement.{statement}
 use Rattle.message.proofs.object.with_payload.Tie as tie
 
@@ -18,9 +18,9 @@ unfolding padded
 with-payload-spec =
     tie.close
     (tie.spec (λ c κs. search needs) (λ c κs. search needs) (search needs) (search needs)
-    (λ c. sym (zeros-length (c .before .round-up .result - length (now (c .before .before .before .before .args .p))) (omega arith)))
+    (λ c. sym (three-length _ _ _ (c .before .round-up .result - length (now (c .before .before .before .before .args .p))) (omega arith)))
     (λ c κs.
-    rw (zeros-length (c .before .round-up .result - length (now (c .before .before .before .before .args .p))) (omega arith))
+    rw (three-length _ _ _ (c .before .round-up .result - length (now (c .before .before .before .before .args .p))) (omega arith))
     (omega (arith, c .before .before .append .ensures .0)))
     (λ c front f.
     let p : List ℕ = now (c .before .before .before .before .before .args .p) in
