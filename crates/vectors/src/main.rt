@@ -15,8 +15,10 @@ use fifo::UserAddress;
 use filter::FilterControl;
 use filter::FilterMask;
 use filter::FilterObject;
+use header::Header;
 use interrupt::Cause;
 use interrupt::Interrupt;
+use message::Stamp;
 use print::crc_line;
 use print::flag_line;
 use print::number_line;
@@ -137,6 +139,15 @@ fn fifos() {
     );
 }
 
+// A FIFO that sends, of four messages of up to 64 bytes: the word that README.md shows.
+fn example() {
+    let control = FifoControl::reset()
+        .with_txen(true)
+        .with_plsize(7)
+        .with_fifo_size(4);
+    word_line(b"control word of README.md", control.0);
+}
+
 fn filters() {
     number_line(
         b"field CiFLTCON f2bp 8ecee298",
@@ -186,10 +197,39 @@ fn wire() {
     );
 }
 
+fn object_lines(bytes: [u8; 76]) {
+    word_line(b"object, word 0", words::le_at(&bytes, 0));
+    word_line(b"object, word 1", words::le_at(&bytes, 4));
+    word_line(b"object, payload", words::le_at(&bytes, 8));
+    let again = message::decode(true, false, &bytes);
+    let frame = again.frame;
+    let header = frame.header;
+    number_line(b"object, identifier", header.id);
+    number_line(b"object, SEQ", frame.seq);
+}
+
+// Standard 0x123, classic, SEQ 5, payload 01 02 03: written, and read again.
+fn objects() {
+    let h = Header {
+        extended: false,
+        id: 0x123,
+        rtr: false,
+        brs: false,
+        fdf: false,
+        esi: false,
+    };
+    let written = message::encode(h, 5, Stamp::None, &[1, 2, 3]);
+    let object = written.object;
+    let bytes = object.bytes;
+    object_lines(bytes);
+}
+
 fn main() {
     controller();
     bit_times();
     fifos();
+    example();
     filters();
     wire();
+    objects();
 }
