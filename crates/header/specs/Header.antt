@@ -59,9 +59,11 @@ idIn extended w = if extended then read SID w * 2 ^ 18 + read EID w else read SI
 
 -- ---- the words
 
+-- word 0 of a message; bits 31..29 are 0
 unfoldable pub word0 : Header → ℕ
 word0 h = settings (SID := sidOf (h .extended) (h .id) ∷ EID := eidOf (h .extended) (h .id) ∷ []) 0
 
+-- word 1 of a message
 unfoldable pub word1 : Header → (seq dlc : ℕ) → ℕ
 word1 h seq dlc =
     settings

@@ -9,7 +9,7 @@ use lib.Seq.{length-take-le}
 use Rattle.parts.specs.Parts.{put, zeroed}
 use Rattle.parts.proofs.Laws.{put-next}
 use Rattle.message.specs.declared.object.Object.{Object}
-use Rattle.message.specs.Message.{objectIn, Appends}
+use Rattle.message.specs.Structs.{objectIn, Appends}
 
 -- bytes stored behind an object's
 pub stored : (o : Object) (s b : List ℕ) → b ≡ put (o .bytes) (o .len) s → Appends o (record { bytes = b; len = o .len + length s }) s

@@ -8,13 +8,14 @@ use native.Mathlib.Omega.{arith}
 use lib.ListN.{length, take, drop, length-append, length-replicate, length-take, length-drop}
 use lib.Seq.{take-append-seam}
 use lib.Dec.{ltb, leb}
-use borrow.Author.Tests.{lt-ltb, le-ltb, le-leb, lt-leb, leb-true}
+use borrow.Author.Tests.{lt-ltb, le-ltb, le-leb, lt-leb, leb-true, ltb-false}
 use Rattle.laws.specs.If.{if_then_else_}
 use Rattle.laws.proofs.Choice.{by-if}
 use Rattle.field.specs.Field.{read, flag}
 use Rattle.field.proofs.Laws.{field-lt}
 use Rattle.words.specs.Words.{leBytes, leAt, roundUp}
 use Rattle.words.proofs.Laws.{le-back, le-drop, le-length}
+use Rattle.spi.specs.declared.refusal.Refusal.{Refusal}
 use Rattle.header.specs.declared.dlc.Dlc.{Dlc}
 use Rattle.header.specs.declared.dlc.Length.{Length}
 use Rattle.header.specs.declared.Header.{Header}
@@ -23,8 +24,8 @@ use Rattle.message.specs.declared.tx.Checked.{Checked}
 use Rattle.header.specs.Dlc.{dlcOf, lengthOf}
 use Rattle.header.specs.Header.{DLC, FDF, SEQ, topId, word0, word1, headerOf}
 use Rattle.message.specs.Object.{stampBytes, padded, objectBytes}
-use Rattle.message.specs.Message.{Message, checkOf, object, coded, encoding, Decoding, holds, bodyAt, messageIn, byLength, decoding}
-use Rattle.message.specs.Laws.{Stamped, RoundTrip, meaningful, Back, Lengths, Refuses}
+use Rattle.message.specs.Message.{Message, checkOf, object, coded, encoding, Decoding, holds, bad, bodyAt, messageIn, byLength, decoding}
+use Rattle.message.specs.Laws.{Stamped, RoundTrip, meaningful, Back, Lengths, Refuses, Refuses23}
 use Rattle.header.proofs.Dlcs.{length-back, dlc-back, dlc-16}
 use Rattle.message.proofs.Checks.{sound}
 use Rattle.header.proofs.Fields.{word0-lt, word1-lt, dlc-field, seq-field, fdf-flag, header-back, header-small, header-fdf, word0-again, word1-again}
@@ -191,3 +192,32 @@ refuses m = record {
   payload = λ i s p. rw (le-ltb (topId (m .header .extended)) (m .header .id) i, lt-leb (2 ^ 23) (m .seq) s, p);
   none = λ d i s p. (bytesOf m d, rw (le-ltb (topId (m .header .extended)) (m .header .id) i, lt-leb (2 ^ 23) (m .seq) s, p));
 }
+
+-- which DLC means no length
+no-length : (fdf : Bool) (d : ℕ) → d < 16 → lengthOf fdf d ≡ Length.Bad → (fdf ≡ false) × (8 < d)
+unfolding lengthOf
+no-length true d h = rw (lt-ltb d 16 h) (λ e. let z : _≡_ {A = ℕ} 0 1 = cc in absurd (omega arith))
+no-length false d h =
+    by-if (λ (l : Length). l ≡ Length.Bad → (false ≡ false) × (8 < d)) (ltb d 9)
+    (λ t e. let z : _≡_ {A = ℕ} 0 1 = cc in absurd (omega arith))
+    (λ t e. (refl, omega (arith, ltb-false d 9 t)))
+
+classic-long : (fdf : Bool) (d : ℕ) → fdf ≡ false → 8 < d → lengthOf fdf d ≡ Length.Bad
+unfolding lengthOf
+classic-long fdf d e h = rw (e, le-ltb d 9 h)
+
+pub refuses-23 : Refuses23
+unfolding decoding
+refuses-23 sending stamped b h =
+    let w : ℕ = leAt b 4 in
+    rw (le-ltb (length b) (bodyAt stamped) h) (
+      λ e. no-length (flag FDF w) (read DLC w) (field-lt w 0 4) (only (lengthOf (flag FDF w) (read DLC w)) e),
+      λ e. rw (classic-long (flag FDF w) (read DLC w) (e .0) (e .1)),
+    )
+  where
+    only : (l : Length) → byLength l sending stamped b ≡ bad Refusal.BadDlc → l ≡ Length.Bad
+    only (Length.Is n) =
+        by-if (λ (x : Decoding). x ≡ bad Refusal.BadDlc → Length.Is n ≡ Length.Bad) (leb (bodyAt stamped + n) (length b))
+        (λ t e. let z : _≡_ {A = ℕ} 0 1 = cc in absurd (omega arith))
+        (λ t e. let z : _≡_ {A = ℕ} 0 1 = cc in absurd (omega arith))
+    only Length.Bad = λ e. refl

@@ -2,19 +2,20 @@
 -- Assumes nothing.
 use Prim.Native.Nat.{ℕ, _+_, _^_, _≤_, _<_}
 use mathlib.Core.Path.{_≡_}
+use mathlib.Core.Logic.{_↔_}
 use mathlib.Core.Bool.{Bool, true, false}
 use mathlib.Core.List.{List, _++_}
 use lib.ListN.{length, take, drop}
 use Rattle.laws.specs.If.{if_then_else_}
-use Rattle.field.specs.Field.{flag}
+use Rattle.field.specs.Field.{read, flag}
 use Rattle.words.specs.Words.{leAt, roundUp}
 use Rattle.spi.specs.declared.refusal.Refusal.{Refusal}
 use Rattle.header.specs.declared.dlc.Dlc.{Dlc}
 use Rattle.message.specs.declared.object.Stamp.{Stamp}
 use Rattle.header.specs.Dlc.{dlcOf}
-use Rattle.header.specs.Header.{IDE, topId, meaning0, meaning1}
+use Rattle.header.specs.Header.{DLC, IDE, FDF, topId, meaning0, meaning1}
 use Rattle.message.specs.Object.{stampBytes, objectBytes}
-use Rattle.message.specs.Message.{Message, refused, object, encoding, holds, decoding, bodyAt}
+use Rattle.message.specs.Message.{Message, refused, object, encoding, holds, bad, decoding, bodyAt}
 
 -- a timestamp is a word, and is there exactly where RXTSEN is 1
 abbrev pub Stamped : Bool → Stamp → Type 0
@@ -58,3 +59,9 @@ pub record Refuses (m : Message) : Type 0 where
   pub none :
       (d : ℕ) → m .header .id ≤ topId (m .header .extended) → m .seq < 2 ^ 23 → dlcOf (m .header .fdf) (length (m .payload)) ≡ Dlc.Is d
       → (bs : List ℕ) × (encoding m ≡ object bs)
+
+-- a received object that has its header is refused exactly so: 23 for a classic frame with a DLC above 8
+abbrev pub Refuses23 : Type 0
+Refuses23 =
+    (sending stamped : Bool) (b : List ℕ) → bodyAt stamped ≤ length b
+    → (decoding sending stamped b ≡ bad Refusal.BadDlc) ↔ ((flag FDF (leAt b 4) ≡ false) × (8 < read DLC (leAt b 4)))

@@ -1,3 +1,4 @@
 pub mod Object
 pub mod Message
+pub mod Structs
 pub mod Laws

@@ -2,27 +2,18 @@
 -- Assumes nothing.
 use Prim.Native.Nat.{ℕ, _+_, _^_}
 use mathlib.Core.Bool.{Bool, true, false}
-use mathlib.Core.Path.{_≡_}
-use mathlib.Core.List.{List, [], _++_}
+use mathlib.Core.List.{List}
 use lib.ListN.{length, take, drop}
 use lib.Dec.{ltb, leb}
 use Rattle.laws.specs.If.{if_then_else_}
 use Rattle.field.specs.Field.{read, flag}
 use Rattle.words.specs.Words.{leAt}
-use Rattle.parts.specs.Parts.{zeroed}
 use Rattle.spi.specs.declared.refusal.Refusal.{Refusal}
-use Rattle.spi.specs.declared.refusal.Done.{Done}
 use Rattle.header.specs.declared.dlc.Dlc.{Dlc}
 use Rattle.header.specs.declared.dlc.Length.{Length}
 use Rattle.header.specs.declared.Header.{Header}
 use Rattle.message.specs.declared.object.Stamp.{Stamp}
-use Rattle.message.specs.declared.object.Object.{Object}
-use Rattle.message.specs.declared.rx.Payload.{Payload}
-use Rattle.message.specs.declared.rx.Frame.{Frame}
-use Rattle.message.specs.declared.rx.Reading.{Reading}
-use Rattle.message.specs.declared.rx.Decoded.{Decoded}
 use Rattle.message.specs.declared.tx.Checked.{Checked}
-use Rattle.message.specs.declared.tx.Encoded.{Encoded}
 use Rattle.header.specs.Dlc.{dlcOf, lengthOf}
 use Rattle.header.specs.Header.{DLC, FDF, SEQ, topId, word0, word1, headerOf}
 use Rattle.message.specs.Object.{objectBytes}
@@ -36,17 +27,19 @@ pub record Message : Type 0 where
 
 -- ---- from a message to its object
 
--- the DLC of a message, or its refusal: 21, 24 for SEQ, 22, in this order; n is the payload's length
+-- a payload's length that has no DLC is refused 22
 abbrev pub byDlc : Dlc → Checked
 byDlc (Dlc.Is d) = Checked.Dlc d
 byDlc Dlc.Bad = Checked.Bad Refusal.BadPayload
 
+-- the DLC of a message whose payload has n bytes, or its refusal: 21, then 24 for SEQ, then 22
 unfoldable pub checkOf : Header → (seq n : ℕ) → Checked
 checkOf h seq n =
     if ltb (topId (h .extended)) (h .id) then Checked.Bad Refusal.BadIdentifier
     else if leb (2 ^ 23) seq then Checked.Bad Refusal.BadSetting
     else byDlc (dlcOf (h .fdf) n)
 
+-- what a message is written as: the bytes of its object, or a refusal
 pub data Encoding : Type 0 where
   refused : Refusal → Encoding
   object : List ℕ → Encoding
@@ -65,11 +58,13 @@ abbrev pub bodyAt : Bool → ℕ
 bodyAt true = 12
 bodyAt false = 8
 
+-- what bytes are read as: a message, a refusal, or too few bytes
 pub data Decoding : Type 0 where
   holds : Message → Decoding
-  badDlc : Decoding
+  bad : Refusal → Decoding
   short : Decoding
 
+-- the message with a payload of n bytes that an object holds
 unfoldable pub messageIn : (sending stamped : Bool) → ℕ → List ℕ → Message
 messageIn sending stamped n b = record {
   header = headerOf (leAt b 0) (leAt b 4);
@@ -78,48 +73,14 @@ messageIn sending stamped n b = record {
   payload = take n (drop (bodyAt stamped) b);
 }
 
+-- a classic frame with a DLC above 8 is refused 23
 abbrev pub byLength : Length → (sending stamped : Bool) → List ℕ → Decoding
 byLength (Length.Is n) sending stamped b =
     if leb (bodyAt stamped + n) (length b) then holds (messageIn sending stamped n b) else short
-byLength Length.Bad sending stamped b = badDlc
+byLength Length.Bad sending stamped b = bad Refusal.BadDlc
 
 -- an object to send or received, its bytes followed by any others: the payload's length goes by the DLC, also where RTR is 1
 unfoldable pub decoding : (sending stamped : Bool) → List ℕ → Decoding
 decoding sending stamped b =
     if ltb (length b) (bodyAt stamped) then short
     else byLength (lengthOf (flag FDF (leAt b 4)) (read DLC (leAt b 4))) sending stamped b
-
--- ---- the same in the code's structs
-
--- bytes in an object's array
-abbrev pub objectIn : List ℕ → Object
-objectIn bs = record { bytes = zeroed 76 bs; len = length bs }
-
--- r has the bytes of o, and behind them bs
-abbrev pub Appends : Object → Object → List ℕ → Type 0
-Appends o r bs = (front : List ℕ) → o ≡ objectIn front → r ≡ objectIn (front ++ bs)
-
-abbrev pub encodedAs : Encoding → Encoded
-encodedAs (refused r) = record { done = Done.Bad r; object = objectIn [] }
-encodedAs (object bs) = record { done = Done.Good; object = objectIn bs }
-
--- bytes in a payload's array
-abbrev pub payloadIn : List ℕ → Payload
-payloadIn bs = record { bytes = zeroed 64 bs; len = length bs }
-
-abbrev pub frameOf : Message → Frame
-frameOf m = record { header = m .header; seq = m .seq; stamp = m .stamp; payload = payloadIn (m .payload) }
-
--- what stands in a frame where there is none
-abbrev pub blank : Message
-blank = record {
-  header = record { extended = false; id = 0; rtr = false; brs = false; fdf = false; esi = false };
-  seq = 0;
-  stamp = Stamp.None;
-  payload = [];
-}
-
-abbrev pub decodedAs : Decoding → Decoded
-decodedAs (holds m) = record { reading = Reading.Whole; frame = frameOf m }
-decodedAs badDlc = record { reading = Reading.BadDlc; frame = frameOf blank }
-decodedAs short = record { reading = Reading.Short; frame = frameOf blank }

@@ -6,7 +6,7 @@ ghost use lib.ListN.{length};
 ghost use Rattle.words.specs.Words.{leBytes};
 ghost use Rattle.parts.specs.Parts.{put};
 ghost use Rattle.message.specs.Object.{stampBytes, padded, objectBytes};
-ghost use Rattle.message.specs.Message.{objectIn, Appends};
+ghost use Rattle.message.specs.Structs.{objectIn, Appends};
 
 // A received message's timestamp.
 pub enum Stamp {

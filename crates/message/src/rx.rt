@@ -6,13 +6,15 @@ ghost use Rattle.laws.specs.If.{if_then_else_};
 ghost use Rattle.field.specs.Field.{read};
 ghost use Rattle.words.specs.Words.{leAt};
 ghost use Rattle.header.specs.Header.{SEQ};
-ghost use Rattle.message.specs.Message.{bodyAt, messageIn, decoding, payloadIn, frameOf, blank, decodedAs};
+ghost use Rattle.message.specs.Message.{bodyAt, messageIn, decoding};
+ghost use Rattle.message.specs.Structs.{payloadIn, frameOf, blank, decodedAs};
 ghost use Rattle.message.specs.declared.object.Stamp.{Stamp};
 use crate::Stamp;
 use header::Header;
 use header::Length;
 use header::header_of;
 use header::length_of;
+use spi::Refusal;
 
 // What lies behind the first `len` bytes is 0.
 pub struct Payload {
@@ -27,10 +29,11 @@ pub struct Frame {
     pub payload: Payload,
 }
 
-// What an object's bytes hold: a whole message, a classic frame with a DLC above 8, or fewer bytes than the DLC means.
+// What an object's bytes are read as: a whole message; a refusal, for a classic frame with a DLC above 8; or fewer bytes
+// than the DLC means.
 pub enum Reading {
     Whole,
-    BadDlc,
+    Bad(Refusal),
     Short,
 }
 
@@ -140,6 +143,6 @@ pub fn decode(sending: bool, stamped: bool, b: &[u8]) -> Decoded
                 nothing(Reading::Short)
             }
         }
-        Length::Bad => nothing(Reading::BadDlc),
+        Length::Bad => nothing(Reading::Bad(Refusal::BadDlc)),
     }
 }

@@ -1,7 +1,8 @@
 // A message to send: tested, and written as an object.
 ghost use mathlib.Core.Path.{_≡_};
 ghost use Rattle.header.specs.Header.{topId};
-ghost use Rattle.message.specs.Message.{checkOf, encoding, encodedAs};
+ghost use Rattle.message.specs.Message.{checkOf, encoding};
+ghost use Rattle.message.specs.Structs.{encodedAs};
 use crate::Object;
 use crate::Stamp;
 use crate::object;

@@ -8,7 +8,7 @@ use denote.Ref.{now}
 use borrow.Author.Needs.{needs}
 use lib.ListN.{length}
 use Rattle.message.specs.Object.{padded}
-use Rattle.message.specs.Message.{objectIn}
+use Rattle.message.specs.Structs.{objectIn}
 use Rattle.message.proofs.Objects.{some-zeros, three-length}
 use Rattle.message.proofs.object.with_payload.Statement.{statement}
 use Rattle.message.proofs.object.with_payload.Tie as tie

@@ -4,7 +4,7 @@ use mathlib.Core.Path.{sym, ap, _∙_}
 use mathlib.Core.List.{append-nil}
 use native.Mathlib.Omega.{arith}
 use borrow.Author.Needs.{needs}
-use Rattle.message.specs.Message.{objectIn}
+use Rattle.message.specs.Structs.{objectIn}
 use Rattle.message.proofs.object.with_stamp.Statement.{statement}
 use Rattle.message.proofs.object.with_stamp.Tie as tie
 

@@ -1,0 +1,50 @@
+-- Messages in the code's structs: bytes at the front of arrays that are 0 behind.
+-- Assumes nothing.
+use Prim.Native.Nat.{ℕ}
+use mathlib.Core.Path.{_≡_}
+use mathlib.Core.Bool.{false}
+use mathlib.Core.List.{List, [], _++_}
+use lib.ListN.{length}
+use Rattle.parts.specs.Parts.{zeroed}
+use Rattle.spi.specs.declared.refusal.Done.{Done}
+use Rattle.message.specs.declared.object.Stamp.{Stamp}
+use Rattle.message.specs.declared.object.Object.{Object}
+use Rattle.message.specs.declared.rx.Payload.{Payload}
+use Rattle.message.specs.declared.rx.Frame.{Frame}
+use Rattle.message.specs.declared.rx.Reading.{Reading}
+use Rattle.message.specs.declared.rx.Decoded.{Decoded}
+use Rattle.message.specs.declared.tx.Encoded.{Encoded}
+use Rattle.message.specs.Message.{Message, Encoding, refused, object, Decoding, holds, bad, short}
+
+-- bytes in an object's array
+abbrev pub objectIn : List ℕ → Object
+objectIn bs = record { bytes = zeroed 76 bs; len = length bs }
+
+abbrev pub encodedAs : Encoding → Encoded
+encodedAs (refused r) = record { done = Done.Bad r; object = objectIn [] }
+encodedAs (object bs) = record { done = Done.Good; object = objectIn bs }
+
+-- bytes in a payload's array
+abbrev pub payloadIn : List ℕ → Payload
+payloadIn bs = record { bytes = zeroed 64 bs; len = length bs }
+
+abbrev pub frameOf : Message → Frame
+frameOf m = record { header = m .header; seq = m .seq; stamp = m .stamp; payload = payloadIn (m .payload) }
+
+-- what stands in a frame where there is none
+abbrev pub blank : Message
+blank = record {
+  header = record { extended = false; id = 0; rtr = false; brs = false; fdf = false; esi = false };
+  seq = 0;
+  stamp = Stamp.None;
+  payload = [];
+}
+
+abbrev pub decodedAs : Decoding → Decoded
+decodedAs (holds m) = record { reading = Reading.Whole; frame = frameOf m }
+decodedAs (bad r) = record { reading = Reading.Bad r; frame = frameOf blank }
+decodedAs short = record { reading = Reading.Short; frame = frameOf blank }
+
+-- r has the bytes of o, and behind them bs: what the functions that put an object together promise each other
+abbrev pub Appends : Object → Object → List ℕ → Type 0
+Appends o r bs = (front : List ℕ) → o ≡ objectIn front → r ≡ objectIn (front ++ bs)
