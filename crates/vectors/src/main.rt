@@ -50,6 +50,9 @@ fn controller() {
         b"field CiINT cerrie 1 8fa49840",
         Interrupt(0x8fa4_9840).with_enabled(Cause::Cerr, true).0,
     );
+}
+
+fn pins_and_clock() {
     flag_line(
         b"field OSC pllrdy 00000100",
         OscillatorControl(0x100).pllrdy(),
@@ -226,6 +229,7 @@ fn objects() {
 
 fn main() {
     controller();
+    pins_and_clock();
     bit_times();
     fifos();
     example();
