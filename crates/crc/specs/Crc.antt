@@ -8,6 +8,7 @@ use lib.Bits.{bitXor}
 abbrev pub polynomial : ℕ
 polynomial = 0x8005
 
+-- what the register holds before the first byte
 abbrev pub start : ℕ
 start = 0xFFFF
 
@@ -15,6 +16,7 @@ start = 0xFFFF
 unfoldable pub shift1 : ℕ → ℕ
 shift1 c = bitXor (c * 2 % 2 ^ 16) (c / 2 ^ 15 * polynomial)
 
+-- n times
 unfoldable pub shifts : ℕ → ℕ → ℕ
 shifts zero c = c
 shifts (suc n) c = shifts n (shift1 c)

@@ -2,7 +2,7 @@
 -- Assumes nothing.
 use mathlib.Core.Path.{_≡_, refl, sym, ap, ap₂, _∙_}
 use mathlib.Core.Logic.{_⊎_, inl, inr, ⊎-elim}
-use mathlib.Core.Bool.{Bool, true, false, _||_}
+use mathlib.Core.Bool.{Bool, true, false, _||_, or-comm}
 use Prim.Native.Nat.{ℕ, _+_, _-_, _*_, _/_, _%_, _^_, _≤_, _<_}
 use native.Mathlib.Nat.{mod-lt, lt-of-le-of-lt}
 use native.Mathlib.Omega.{arith}
@@ -85,3 +85,6 @@ either false b e = inr e
 pub write-other : (f g : Field) (v w : ℕ) → Fits f v → apart f g ≡ true → read g (write f v w) ≡ read g w
 write-other (place p k) (place q j) v w h e =
     set-other w p k v q j h (⊎-elim (λ a. inl (leb-true (p + k) q a)) (λ b. inr (leb-true (q + j) p b)) (either (leb (p + k) q) (leb (q + j) p) e))
+
+pub apart-sym : (f g : Field) → apart f g ≡ true → apart g f ≡ true
+apart-sym (place p k) (place q j) e = or-comm (leb (q + j) p) (leb (p + k) q) ∙ e

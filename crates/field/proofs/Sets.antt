@@ -5,43 +5,28 @@ use mathlib.Core.Bool.{Bool, true, _&&_}
 use mathlib.Core.List.{List, [], _∷_}
 use Prim.Native.Nat.{ℕ, zero, suc, _+_, _/_, _%_, _^_, _<_}
 use native.Mathlib.Nat.{le-of-suc-le-suc, not-suc-le-zero, mod-lt, mod-eq-of-lt, div-eq-of-lt, zero-mul, zero-add, add-comm}
-use lib.Dec.{leb, eqb}
+use lib.Dec.{eqb}
 use lib.Pow.{pow-pos, mod-pow-add}
 use lib.ListN.{length}
 use borrow.Author.Tests.{leb-true, eqb-true}
+use Rattle.laws.specs.All.{all}
 use Rattle.laws.proofs.Table.{both}
-use Rattle.field.specs.Field.{fieldOf, withField, Field, place, read, write, Fits, apart}
-use Rattle.field.specs.Settings.{Setting, _:=_, settings}
-use Rattle.field.proofs.Laws.{read-write, write-other, set-lt}
+use Rattle.field.specs.Field.{fieldOf, withField, Field, place, read, write, Fits, apart, allApart, within}
+use Rattle.field.specs.Settings.{Setting, _:=_, fieldsOf, settings}
+use Rattle.field.proofs.Laws.{read-write, write-other, set-lt, apart-sym}
 
--- ---- what is asked of the settings: each value fits its field, no two fields share a bit, all lie in a word of n bits
-
+-- each value fits its field
 abbrev pub AllFit : List Setting → Type 0
 AllFit [] = Unit {0}
 AllFit (f := v ∷ ss) = Fits f v × AllFit ss
 
-abbrev pub offAll : Field → List Setting → Bool
-offAll g [] = true
-offAll g (f := v ∷ ss) = apart f g && offAll g ss
-
-abbrev pub allOff : List Setting → Bool
-allOff [] = true
-allOff (f := v ∷ ss) = offAll f ss && allOff ss
-
-abbrev pub within : ℕ → Field → Bool
-within n (place p k) = leb (p + k) n
-
-abbrev pub allWithin : ℕ → List Setting → Bool
-allWithin n [] = true
-allWithin n (f := v ∷ ss) = within n f && allWithin n ss
-
 -- ---- a field that none of them touches reads as before
 
-pub off : (g : Field) (ss : List Setting) (w : ℕ) → offAll g ss ≡ true → AllFit ss → read g (settings ss w) ≡ read g w
+pub off : (g : Field) (ss : List Setting) (w : ℕ) → all (apart g) (fieldsOf ss) ≡ true → AllFit ss → read g (settings ss w) ≡ read g w
 off g [] w e h = refl
 off g (f := v ∷ ss) w e h =
-    let (a, b) = both (apart f g) (offAll g ss) e in
-    off g ss (write f v w) b (h .1) ∙ write-other f g v w (h .0) a
+    let (a, b) = both (apart g f) (all (apart g) (fieldsOf ss)) e in
+    off g ss (write f v w) b (h .1) ∙ write-other f g v w (h .0) (apart-sym g f a)
 
 -- ---- each field reads what it was set to
 
@@ -55,20 +40,20 @@ valueAt [] i = 0
 valueAt (f := v ∷ ss) zero = v
 valueAt (f := v ∷ ss) (suc i) = valueAt ss i
 
-pub own : (ss : List Setting) (w i : ℕ) → allOff ss ≡ true → AllFit ss → i < length ss → read (fieldAt ss i) (settings ss w) ≡ valueAt ss i
+pub own : (ss : List Setting) (w i : ℕ) → allApart (fieldsOf ss) ≡ true → AllFit ss → i < length ss → read (fieldAt ss i) (settings ss w) ≡ valueAt ss i
 own [] w i e h l = absurd (not-suc-le-zero l)
-own (f := v ∷ ss) w zero e h l = off f ss (write f v w) (both (offAll f ss) (allOff ss) e .0) (h .1) ∙ read-write f v w (h .0)
-own (f := v ∷ ss) w (suc i) e h l = own ss (write f v w) i (both (offAll f ss) (allOff ss) e .1) (h .1) (le-of-suc-le-suc l)
+own (f := v ∷ ss) w zero e h l = off f ss (write f v w) (both (all (apart f) (fieldsOf ss)) (allApart (fieldsOf ss)) e .0) (h .1) ∙ read-write f v w (h .0)
+own (f := v ∷ ss) w (suc i) e h l = own ss (write f v w) i (both (all (apart f) (fieldsOf ss)) (allApart (fieldsOf ss)) e .1) (h .1) (le-of-suc-le-suc l)
 
 -- ---- a word of n bits stays one
 
 write-lt : (n : ℕ) (f : Field) (v w : ℕ) → within n f ≡ true → Fits f v → w < 2 ^ n → write f v w < 2 ^ n
 write-lt n (place p k) v w e h l = set-lt n w p k v l (leb-true (p + k) n e) h
 
-pub settings-lt : (n : ℕ) (ss : List Setting) (w : ℕ) → allWithin n ss ≡ true → AllFit ss → w < 2 ^ n → settings ss w < 2 ^ n
+pub settings-lt : (n : ℕ) (ss : List Setting) (w : ℕ) → all (within n) (fieldsOf ss) ≡ true → AllFit ss → w < 2 ^ n → settings ss w < 2 ^ n
 settings-lt n [] w e h l = l
 settings-lt n (f := v ∷ ss) w e h l =
-    let (a, b) = both (within n f) (allWithin n ss) e in
+    let (a, b) = both (within n f) (all (within n) (fieldsOf ss)) e in
     settings-lt n ss (write f v w) b (h .1) (write-lt n f v w a (h .0) l)
 
 -- ---- fields that lie side by side from bit p to bit n, set to what they read of a word, give that part of the word

@@ -1,8 +1,10 @@
 -- A field of a word, by arithmetic alone: k bits from bit p on, bits numbered from 0, the least significant.
 -- Assumes nothing.
 use Prim.Native.Nat.{ℕ, _+_, _-_, _*_, _/_, _%_, _^_, _<_}
-use mathlib.Core.Bool.{Bool, true, false, _||_}
+use mathlib.Core.Bool.{Bool, true, false, _&&_, _||_}
+use mathlib.Core.List.{List, [], _∷_}
 use lib.Dec.{eqb, leb}
+use Rattle.laws.specs.All.{all}
 
 -- what the field holds
 abbrev pub fieldOf : (w p k : ℕ) → ℕ
@@ -50,3 +52,12 @@ Fits (place p k) v = v < 2 ^ k
 -- two fields that share no bit
 abbrev pub apart : Field → Field → Bool
 apart (place p k) (place q j) = leb (p + k) q || leb (q + j) p
+
+-- no two fields of a list share a bit
+abbrev pub allApart : List Field → Bool
+allApart [] = true
+allApart (f ∷ fs) = all (apart f) fs && allApart fs
+
+-- a field whose bits all lie in a word of n bits
+abbrev pub within : ℕ → Field → Bool
+within n (place p k) = leb (p + k) n

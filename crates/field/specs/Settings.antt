@@ -8,6 +8,11 @@ infix 69 _:=_
 pub data Setting : Type 0 where
   _:=_ : Field → ℕ → Setting
 
+-- the fields that are set
+abbrev pub fieldsOf : List Setting → List Field
+fieldsOf [] = []
+fieldsOf (f := v ∷ ss) = f ∷ fieldsOf ss
+
 -- a word with fields set, the first setting first
 abbrev pub settings : List Setting → ℕ → ℕ
 settings [] w = w

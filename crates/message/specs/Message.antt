@@ -48,6 +48,7 @@ abbrev pub coded : Checked → Message → Encoding
 coded (Checked.Dlc d) m = object (objectBytes (word0 (m .header)) (word1 (m .header) (m .seq) d) (m .stamp) (m .payload))
 coded (Checked.Bad r) m = refused r
 
+-- the object of a message that meets no refusal
 unfoldable pub encoding : Message → Encoding
 encoding m = coded (checkOf (m .header) (m .seq) (length (m .payload))) m
 

@@ -1,18 +1,19 @@
 -- What is proved of the whole table: by computed tests, and for the fields by the field codec's law.
 -- Assumes nothing.
-use mathlib.Core.Path.{_≡_, refl, sym, _∙_}
-use mathlib.Core.Bool.{Bool, true, false, _&&_, or-comm}
+use mathlib.Core.Path.{_≡_, refl, sym}
+use mathlib.Core.Bool.{Bool, true, false, _&&_}
 use mathlib.Core.List.{List, [], _∷_}
-use Prim.Native.Nat.{ℕ, zero, suc, _+_, _<_}
+use Prim.Native.Nat.{ℕ, zero, suc, _<_}
 use native.Mathlib.Nat.{le-of-suc-le-suc, not-suc-le-zero}
 use lib.Arith.{lt-of-le-ne}
 use lib.ListN.{length, getD}
-use lib.Dec.{leb, ltb, eqb}
+use lib.Dec.{ltb, eqb}
 use borrow.Author.Tests.{ltb-true, ltb-false}
-use Rattle.laws.proofs.Table.{both}
-use Rattle.field.specs.Field.{Field, place, bit, apart}
-use Rattle.field.proofs.Laws.{write-other}
-use Rattle.registers.specs.Registers.{Kind, kinds, addressesOf, all, inside, allApart, distinct, fielded, sound, Neighbours}
+use Rattle.laws.specs.All.{all}
+use Rattle.laws.proofs.Table.{both, all-at}
+use Rattle.field.specs.Field.{Field, bit, apart, allApart}
+use Rattle.field.proofs.Laws.{write-other, apart-sym}
+use Rattle.registers.specs.Registers.{Kind, kinds, addressesOf, inside, distinct, fielded, sound, Neighbours}
 
 -- every kind's fields lie in the word and apart, and its reset word has 0 in every reserved bit
 pub all-sound : all sound kinds ≡ true
@@ -30,19 +31,11 @@ how-many = refl
 
 -- ---- from the test to its places
 
-pub all-at : {A : Type 0} (p : A → Bool) (d : A) (xs : List A) → all p xs ≡ true → (n : ℕ) → n < length xs → p (getD xs n d) ≡ true
-all-at p d [] e n h = absurd (not-suc-le-zero h)
-all-at p d (x ∷ xs) e zero h = both (p x) (all p xs) e .0
-all-at p d (x ∷ xs) e (suc n) h = all-at p d xs (both (p x) (all p xs) e .1) n (le-of-suc-le-suc h)
-
 pairs : (d : Field) (fs : List Field) → allApart fs ≡ true → (i j : ℕ) → i < j → j < length fs → apart (getD fs i d) (getD fs j d) ≡ true
 pairs d [] e i j h l = absurd (not-suc-le-zero l)
 pairs d (f ∷ fs) e i zero h l = absurd (not-suc-le-zero h)
 pairs d (f ∷ fs) e zero (suc j) h l = all-at (apart f) d fs (both (all (apart f) fs) (allApart fs) e .0) j (le-of-suc-le-suc l)
 pairs d (f ∷ fs) e (suc i) (suc j) h l = pairs d fs (both (all (apart f) fs) (allApart fs) e .1) i j (le-of-suc-le-suc h) (le-of-suc-le-suc l)
-
-apart-sym : (f g : Field) → apart f g ≡ true → apart g f ≡ true
-apart-sym (place p k) (place q j) e = or-comm (leb (q + j) p) (leb (p + k) q) ∙ e
 
 any-two : (d : Field) (fs : List Field) → allApart fs ≡ true → (i j : ℕ) → i < length fs → j < length fs → (i ≡ j → ⊥) → apart (getD fs i d) (getD fs j d) ≡ true
 any-two d fs e i j hi hj ne = go (ltb i j) refl

@@ -5,8 +5,9 @@ use mathlib.Core.Path.{_≡_}
 use mathlib.Core.Bool.{Bool, true, _&&_, not}
 use mathlib.Core.List.{List, [], _∷_, _++_, map}
 use lib.ListN.{length, getD}
-use lib.Dec.{ltb, leb, eqb}
-use Rattle.field.specs.Field.{Field, place, bit, read, write, Fits, apart}
+use lib.Dec.{ltb, eqb}
+use Rattle.laws.specs.All.{all}
+use Rattle.field.specs.Field.{Field, place, bit, read, write, Fits, allApart, within}
 use Rattle.field.specs.Register.{Register}
 use Rattle.fifo.specs.Control.{CiFIFOCON}
 use Rattle.fifo.specs.Status.{CiFIFOSTA}
@@ -23,6 +24,7 @@ use Rattle.interrupt.specs.Interrupt.{CiINT}
 use Rattle.chip.specs.OscillatorControl.{OSC}
 use Rattle.chip.specs.IoControl.{IOCON}
 
+-- a kind, and the numbers of its registers
 pub record Kind : Type 0 where
   pub register : Register
   pub numbers : List ℕ
@@ -32,6 +34,7 @@ abbrev pub from : ℕ → ℕ → List ℕ
 from k zero = []
 from k (suc n) = k ∷ from (k + 1) n
 
+-- a kind that is there once
 abbrev pub once : Register → Kind
 once r = record { register = r; numbers = from 0 1 }
 
@@ -42,6 +45,7 @@ eachFifo r = record { register = r; numbers = from 1 31 }
 abbrev pub eachFilter : Register → Kind
 eachFilter r = record { register = r; numbers = from 0 32 }
 
+-- all kinds
 unfoldable pub kinds : List Kind
 kinds =
     once CiCON
@@ -67,18 +71,9 @@ addressesOf (k ∷ ks) = map (k .register .address) (k .numbers) ++ addressesOf 
 
 -- ---- what is asked of the table
 
-abbrev pub all : {A : Type 0} → (A → Bool) → List A → Bool
-all p [] = true
-all p (x ∷ xs) = p x && all p xs
-
 -- a field has a bit, and all its bits in the word
 abbrev pub inside : Field → Bool
-inside (place p k) = ltb 0 k && leb (p + k) 32
-
--- no two fields share a bit
-abbrev pub allApart : List Field → Bool
-allApart [] = true
-allApart (f ∷ fs) = all (apart f) fs && allApart fs
+inside (place p k) = ltb 0 k && within 32 (place p k)
 
 -- no number stands twice
 abbrev pub distinct : List ℕ → Bool

@@ -5,6 +5,7 @@ use mathlib.Core.List.{List}
 use Rattle.words.specs.Words.{beBytes}
 use Rattle.spi.specs.declared.instruction.OpCode.{OpCode}
 
+-- the opcodes
 abbrev pub codeOf : OpCode → ℕ
 codeOf OpCode.Reset = 0
 codeOf OpCode.Write = 2

@@ -6,9 +6,9 @@ use crate::Done;
 use crate::Refusal;
 
 // The RAM's first address, and the first address behind it.
-pub const RAM_START: usize = 0x400;
+const RAM_START: usize = 0x400;
 
-pub const RAM_END: usize = 0xC00;
+const RAM_END: usize = 0xC00;
 
 // A length above the RAM's end is told first, so the sum cannot wrap.
 pub fn in_range(address: u32, n: usize) -> bool

@@ -19,13 +19,16 @@ use header::Header;
 use interrupt::Cause;
 use interrupt::Interrupt;
 use message::Stamp;
+use print::bytes_line;
+use print::count_line;
 use print::crc_line;
 use print::flag_line;
 use print::number_line;
 use print::word_line;
+use spi::OpCode;
 
 fn controller() {
-    flag_line(b"field CiCON stef eea19e59", CanControl(0xeea1_9e59).stef());
+    flag_line(b"field CiCON stef 3ccffff1", CanControl(0x3ccf_fff1).stef());
     word_line(
         b"field CiCON stef 1 1a535955",
         CanControl(0x1a53_5955).with_stef(true).0,
@@ -43,8 +46,8 @@ fn controller() {
         TimeStampControl(0x2b54_58cc).with_tbcpre(670).0,
     );
     flag_line(
-        b"field CiINT rxif c783f75c",
-        Interrupt(0xc783_f75c).flagged(Cause::Rx),
+        b"field CiINT rxif c57889fe",
+        Interrupt(0xc578_89fe).flagged(Cause::Rx),
     );
     word_line(
         b"field CiINT cerrie 1 8fa49840",
@@ -61,7 +64,7 @@ fn pins_and_clock() {
         b"field OSC clkodiv 2 1f957c2f",
         OscillatorControl(0x1f95_7c2f).with_clkodiv(2).0,
     );
-    flag_line(b"field IOCON lat1 4792a102", IoControl(0x4792_a102).lat(1));
+    flag_line(b"field IOCON lat1 28315704", IoControl(0x2831_5704).lat(1));
     word_line(
         b"field IOCON lat1 0 e205a206",
         IoControl(0xe205_a206).with_lat(1, false).0,
@@ -98,8 +101,8 @@ fn bit_times() {
         TransmitterDelayCompensation(0).with_tdco(-64).0,
     );
     word_line(
-        b"field CiTDC tdco -1 ffffffff",
-        TransmitterDelayCompensation(0xffff_ffff).with_tdco(-1).0,
+        b"field CiTDC tdco -1 00000000",
+        TransmitterDelayCompensation(0).with_tdco(-1).0,
     );
 }
 
@@ -161,8 +164,8 @@ fn filters() {
         FilterControl(0x4d14_10c5).with_target(2, 30).0,
     );
     word_line(
-        b"field CiFLTCON flten2 0 dd4310f6",
-        FilterControl(0xdd43_10f6).with_enabled(2, false).0,
+        b"field CiFLTCON flten3 0 87aaca36",
+        FilterControl(0x87aa_ca36).with_enabled(3, false).0,
     );
     number_line(
         b"field CiFLTOBJ eid 07c215ae",
@@ -186,29 +189,36 @@ fn wire() {
         b"crc badd8331 in two parts",
         crc::update(crc::update(crc::START, &[0xba, 0xdd]), &[0x83, 0x31]),
     );
-    number_line(
+    count_line(
         b"length of an FD frame's DLC 13",
         print::length(header::len_for_dlc(13, true)),
     );
-    number_line(
+    count_line(
         b"DLC of an FD frame's 48 bytes",
         print::dlc(header::dlc_for_len(48, true)),
     );
-    word_line(
-        b"write 00600580 to 05c, last four bytes",
-        words::le_at(&spi::write_word(0x05c, 0x0060_0580), 2),
-    );
 }
 
-fn object_lines(bytes: [u8; 76]) {
-    word_line(b"object, word 0", words::le_at(&bytes, 0));
-    word_line(b"object, word 1", words::le_at(&bytes, 4));
-    word_line(b"object, payload", words::le_at(&bytes, 8));
-    let again = message::decode(true, false, &bytes);
+fn instructions() {
+    bytes_line(b"read 05c", &spi::command(OpCode::Read, 0x05c));
+    bytes_line(b"write 05c 00600580", &spi::write_word(0x05c, 0x0060_0580));
+    bytes_line(b"checked read e14", &spi::checked_read(0xe14));
+}
+
+fn object_lines(bytes: &[u8]) {
+    let start = 0;
+    let end = 12;
+    if end <= bytes.len() {
+        bytes_line(
+            b"object of standard 123, SEQ 5, payload 010203",
+            &bytes[start..end],
+        );
+    }
+    let again = message::decode(true, false, bytes);
     let frame = again.frame;
     let header = frame.header;
-    number_line(b"object, identifier", header.id);
-    number_line(b"object, SEQ", frame.seq);
+    number_line(b"its identifier", header.id);
+    number_line(b"its SEQ", frame.seq);
 }
 
 // Standard 0x123, classic, SEQ 5, payload 01 02 03: written, and read again.
@@ -224,7 +234,8 @@ fn objects() {
     let written = message::encode(h, 5, Stamp::None, &[1, 2, 3]);
     let object = written.object;
     let bytes = object.bytes;
-    object_lines(bytes);
+    count_line(b"length of the object", object.len);
+    object_lines(&bytes);
 }
 
 fn main() {
@@ -235,5 +246,6 @@ fn main() {
     example();
     filters();
     wire();
+    instructions();
     objects();
 }

@@ -34,17 +34,41 @@ pub fn crc_line(line: &[u8], c: u16) {
     end();
 }
 
+pub fn count_line(line: &[u8], n: usize) {
+    asked(line);
+    io::print_decimal(STDOUT_FILENO, n as u64);
+    end();
+}
+
+fn put_byte(b: u8) {
+    io::print_hex(STDOUT_FILENO, b as u64, 2);
+}
+
+fn put_bytes(s: &[u8]) {
+    let mut i = 0;
+    while i < s.len() {
+        put_byte(s[i]);
+        i += 1;
+    }
+}
+
+pub fn bytes_line(line: &[u8], s: &[u8]) {
+    asked(line);
+    put_bytes(s);
+    end();
+}
+
 // A length or a DLC, or 99 where there is none.
-pub fn length(l: Length) -> u32 {
+pub fn length(l: Length) -> usize {
     match l {
-        Length::Is(n) => (n % 99) as u32,
+        Length::Is(n) => n,
         Length::Bad => 99,
     }
 }
 
-pub fn dlc(d: Dlc) -> u32 {
+pub fn dlc(d: Dlc) -> usize {
     match d {
-        Dlc::Is(n) => (n % 99) as u32,
+        Dlc::Is(n) => n,
         Dlc::Bad => 99,
     }
 }
