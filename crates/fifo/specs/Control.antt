@@ -1,8 +1,10 @@
 -- CiFIFOCONn: the control word of a FIFO. Fields by the data sheet's names and bits.
 -- Assumes nothing.
 use Prim.Native.Nat.{ℕ, _+_, _-_, _*_, min}
+use mathlib.Core.Bool.{Bool, _&&_}
 use mathlib.Core.List.{List, [], _∷_}
 use lib.ListN.{getD}
+use lib.Dec.{leb}
 use Rattle.field.specs.Field.{Field, _‥_, bit, read}
 use Rattle.field.specs.Register.{Register}
 
@@ -70,3 +72,7 @@ payloadOf w = getD payloads (read PLSIZE w) 0
 -- FIFO size 1 to 32 stores size - 1, above 32 stores 31
 abbrev pub storedSize : ℕ → ℕ
 storedSize n = min (n - 1) 31
+
+-- FIFOs are numbered from 1 to 31
+unfoldable pub isFifo : ℕ → Bool
+isFifo n = leb 1 n && leb n 31

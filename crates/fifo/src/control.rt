@@ -3,7 +3,7 @@ ghost use mathlib.Core.Path.{_≡_};
 ghost use Prim.Native.Nat.{_+_, _<_, min};
 ghost use lib.ListN.{getD};
 ghost use Rattle.field.specs.Field.{read, write, Fits, flag, mark};
-ghost use Rattle.fifo.specs.Control.{CiFIFOCON, TFNRFNIE, TFHRFHIE, TFERFFIE, RXOVIE, TXATIE, RXTSEN, RTREN, TXEN, UINC, TXREQ, FRESET, TXPRI, TXAT, FSIZE, PLSIZE, payloads, payloadOf, storedSize};
+ghost use Rattle.fifo.specs.Control.{CiFIFOCON, TFNRFNIE, TFHRFHIE, TFERFFIE, RXOVIE, TXATIE, RXTSEN, RTREN, TXEN, UINC, TXREQ, FRESET, TXPRI, TXAT, FSIZE, PLSIZE, payloads, payloadOf, storedSize, isFifo};
 
 // What PLSIZE means, in bytes.
 pub const PLSIZE: [usize; 8] = [8, 12, 16, 20, 24, 32, 48, 64];
@@ -13,6 +13,16 @@ pub fn payload_bytes(plsize: u32) -> usize
     ensures { λ r. ⌜ r ≡ getD payloads plsize 0 ⌝ }
 {
     PLSIZE[plsize as usize]
+}
+
+// The FIFOs that a call may name.
+pub fn is_fifo(n: u8) -> bool
+    ensures { λ r. ⌜ r ≡ isFifo n ⌝ }
+{
+    if n < 1 {
+        return false;
+    }
+    n <= 31
 }
 
 pub struct FifoControl(pub u32);

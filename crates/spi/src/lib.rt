@@ -1,8 +1,15 @@
-// What the driver and the line say to each other: instructions, the RAM that an access may touch, and why a call is refused.
+// What the driver and the line say to each other: instructions, asks and their bytes, answers and what they say, the RAM that
+// an access may touch, and why a call is refused.
+mod ask;
 mod instruction;
 mod ram;
 mod refusal;
+mod reply;
 
+pub use ask::Answer;
+pub use ask::Ask;
+pub use ask::Exchange;
+pub use ask::exchange_of;
 pub use instruction::OpCode;
 pub use instruction::checked_read;
 pub use instruction::command;
@@ -12,3 +19,11 @@ pub use ram::read_access;
 pub use ram::write_access;
 pub use refusal::Done;
 pub use refusal::Refusal;
+pub use reply::CheckedWord;
+pub use reply::OneWord;
+pub use reply::TwoWords;
+pub use reply::crc_reply;
+pub use reply::done_reply;
+pub use reply::pair_reply;
+pub use reply::wait_reply;
+pub use reply::word_reply;

@@ -1,0 +1,15 @@
+-- `spi::reply::pair_reply` meets its contract.
+-- Assumes nothing.
+use borrow.Author.Tests.{eq-eqb, ne-eqb}
+use borrow.Author.Needs.{needs}
+use Rattle.spi.proofs.reply.pair_reply.Statement.{statement}
+use Rattle.spi.proofs.reply.pair_reply.Tie as tie
+
+pub pair-reply-spec : {M : Type 1} → statement M
+pair-reply-spec =
+    tie.close
+    (tie.spec (search needs) (λ c κs. search needs) (λ c κs. search needs) (search needs) (search needs)
+    (λ c. simp (c .le-at2 .ensures, c .before .le-at .ensures, eq-eqb _ _ (c .before .before .if1 .taken), c .before .before .before .enum-told .given .1))
+    (λ c. simp (ne-eqb _ _ (c .if1 .left), c .before .enum-told .given .1))
+    (λ c. simp (c .enum-told2 .given .1))
+    (λ c. simp (c .enum-told3 .given .1)))
