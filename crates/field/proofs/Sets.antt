@@ -12,13 +12,8 @@ use borrow.Author.Tests.{leb-true, eqb-true}
 use Rattle.laws.specs.All.{all}
 use Rattle.laws.proofs.Table.{both}
 use Rattle.field.specs.Field.{fieldOf, withField, Field, place, read, write, Fits, apart, allApart, within}
-use Rattle.field.specs.Settings.{Setting, _:=_, fieldsOf, settings}
+use Rattle.field.specs.Settings.{Setting, _:=_, fieldsOf, settings, AllFit}
 use Rattle.field.proofs.Laws.{read-write, write-other, set-lt, apart-sym}
-
--- each value fits its field
-abbrev pub AllFit : List Setting → Type 0
-AllFit [] = Unit {0}
-AllFit (f := v ∷ ss) = Fits f v × AllFit ss
 
 -- ---- a field that none of them touches reads as before
 

@@ -8,9 +8,9 @@ use native.Mathlib.Omega.{arith}
 use lib.Dec.{eqb, lit<}
 use Rattle.laws.specs.If.{if_then_else_}
 use Rattle.field.specs.Field.{Field, read, write, flag, digit}
-use Rattle.field.specs.Settings.{Setting, _:=_, settings}
+use Rattle.field.specs.Settings.{Setting, _:=_, settings, AllFit}
 use Rattle.field.proofs.Laws.{field-lt, write-read}
-use Rattle.field.proofs.Sets.{AllFit, fieldAt, valueAt, own, settings-lt, tiled}
+use Rattle.field.proofs.Sets.{fieldAt, valueAt, own, settings-lt, tiled}
 use Rattle.header.specs.declared.Header.{Header}
 use Rattle.header.specs.Header.{SID, EID, DLC, IDE, RTR, BRS, FDF, ESI, SEQ, topId, sidOf, eidOf, idIn, word0, word1, headerOf, meaning0, meaning1}
 

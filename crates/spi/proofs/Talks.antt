@@ -1,6 +1,6 @@
 -- The laws of talks: what a machine that follows one says after any answers, and how many asks there are.
 -- Assumes nothing.
-use Prim.Native.Nat.{ℕ, zero, suc, _+_, _≤_}
+use Prim.Native.Nat.{ℕ, zero, suc, _+_, _≤_, _<_}
 use native.Mathlib.Nat.{le-of-suc-le-suc, not-suc-le-zero}
 use native.Mathlib.Omega.{arith}
 use mathlib.Core.Path.{_≡_, refl, sym, ap, _∙_}
@@ -60,6 +60,10 @@ module _ {A : Type 0} where
   more zero m (ask q k) l h = absurd h
   more (suc n) zero (ask q k) l h = absurd (not-suc-le-zero l)
   more (suc n) (suc m) (ask q k) l h = λ a rx. more n m (k a rx) (le-of-suc-le-suc l) (h a rx)
+
+  pub ask-within : (n m : ℕ) (q : Ask) (k : Answer → List ℕ → Talk A) → n < m → ((a : Answer) (rx : List ℕ) → Within n (k a rx)) → Within m (ask q k)
+  ask-within n zero q k l h = absurd (not-suc-le-zero l)
+  ask-within n (suc m) q k l h = λ a rx. more n m (k a rx) (le-of-suc-le-suc l) (h a rx)
 
   pub word-within : (n : ℕ) (x : OneWord) (k : ℕ → Talk A) → ((w : ℕ) → Within n (k w)) → Within n (onWord refused x k)
   word-within n (OneWord.Word w) k h = h w

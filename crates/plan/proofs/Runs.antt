@@ -1,0 +1,222 @@
+-- The machine and the talk say the same of every answer.
+-- Assumes nothing.
+use Prim.Native.Nat.{ℕ, zero, suc, _+_, _-_, _*_, _≤_, _<_}
+use mathlib.Core.Path.{_≡_, refl, sym, ap, _∙_}
+use mathlib.Core.Bool.{Bool, true, false, false≢true}
+use mathlib.Core.List.{List, [], _∷_, _++_}
+use native.Mathlib.Omega.{arith}
+use lib.ListN.{length, drop, replicate}
+use lib.Seq.{drop-drop}
+use lib.Dec.{eqb, eqb·suc-zero}
+use Rattle.laws.specs.If.{if_then_else_}
+use Rattle.spi.specs.declared.refusal.Refusal.{Refusal}
+use Rattle.spi.specs.declared.ask.Ask.{Ask}
+use Rattle.spi.specs.declared.ask.Answer.{Answer}
+use Rattle.spi.specs.Reply.{wordReply, doneReply, waitReply}
+use Rattle.spi.specs.Talk.{Talk, done, refused, onWord, onDone, readWord, writeWord, pause, answered, run, asks, Follows, Within}
+use Rattle.spi.proofs.Talks.{if-ap, on-word, on-done, runs, more, ask-within, word-within, done-within, if-within}
+use Rattle.call.specs.declared.Outcome.{Outcome}
+use Rattle.call.specs.Outcome.{ended}
+use Rattle.plan.specs.declared.item.Poll.{Poll}
+use Rattle.plan.specs.declared.item.Item.{Item}
+use Rattle.plan.specs.declared.plan.Slot.{Slot}
+use Rattle.plan.specs.declared.plan.PlanAt.{PlanAt}
+use Rattle.plan.specs.declared.plan.Plan.{Plan}
+use Rattle.plan.specs.declared.plan.Move.{Move}
+use Rattle.plan.specs.Change.{modified}
+use Rattle.plan.specs.Item.{addressOf, shown, lateOf, echoWord, isThere}
+use Rattle.plan.specs.Step.{begun, afterPoll, afterEcho, stopped, nextAt, placeFrom, standing, arrivedAt, slots, filled, planOf, refusedPlan, movedTo, stepOf, askAt, askOf, outcomeAt, outcomeOf}
+use Rattle.plan.specs.Talk.{changeTalk, pollTalk, readBack, echoRest, echoTalk, talkAt, itemTalk, planTalk, listed, talkOf, asksOf, allAsks}
+
+-- the talk after a move: of the phase, or of the items that are left
+module _ (failed : Refusal) (k : Talk Outcome) where
+  abbrev moveTalk : Move → Talk Outcome
+  moveTalk (Move.To at) = talkAt failed at k
+  moveTalk Move.Next = k
+
+  -- the last poll, and one with more behind it
+  poll-talk : (p : Poll) (n w : ℕ) → moveTalk (afterPoll p zero w) ≡ (if shown p w then k else refused (lateOf p))
+  unfolding afterPoll
+  poll-talk p n w = if-ap moveTalk (shown p w) Move.Next (stopped (lateOf p))
+
+  poll-more : (p : Poll) (n w : ℕ) → moveTalk (afterPoll p (suc n) w) ≡ (if shown p w then k else pause (pollTalk failed p n k))
+  unfolding afterPoll
+  poll-more p n w =
+      let e : suc n - 1 ≡ n = omega arith in
+      ap (λ (b : Bool). moveTalk (if shown p w then Move.Next else if b then stopped (lateOf p) else Move.To (PlanAt.Wait p (suc n - 1)))) (eqb·suc-zero n)
+      ∙ if-ap moveTalk (shown p w) Move.Next (Move.To (PlanAt.Wait p (suc n - 1)))
+      ∙ ap (λ (m : ℕ). if shown p w then k else pause (pollTalk failed p m k)) e
+
+  -- the echo of a word
+  echo-last : (w : ℕ) → moveTalk (afterEcho zero w) ≡ (if eqb w (echoWord zero) then k else refused Refusal.SpiFailedRamEcho)
+  unfolding afterEcho
+  echo-last w = if-ap moveTalk (eqb w (echoWord zero)) Move.Next (stopped Refusal.SpiFailedRamEcho)
+
+  echo-more : (n w : ℕ) → moveTalk (afterEcho (suc n) w) ≡ (if eqb w (echoWord (suc n)) then echoTalk failed n k else refused Refusal.SpiFailedRamEcho)
+  unfolding afterEcho
+  echo-more n w =
+      let e : suc n - 1 ≡ n = omega arith in
+      ap (λ (b : Bool). moveTalk (if eqb w (echoWord (suc n)) then if b then Move.Next else Move.To (PlanAt.EchoWrite (suc n - 1)) else stopped Refusal.SpiFailedRamEcho)) (eqb·suc-zero n)
+      ∙ if-ap moveTalk (eqb w (echoWord (suc n))) (Move.To (PlanAt.EchoWrite (suc n - 1))) (stopped Refusal.SpiFailedRamEcho)
+      ∙ ap (λ (m : ℕ). if eqb w (echoWord (suc n)) then echoTalk failed m k else refused Refusal.SpiFailedRamEcho) e
+
+  move-talk : (at : PlanAt) (a : Answer) (rx : List ℕ) → moveTalk (nextAt failed at a rx) ≡ answered (talkAt failed at k) a rx
+  unfolding answered pollTalk echoRest
+  move-talk (PlanAt.Read c) a rx = on-word moveTalk stopped refused (λ r. refl) (wordReply failed a rx) _ _ (λ w. refl)
+  move-talk (PlanAt.Write address word) a rx = on-done moveTalk stopped refused (λ r. refl) (doneReply failed a (length rx) 0) _ _ refl
+  move-talk (PlanAt.Poll p zero) a rx = on-word moveTalk stopped refused (λ r. refl) (wordReply failed a rx) _ _ (poll-talk p zero)
+  move-talk (PlanAt.Poll p (suc n)) a rx = on-word moveTalk stopped refused (λ r. refl) (wordReply failed a rx) _ _ (poll-more p n)
+  move-talk (PlanAt.Wait p n) a rx = on-done moveTalk stopped refused (λ r. refl) (waitReply a) _ _ refl
+  move-talk (PlanAt.EchoWrite left) a rx = on-done moveTalk stopped refused (λ r. refl) (doneReply failed a (length rx) 0) _ _ refl
+  move-talk (PlanAt.EchoRead zero) a rx = on-word moveTalk stopped refused (λ r. refl) (wordReply failed a rx) _ _ echo-last
+  move-talk (PlanAt.EchoRead (suc n)) a rx = on-word moveTalk stopped refused (λ r. refl) (wordReply failed a rx) _ _ (echo-more n)
+  move-talk PlanAt.Done a rx = refl
+  move-talk (PlanAt.Refused r) a rx = refl
+
+  ask-talk : (at : PlanAt) → askAt at ≡ asks (talkAt failed at k)
+  unfolding pollTalk
+  ask-talk (PlanAt.Read c) = refl
+  ask-talk (PlanAt.Write address word) = refl
+  ask-talk (PlanAt.Poll p zero) = refl
+  ask-talk (PlanAt.Poll p (suc n)) = refl
+  ask-talk (PlanAt.Wait p n) = refl
+  ask-talk (PlanAt.EchoWrite left) = refl
+  ask-talk (PlanAt.EchoRead left) = refl
+  ask-talk PlanAt.Done = refl
+  ask-talk (PlanAt.Refused r) = refl
+
+  out-talk : (at : PlanAt) → outcomeAt at ≡ ended (λ x. x) (talkAt failed at k)
+  unfolding pollTalk
+  out-talk (PlanAt.Read c) = refl
+  out-talk (PlanAt.Write address word) = refl
+  out-talk (PlanAt.Poll p zero) = refl
+  out-talk (PlanAt.Poll p (suc n)) = refl
+  out-talk (PlanAt.Wait p n) = refl
+  out-talk (PlanAt.EchoWrite left) = refl
+  out-talk (PlanAt.EchoRead left) = refl
+  out-talk PlanAt.Done = refl
+  out-talk (PlanAt.Refused r) = refl
+
+-- ---- the next item is the first one that is left and does anything
+
+begun-talk : (failed : Refusal) (item : Item) (k : Talk Outcome) → isThere item ≡ true → talkAt failed (begun item) k ≡ itemTalk failed item k
+begun-talk failed (Item.Change c) k e = refl
+begun-talk failed (Item.Poll p n) k e = refl
+begun-talk failed Item.Echo k e = refl
+begun-talk failed Item.Nothing k e = absurd (false≢true e)
+
+idle-talk : (failed : Refusal) (item : Item) (k : Talk Outcome) → isThere item ≡ false → k ≡ itemTalk failed item k
+idle-talk failed (Item.Change c) k e = absurd (false≢true (sym e))
+idle-talk failed (Item.Poll p n) k e = absurd (false≢true (sym e))
+idle-talk failed Item.Echo k e = absurd (false≢true (sym e))
+idle-talk failed Item.Nothing k e = refl
+
+module _ (failed : Refusal) (items : List Slot) where
+  abbrev standTalk : ℕ → Talk Outcome
+  standTalk i = talkOf (standing failed items i (drop i items))
+
+  -- these items, the first of them apart, are there from place i on
+  tail-of : (i : ℕ) (s : Slot) (ss : List Slot) → drop i items ≡ s ∷ ss → drop (i + 1) items ≡ ss
+  tail-of i s ss e = sym (drop-drop 1 i items) ∙ ap (drop 1) e
+
+  here-talk : (i : ℕ) (s : Slot) (ss : List Slot) → drop i items ≡ s ∷ ss → isThere (s .item) ≡ true → standTalk i ≡ itemTalk failed (s .item) (planTalk failed (listed ss))
+  here-talk i s ss e h =
+      ap (λ l. talkOf (standing failed items i l)) e
+      ∙ begun-talk failed (s .item) _ h
+      ∙ ap (λ l. itemTalk failed (s .item) (planTalk failed (listed l))) (tail-of i s ss e)
+
+  stand-talk : (i : ℕ) (ss : List Slot) → drop i items ≡ ss → standTalk (placeFrom i ss) ≡ planTalk failed (listed ss)
+  unfolding planTalk
+  stand-talk i [] e = ap (λ l. talkOf (standing failed items i l)) e
+  stand-talk i (s ∷ ss) e = go (isThere (s .item)) refl (stand-talk (i + 1) ss (tail-of i s ss e))
+    where
+      go : (b : Bool) → isThere (s .item) ≡ b → standTalk (placeFrom (i + 1) ss) ≡ planTalk failed (listed ss)
+          → standTalk (if b then i else placeFrom (i + 1) ss) ≡ itemTalk failed (s .item) (planTalk failed (listed ss))
+      go true h later = here-talk i s ss e h
+      go false h later = later ∙ idle-talk failed (s .item) (planTalk failed (listed ss)) h
+
+  pub arrive-talk : (i : ℕ) → talkOf (arrivedAt failed items i) ≡ planTalk failed (listed (drop i items))
+  unfolding arrivedAt
+  arrive-talk i = stand-talk i (drop i items) refl
+
+moved : (s : Plan) (m : Move) → talkOf (movedTo s m) ≡ moveTalk (s .failed) (planTalk (s .failed) (listed (drop (s .next) (s .items)))) m
+moved s (Move.To at) = refl
+moved s Move.Next = arrive-talk (s .failed) (s .items) (s .next)
+
+stepped : (s : Plan) (a : Answer) (rx : List ℕ) → talkOf (stepOf s a rx) ≡ answered (talkOf s) a rx
+unfolding stepOf
+stepped s a rx = moved s (nextAt (s .failed) (s .at) a rx) ∙ move-talk (s .failed) _ (s .at) a rx
+
+pub follows : Follows stepOf askOf talkOf
+follows = record { stepped = stepped; asked = λ s. ask-talk (s .failed) _ (s .at) }
+
+pub run-talk : (s : Plan) (xs : List (Answer × List ℕ)) → talkOf (run stepOf s xs) ≡ run answered (talkOf s) xs
+run-talk = runs stepOf askOf talkOf follows
+
+pub outcome-talk : (s : Plan) → outcomeOf s ≡ ended (λ x. x) (talkOf s)
+outcome-talk s = out-talk (s .failed) _ (s .at)
+
+-- ---- a plan begins with its items
+
+listed-nothing : (failed : Refusal) (n : ℕ) → planTalk failed (listed (replicate n (record { item = Item.Nothing }))) ≡ done Outcome.Done
+unfolding planTalk
+listed-nothing failed zero = refl
+listed-nothing failed (suc n) = listed-nothing failed n
+
+listed-slots : (failed : Refusal) (n : ℕ) (items : List Item) → planTalk failed (listed (slots items ++ replicate n (record { item = Item.Nothing }))) ≡ planTalk failed items
+unfolding planTalk
+listed-slots failed n [] = listed-nothing failed n
+listed-slots failed n (i ∷ is) = ap (itemTalk failed i) (listed-slots failed n is)
+
+pub start-talk : (failed : Refusal) (items : List Item) → talkOf (planOf failed items) ≡ planTalk failed items
+start-talk failed items = arrive-talk failed (filled items) 0 ∙ listed-slots failed (15 - length items) items
+
+pub refused-talk : (r : Refusal) → talkOf (refusedPlan r) ≡ refused r
+refused-talk r = refl
+
+-- ---- how often a plan asks
+
+-- a read and a write in front
+read-within : (n m : ℕ) (failed : Refusal) (address : ℕ) (k : ℕ → Talk Outcome) → n < m → ((w : ℕ) → Within n (k w)) → Within m (readWord failed address k)
+read-within n m failed address k l h = ask-within n m (Ask.Read address 4) (λ a rx. onWord refused (wordReply failed a rx) k) l (λ a rx. word-within n (wordReply failed a rx) k h)
+
+write-within : (n m : ℕ) (failed : Refusal) (address word : ℕ) (k : Talk Outcome) → n < m → Within n k → Within m (writeWord failed address word k)
+write-within n m failed address word k l h = ask-within n m (Ask.Word address word) (λ a rx. onDone refused (doneReply failed a (length rx) 0) k) l (λ a rx. done-within n (doneReply failed a (length rx) 0) k h)
+
+pause-within : (n m : ℕ) (k : Talk Outcome) → n < m → Within n k → Within m (pause k)
+pause-within n m k l h = ask-within n m Ask.Wait (λ a rx. onDone refused (waitReply a) k) l (λ a rx. done-within n (waitReply a) k h)
+
+module _ (failed : Refusal) (k : Talk Outcome) (n : ℕ) (h : Within n k) where
+  poll-within : (p : Poll) (left m : ℕ) → 1 + 2 * left + n ≤ m → Within m (pollTalk failed p left k)
+  unfolding pollTalk
+  poll-within p zero m l =
+      read-within n m failed (addressOf p) (λ w. if shown p w then k else refused (lateOf p)) (omega arith)
+      (λ w. if-within n (shown p w) k (refused (lateOf p)) h tt)
+  poll-within p (suc left) m l =
+      let c = 1 + 2 * left + n in
+      read-within (suc c) m failed (addressOf p) (λ w. if shown p w then k else pause (pollTalk failed p left k)) (omega arith)
+      (λ w. if-within (suc c) (shown p w) k (pause (pollTalk failed p left k)) (more n (suc c) k (omega arith) h)
+      (pause-within c (suc c) (pollTalk failed p left k) (omega arith) (poll-within p left c (omega arith))))
+
+  rest-within : (left m : ℕ) → 2 * left + n ≤ m → Within m (echoRest failed left k)
+  unfolding echoRest
+  rest-within zero m l = more n m k (omega arith) h
+  rest-within (suc left) m l =
+      let c = 2 * left + n in
+      write-within (suc c) m failed 0x400 (echoWord left) (readBack failed (echoWord left) (echoRest failed left k)) (omega arith)
+      (read-within c (suc c) failed 0x400 (λ w. if eqb w (echoWord left) then echoRest failed left k else refused Refusal.SpiFailedRamEcho) (omega arith)
+      (λ w. if-within c (eqb w (echoWord left)) (echoRest failed left k) (refused Refusal.SpiFailedRamEcho) (rest-within left c (omega arith)) tt))
+
+  item-within : (item : Item) (m : ℕ) → asksOf item + n ≤ m → Within m (itemTalk failed item k)
+  unfolding echoRest
+  item-within (Item.Change c) m l =
+      read-within (suc n) m failed (c .address) (λ w. writeWord failed (c .address) (modified c w) k) (omega arith)
+      (λ w. write-within n (suc n) failed (c .address) (modified c w) k (omega arith) h)
+  item-within (Item.Poll p left) m l = poll-within p left m l
+  item-within Item.Echo m l = rest-within 32 m l
+  item-within Item.Nothing m l = more n m k (omega arith) h
+
+pub bound : (failed : Refusal) (items : List Item) → Within (allAsks items) (planTalk failed items)
+unfolding planTalk
+bound failed [] = tt
+bound failed (item ∷ items) = item-within failed (planTalk failed items) (allAsks items) (bound failed items) item (asksOf item + allAsks items) (omega arith)

@@ -1,0 +1,19 @@
+-- `plan::plan::ask_at` meets its contract.
+-- Assumes nothing.
+use borrow.Author.Needs.{needs}
+use Rattle.plan.proofs.plan.ask_at.Statement.{statement}
+use Rattle.plan.proofs.plan.ask_at.Tie as tie
+
+pub ask-at-spec : {M : Type 1} → statement M
+ask-at-spec =
+    tie.close
+    (tie.spec (search needs) (search needs) (search needs) (λ c κs. search needs) (search needs) (search needs) (λ c κs. search needs) (search needs)
+    (search needs) (search needs)
+    (λ c. simp (c .before .at .given .1))
+    (λ c. simp (c .before .at2 .given .1))
+    (λ c. simp (c .poll-address .ensures, c .before .before .at3 .given .1))
+    (λ c. simp (c .enum-told .given .1))
+    (λ c. simp (c .echo-word .ensures, c .before .before .at4 .given .1))
+    (λ c. simp (c .enum-told2 .given .1))
+    (λ c. simp (c .enum-told3 .given .1))
+    (λ c. simp (c .enum-told4 .given .1)))

@@ -1,0 +1,29 @@
+-- A change of one register: read, and written with some fields set and every other bit as read.
+-- Assumes nothing.
+use Prim.Native.Nat.{ℕ, _-_, _^_, _<_}
+use mathlib.Core.Path.{_≡_}
+use mathlib.Core.List.{List, [], _∷_}
+use lib.Bits.{bitAnd, bitOr}
+use Rattle.field.specs.Field.{place, withField}
+use Rattle.field.specs.Settings.{Setting, _:=_, settings, AllFit}
+use Rattle.plan.specs.declared.change.Change.{Change}
+
+-- the word that is written for one that was read
+unfoldable pub modified : Change → ℕ → ℕ
+modified c w = bitOr (bitAnd w (c .keep)) (c .set)
+
+-- one field more is set
+abbrev pub setting : Setting → Change → Change
+setting (place p k := v) c = record { address = c .address; keep = withField (c .keep) p k 0; set = withField (c .set) p k v }
+
+abbrev pub settingAll : List Setting → Change → Change
+settingAll [] c = c
+settingAll (s ∷ ss) c = settingAll ss (setting s c)
+
+-- the change that sets these fields of the register at an address
+abbrev pub changeOf : ℕ → List Setting → Change
+changeOf address ss = settingAll ss (record { address = address; keep = 2 ^ 32 - 1; set = 0 })
+
+-- it writes what the fields set one after the other make of the word read
+abbrev pub ChangeSets : Type 0
+ChangeSets = (address : ℕ) (ss : List Setting) (w : ℕ) → w < 2 ^ 32 → AllFit ss → modified (changeOf address ss) w ≡ settings ss w

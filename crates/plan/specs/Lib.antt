@@ -1,0 +1,4 @@
+pub mod Change
+pub mod Item
+pub mod Step
+pub mod Talk
