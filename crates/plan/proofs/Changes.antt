@@ -2,7 +2,7 @@
 -- Assumes nothing.
 use Prim.Native.Nat.{ℕ, _+_, _-_, _*_, _/_, _%_, _^_, _<_}
 use mathlib.Core.Path.{_≡_, refl, sym, ap, ap₂, _∙_}
-use mathlib.Core.List.{List, [], _∷_}
+use mathlib.Core.List.{List, [], _∷_, _++_}
 use native.Mathlib.Nat.{mod-lt, mod-eq-of-lt}
 use lib.Pow.{pow-pos, split}
 use lib.Bits.{bitAnd, bitOr, and-block, or-block, and-shr, or-shr, and-mod, or-mod, and-lt, and-mask, and-zero-r, or-zero-l, or-zero-r}
@@ -34,7 +34,7 @@ module _ (w m s p k v : ℕ) where
   one-field h =
       ap (λ x. bitOr x ((s / 2 ^ p / 2 ^ k * 2 ^ k + v) * 2 ^ p + s % 2 ^ p)) kept
       ∙ or-block p (bitAnd (high w) (high m) * 2 ^ k + 0) (high s * 2 ^ k + v) (bitAnd (low w) (low m)) (low s)
-        (and-lt p (low w) (low m) (mod-lt w (pow-pos p)) (mod-lt m (pow-pos p))) (mod-lt s (pow-pos p))
+      (and-lt p (low w) (low m) (mod-lt w (pow-pos p)) (mod-lt m (pow-pos p))) (mod-lt s (pow-pos p))
       ∙ ap₂ (λ x y. x * 2 ^ p + y)
       (or-block k (bitAnd (high w) (high m)) (high s) 0 v (pow-pos k) h
       ∙ ap₂ (λ x y. x * 2 ^ k + y) (sym above) (or-zero-l v))
@@ -45,6 +45,11 @@ module _ (w m s p k v : ℕ) where
 
       below : bitOr (bitAnd w m) s % 2 ^ p ≡ bitOr (bitAnd (w % 2 ^ p) (m % 2 ^ p)) (s % 2 ^ p)
       below = rw (or-mod (bitAnd w m) s p, and-mod w m p)
+
+-- settings in two parts
+pub set-parts : (ss ts : List Setting) (c : Change) → settingAll (ss ++ ts) c ≡ settingAll ts (settingAll ss c)
+set-parts [] ts c = refl
+set-parts (s ∷ ss) ts c = set-parts ss ts (setting s c)
 
 -- all of them
 sets-from : (c : Change) (ss : List Setting) (w : ℕ) → AllFit ss → modified (settingAll ss c) w ≡ settings ss (modified c w)

@@ -26,6 +26,7 @@ use Rattle.plan.specs.declared.plan.Move.{Move}
 use Rattle.plan.specs.Change.{modified}
 use Rattle.plan.specs.Item.{addressOf, shown, lateOf, echoWord, isThere}
 use Rattle.plan.specs.Step.{begun, afterPoll, afterEcho, stopped, nextAt, placeFrom, standing, arrivedAt, slots, filled, planOf, refusedPlan, movedTo, stepOf, askAt, askOf, outcomeAt, outcomeOf}
+use Rattle.plan.specs.Prepared.{Prepared, ready, turnedDown, planFor, talkFor, asksFor}
 use Rattle.plan.specs.Talk.{changeTalk, pollTalk, readBack, echoRest, echoTalk, talkAt, itemTalk, planTalk, listed, talkOf, asksOf, allAsks}
 
 -- the talk after a move: of the phase, or of the items that are left
@@ -171,9 +172,6 @@ listed-slots failed n (i ∷ is) = ap (itemTalk failed i) (listed-slots failed n
 pub start-talk : (failed : Refusal) (items : List Item) → talkOf (planOf failed items) ≡ planTalk failed items
 start-talk failed items = arrive-talk failed (filled items) 0 ∙ listed-slots failed (15 - length items) items
 
-pub refused-talk : (r : Refusal) → talkOf (refusedPlan r) ≡ refused r
-refused-talk r = refl
-
 -- ---- how often a plan asks
 
 -- a read and a write in front
@@ -220,3 +218,13 @@ pub bound : (failed : Refusal) (items : List Item) → Within (allAsks items) (p
 unfolding planTalk
 bound failed [] = tt
 bound failed (item ∷ items) = item-within failed (planTalk failed items) (allAsks items) (bound failed items) item (asksOf item + allAsks items) (omega arith)
+
+-- ---- calls that are plans
+
+pub call-talk : (p : Prepared) → talkOf (planFor p) ≡ talkFor p
+call-talk (ready failed items) = start-talk failed items
+call-talk (turnedDown r) = refl
+
+pub call-bound : (p : Prepared) → Within (asksFor p) (talkFor p)
+call-bound (ready failed items) = bound failed items
+call-bound (turnedDown r) = tt

@@ -1,4 +1,5 @@
 pub mod Change
 pub mod Item
+pub mod Prepared
 pub mod Step
 pub mod Talk

@@ -2,9 +2,9 @@
 ghost use mathlib.Core.Path.{_≡_};
 ghost use Prim.Native.Nat.{_-_, _^_};
 ghost use Rattle.plan.specs.Item.{addressOf, shown, lateOf, echoWord, isThere};
+use crate::Change;
 use chip::OscillatorControl;
 use configuration::CanControl;
-use crate::Change;
 use spi::Refusal;
 
 // What is waited for: the mode that CiCON shows, with the refusal where it does not come; PLLRDY.

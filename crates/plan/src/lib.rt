@@ -1,9 +1,12 @@
 // What modify, request and every mode, configuration and short echo call do: a list of items, carried out one after the other
 // by one machine.
+mod calls;
 mod change;
 mod item;
 mod plan;
 
+pub use calls::modify_start;
+pub use calls::verify_start;
 pub use change::Change;
 pub use change::changing;
 pub use change::keeping;

@@ -1,0 +1,11 @@
+-- `configure::changes::counter_change` meets its contract.
+-- Assumes nothing.
+use borrow.Author.Needs.{needs}
+use Rattle.configure.proofs.changes.counter_change.Statement.{statement}
+use Rattle.configure.proofs.changes.counter_change.Tie as tie
+
+pub counter-change-spec : {M : Type 1} → statement M
+counter-change-spec =
+    tie.close
+    (tie.spec (λ c κs. search needs) (λ c κs. search needs) (λ c κs. search needs)
+    (λ c. simp (c .with-flag .ensures, c .before .changing .ensures, c .before .before .address .ensures)))

@@ -1,0 +1,11 @@
+-- `configure::changes::dncnt_change` meets its contract.
+-- Assumes nothing.
+use borrow.Author.Needs.{needs}
+use Rattle.configure.proofs.changes.dncnt_change.Statement.{statement}
+use Rattle.configure.proofs.changes.dncnt_change.Tie as tie
+
+pub dncnt-change-spec : {M : Type 1} → statement M
+dncnt-change-spec =
+    tie.close
+    (tie.spec (λ c κs. search needs) (λ c κs. search needs) (λ c κs. search needs)
+    (λ c. simp (c .with-field .ensures, c .before .changing .ensures, c .before .before .address .ensures)))

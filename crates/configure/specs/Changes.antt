@@ -1,0 +1,100 @@
+-- The changes that configuration calls make: which fields of which register are set, to what. Every other bit is as read.
+-- Assumes nothing.
+use Prim.Native.Nat.{ℕ, _/_, _%_, _^_}
+use mathlib.Core.Bool.{Bool, true, false, _&&_}
+use mathlib.Core.List.{List, [], _∷_, _++_}
+use lib.Dec.{ltb, leb}
+use Rattle.laws.specs.If.{if_then_else_}
+use Rattle.field.specs.Field.{Field, place, digit}
+use Rattle.field.specs.Settings.{Setting, _:=_}
+use Rattle.configuration.specs.CanControl.{CiCON, REQOP, STEF, TXQEN, DNCNT, RTXAT}
+use Rattle.configuration.specs.TimeStampControl.{CiTSCON, TBCEN}
+use Rattle.chip.specs.OscillatorControl.{OSC, PLLEN, OSCDIS, SCLKDIV}
+use Rattle.chip.specs.IoControl.{IOCON, XSTBYEN, TXCANOD, SOF, INTOD}
+use Rattle.bit_timing.specs.Nominal as nbt
+use Rattle.bit_timing.specs.Data as dbt
+use Rattle.bit_timing.specs.Delay.{CiTDC, TDCV, TDCO, TDCMOD}
+use Rattle.interrupt.specs.Interrupt.{CiINT, IE}
+use Rattle.interrupt.specs.declared.Cause.{Cause}
+use Rattle.plan.specs.declared.change.Change.{Change}
+use Rattle.plan.specs.Change.{changeOf}
+use Rattle.configure.specs.declared.settings.OscillatorConfiguration.{OscillatorConfiguration}
+use Rattle.configure.specs.declared.settings.IoConfiguration.{IoConfiguration}
+use Rattle.configure.specs.declared.settings.NominalBitTime.{NominalBitTime}
+use Rattle.configure.specs.declared.settings.DataBitTime.{DataBitTime}
+use Rattle.configure.specs.declared.settings.BitTimeConfiguration.{BitTimeConfiguration}
+use Rattle.configure.specs.declared.settings.Settings.{Settings}
+
+-- a value that is not wider than its field, and all values of a list
+abbrev pub fits : Field → ℕ → Bool
+fits (place p k) v = ltb v (2 ^ k)
+
+abbrev pub allFit : List Setting → Bool
+allFit [] = true
+allFit (f := v ∷ ss) = fits f v && allFit ss
+
+-- ---- mode, oscillator, IO
+
+abbrev pub modeChange : ℕ → Change
+modeChange m = changeOf (CiCON .address 0) (REQOP := m ∷ [])
+
+abbrev pub oscillatorChange : OscillatorConfiguration → Change
+oscillatorChange o = changeOf (OSC .address 0) (PLLEN := digit (o .pll) ∷ SCLKDIV := digit (o .divide) ∷ OSCDIS := 0 ∷ [])
+
+abbrev pub ioChange : IoConfiguration → Change
+ioChange c =
+    changeOf (IOCON .address 0)
+    (XSTBYEN := digit (c .xstbyen) ∷ TXCANOD := digit (c .txcanod) ∷ SOF := digit (c .sof) ∷ INTOD := digit (c .intod) ∷ [])
+
+-- ---- bit timing
+
+abbrev pub nominalSettings : NominalBitTime → List Setting
+nominalSettings n = nbt.BRP := n .brp ∷ nbt.TSEG1 := n .tseg1 ∷ nbt.TSEG2 := n .tseg2 ∷ nbt.SJW := n .sjw ∷ []
+
+abbrev pub dataSettings : DataBitTime → List Setting
+dataSettings d = dbt.BRP := d .brp ∷ dbt.TSEG1 := d .tseg1 ∷ dbt.TSEG2 := d .tseg2 ∷ dbt.SJW := d .sjw ∷ []
+
+-- TDCMOD 2 is automatic
+abbrev pub delaySettings : DataBitTime → List Setting
+delaySettings d = TDCMOD := 2 ∷ TDCO := d .tdco ∷ TDCV := 0 ∷ []
+
+abbrev pub nominalChange : NominalBitTime → Change
+nominalChange n = changeOf (nbt.CiNBTCFG .address 0) (nominalSettings n)
+
+abbrev pub dataChange : DataBitTime → Change
+dataChange d = changeOf (dbt.CiDBTCFG .address 0) (dataSettings d)
+
+abbrev pub delayChange : DataBitTime → Change
+delayChange d = changeOf (CiTDC .address 0) (delaySettings d)
+
+-- ---- what else `configure` changes: event FIFO and transmit queue off, counter on, the data bits, attempts by RTXAT
+
+abbrev pub stefChange : Change
+stefChange = changeOf (CiCON .address 0) (STEF := 0 ∷ [])
+
+abbrev pub txqenChange : Change
+txqenChange = changeOf (CiCON .address 0) (TXQEN := 0 ∷ [])
+
+abbrev pub counterChange : Change
+counterChange = changeOf (CiTSCON .address 0) (TBCEN := 1 ∷ [])
+
+abbrev pub dncntChange : ℕ → Change
+dncntChange n = changeOf (CiCON .address 0) (DNCNT := n ∷ [])
+
+abbrev pub rtxatChange : Change
+rtxatChange = changeOf (CiCON .address 0) (RTXAT := 1 ∷ [])
+
+-- interrupts: what is not asked for stays as read
+abbrev pub asked : Bool → List Setting → List Setting
+asked on ss = if on then ss else []
+
+abbrev pub interruptSettings : Settings → List Setting
+interruptSettings s =
+    IE Cause.Rx := 1 ∷ IE Cause.Tx := 1
+    ∷ asked (s .canerrors) (IE Cause.Ivm := 1 ∷ IE Cause.Cerr := 1 ∷ IE Cause.Serr := 1 ∷ [])
+    ++ asked (s .spierror) (IE Cause.SpiCrc := 1 ∷ [])
+    ++ asked (s .eccerror) (IE Cause.Ecc := 1 ∷ [])
+    ++ asked (s .counter) (IE Cause.Tbc := 1 ∷ [])
+
+abbrev pub interruptChange : Settings → Change
+interruptChange s = changeOf (CiINT .address 0) (interruptSettings s)

@@ -1,0 +1,4 @@
+mod Tests
+mod Pattern
+pub mod Laws
+pub mod Runs

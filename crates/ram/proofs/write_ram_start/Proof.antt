@@ -1,0 +1,16 @@
+-- `ram::write_ram_start` meets its contract.
+-- Assumes nothing.
+use mathlib.Core.Path.{sym, _∙_}
+use borrow.Author.Needs.{needs}
+use Rattle.ram.specs.Step.{writeStart}
+use Rattle.ram.proofs.Tests.{access-fits}
+use Rattle.ram.proofs.write_ram_start.Statement.{statement}
+use Rattle.ram.proofs.write_ram_start.Tie as tie
+
+pub write-ram-start-spec : {M : Type 1} → statement M
+unfolding writeStart
+write-ram-start-spec =
+    tie.close
+    (tie.spec (λ c κs. search needs) (search needs) (λ c. record { fits = access-fits _ _ _ (sym (c .before .before .write-access .ensures) ∙ c .enum-told .given .1) }) (search needs)
+    (λ c. simp (sym (c .before .before .write-access .ensures) ∙ c .enum-told .given .1))
+    (λ c. simp (sym (c .before .before .before .write-access .ensures) ∙ c .before .r .given .1)))

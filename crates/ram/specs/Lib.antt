@@ -1,0 +1,3 @@
+pub mod Echo
+pub mod Step
+pub mod Talk

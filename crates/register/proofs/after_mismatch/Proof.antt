@@ -1,0 +1,15 @@
+-- `register::after_mismatch` meets its contract.
+-- Assumes nothing.
+use borrow.Author.Tests.{eq-eqb, ne-eqb}
+use borrow.Author.Needs.{needs}
+use Rattle.register.specs.Step.{afterMismatch}
+use Rattle.register.proofs.after_mismatch.Statement.{statement}
+use Rattle.register.proofs.after_mismatch.Tie as tie
+
+pub after-mismatch-spec : {M : Type 1} → statement M
+unfolding afterMismatch
+after-mismatch-spec =
+    tie.close
+    (tie.spec (search needs)
+    (λ c. simp (eq-eqb _ _ (c .if1 .taken)))
+    (λ c. simp (ne-eqb _ _ (c .if1 .left))))

@@ -1,0 +1,10 @@
+// Calls on FIFOs that send: a message is pushed.
+mod push;
+
+pub use push::Push;
+pub use push::PushAt;
+pub use push::push_ask;
+pub use push::push_done;
+pub use push::push_outcome;
+pub use push::push_start;
+pub use push::push_step;
