@@ -5,8 +5,8 @@ use mathlib.Core.Path.{_≡_, refl, ap}
 use mathlib.Core.Bool.{Bool, true, false, _&&_}
 use mathlib.Core.List.{List, [], _∷_}
 use native.Mathlib.Omega.{arith}
-use lib.Dec.{ltb, leb}
-use borrow.Author.Tests.{ltb-true, leb-true}
+use lib.Dec.{leb}
+use borrow.Author.Tests.{lt-ltb, le-ltb, ltb-true, leb-true}
 use Rattle.laws.specs.If.{if_then_else_}
 use Rattle.laws.proofs.Table.{both}
 use Rattle.bit_timing.specs.Delay.{TDCO}
@@ -24,6 +24,9 @@ use Rattle.configure.specs.Areas.{directionFits, fifoFits, isIdentifier}
 use Rattle.configure.specs.Calls.{timingFits, isFilter, filterCheck}
 use Rattle.configure.specs.declared.settings.BitTimeConfiguration.{BitTimeConfiguration}
 use Rattle.configure.specs.declared.settings.FilterConfiguration.{FilterConfiguration}
+
+-- what the code found smaller, or not smaller, is so to a definition's test
+pub ruleset tests = (lt-ltb, le-ltb)
 
 abbrev good : Done → ℕ
 good Done.Good = 1

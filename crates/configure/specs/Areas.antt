@@ -2,9 +2,8 @@
 -- Assumes nothing.
 use Prim.Native.Nat.{ℕ, _/_, _%_}
 use mathlib.Core.Bool.{Bool, true, false, _&&_}
-use mathlib.Core.List.{List, [], _∷_, _++_}
-use lib.Dec.{ltb, leb}
-use Rattle.laws.specs.If.{if_then_else_}
+use mathlib.Core.List.{List, [], _∷_}
+use lib.Dec.{leb}
 use Rattle.field.specs.Field.{digit}
 use Rattle.field.specs.Settings.{Setting, _:=_}
 use Rattle.fifo.specs.Control.{CiFIFOCON, TFNRFNIE, TFHRFHIE, TFERFFIE, RXOVIE, TXATIE, RXTSEN, RTREN, TXEN, TXPRI, TXAT, FSIZE, PLSIZE, storedSize}
@@ -14,8 +13,6 @@ use Rattle.filter.specs.Mask.{CiMASK, MSID, MEID, MIDE}
 use Rattle.header.specs.Header.{topId, sidOf, eidOf}
 use Rattle.plan.specs.declared.change.Change.{Change}
 use Rattle.plan.specs.Change.{changeOf}
-use Rattle.configure.specs.declared.settings.TxFifo.{TxFifo}
-use Rattle.configure.specs.declared.settings.RxFifo.{RxFifo}
 use Rattle.configure.specs.declared.settings.FifoMode.{FifoMode}
 use Rattle.configure.specs.declared.settings.FifoConfiguration.{FifoConfiguration}
 use Rattle.configure.specs.declared.settings.Identifier.{Identifier}
@@ -32,9 +29,11 @@ directionSettings (FifoMode.Receive r) =
     TXEN := 0 ∷ RXTSEN := digit (r .rxtsen) ∷ RXOVIE := digit (r .rxovie)
     ∷ TFERFFIE := digit (r .full) ∷ TFHRFHIE := digit (r .half) ∷ TFNRFNIE := digit (r .notempty) ∷ []
 
+abbrev pub fifoSettings : FifoConfiguration → List Setting
+fifoSettings c = FSIZE := storedSize (c .size) ∷ PLSIZE := c .plsize ∷ directionSettings (c .mode)
+
 abbrev pub fifoChange : ℕ → FifoConfiguration → Change
-fifoChange n c =
-    changeOf (CiFIFOCON .address n) (FSIZE := storedSize (c .size) ∷ PLSIZE := c .plsize ∷ directionSettings (c .mode))
+fifoChange n c = changeOf (CiFIFOCON .address n) (fifoSettings c)
 
 -- what is refused 24: size 0, or a field wider than its bits
 abbrev pub directionFits : FifoMode → Bool
@@ -46,11 +45,17 @@ fifoFits c = leb 1 (c .size) && (fits PLSIZE (c .plsize) && directionFits (c .mo
 
 -- ---- a filter: disabled, object, mask, then target and enabled
 
+abbrev pub offSettings : ℕ → List Setting
+offSettings f = FLTEN (f % 4) := 0 ∷ []
+
 abbrev pub offChange : ℕ → Change
-offChange f = changeOf (CiFLTCON .address (f / 4)) (FLTEN (f % 4) := 0 ∷ [])
+offChange f = changeOf (CiFLTCON .address (f / 4)) (offSettings f)
+
+abbrev pub onSettings : (f fifo : ℕ) → List Setting
+onSettings f fifo = FBP (f % 4) := fifo ∷ FLTEN (f % 4) := 1 ∷ []
 
 abbrev pub onChange : (f fifo : ℕ) → Change
-onChange f fifo = changeOf (CiFLTCON .address (f / 4)) (FBP (f % 4) := fifo ∷ FLTEN (f % 4) := 1 ∷ [])
+onChange f fifo = changeOf (CiFLTCON .address (f / 4)) (onSettings f fifo)
 
 -- whether a filter takes extended frames only, and whether it looks at the kind of frame
 abbrev pub extendedOnly : FilterMode → Bool
@@ -63,15 +68,17 @@ oneKind FilterMode.Standard = true
 oneKind FilterMode.Extended = true
 oneKind FilterMode.Both = false
 
+abbrev pub objectSettings : Identifier → FilterMode → List Setting
+objectSettings i mode = SID := sidOf (i .extended) (i .id) ∷ EID := eidOf (i .extended) (i .id) ∷ EXIDE := digit (extendedOnly mode) ∷ []
+
 abbrev pub objectChange : ℕ → Identifier → FilterMode → Change
-objectChange f i mode =
-    changeOf (CiFLTOBJ .address f)
-    (SID := sidOf (i .extended) (i .id) ∷ EID := eidOf (i .extended) (i .id) ∷ EXIDE := digit (extendedOnly mode) ∷ [])
+objectChange f i mode = changeOf (CiFLTOBJ .address f) (objectSettings i mode)
+
+abbrev pub maskSettings : Identifier → FilterMode → List Setting
+maskSettings i mode = MSID := sidOf (i .extended) (i .id) ∷ MEID := eidOf (i .extended) (i .id) ∷ MIDE := digit (oneKind mode) ∷ []
 
 abbrev pub maskChange : ℕ → Identifier → FilterMode → Change
-maskChange f i mode =
-    changeOf (CiMASK .address f)
-    (MSID := sidOf (i .extended) (i .id) ∷ MEID := eidOf (i .extended) (i .id) ∷ MIDE := digit (oneKind mode) ∷ [])
+maskChange f i mode = changeOf (CiMASK .address f) (maskSettings i mode)
 
 -- an identifier that there is
 abbrev pub isIdentifier : Identifier → Bool

@@ -1,9 +1,9 @@
 -- The changes that configuration calls make: which fields of which register are set, to what. Every other bit is as read.
 -- Assumes nothing.
-use Prim.Native.Nat.{ℕ, _/_, _%_, _^_}
-use mathlib.Core.Bool.{Bool, true, false, _&&_}
+use Prim.Native.Nat.{ℕ, _^_}
+use mathlib.Core.Bool.{Bool, true, _&&_}
 use mathlib.Core.List.{List, [], _∷_, _++_}
-use lib.Dec.{ltb, leb}
+use lib.Dec.{ltb}
 use Rattle.laws.specs.If.{if_then_else_}
 use Rattle.field.specs.Field.{Field, place, digit}
 use Rattle.field.specs.Settings.{Setting, _:=_}
@@ -22,7 +22,6 @@ use Rattle.configure.specs.declared.settings.OscillatorConfiguration.{Os
 use Rattle.configure.specs.declared.settings.IoConfiguration.{IoConfiguration}
 use Rattle.configure.specs.declared.settings.NominalBitTime.{NominalBitTime}
 use Rattle.configure.specs.declared.settings.DataBitTime.{DataBitTime}
-use Rattle.configure.specs.declared.settings.BitTimeConfiguration.{BitTimeConfiguration}
 use Rattle.configure.specs.declared.settings.Settings.{Settings}
 
 -- a value that is not wider than its field, and all values of a list
@@ -35,54 +34,76 @@ allFit (f := v ∷ ss) = fits f v && allFit ss
 
 -- ---- mode, oscillator, IO
 
+abbrev pub modeSettings : ℕ → List Setting
+modeSettings m = REQOP := m ∷ []
+
 abbrev pub modeChange : ℕ → Change
-modeChange m = changeOf (CiCON .address 0) (REQOP := m ∷ [])
+modeChange m = changeOf (CiCON .address 0) (modeSettings m)
+
+abbrev pub oscillatorSettings : OscillatorConfiguration → List Setting
+oscillatorSettings o = PLLEN := digit (o .pll) ∷ SCLKDIV := digit (o .divide) ∷ OSCDIS := 0 ∷ []
 
 abbrev pub oscillatorChange : OscillatorConfiguration → Change
-oscillatorChange o = changeOf (OSC .address 0) (PLLEN := digit (o .pll) ∷ SCLKDIV := digit (o .divide) ∷ OSCDIS := 0 ∷ [])
+oscillatorChange o = changeOf (OSC .address 0) (oscillatorSettings o)
+
+abbrev pub ioSettings : IoConfiguration → List Setting
+ioSettings c = XSTBYEN := digit (c .xstbyen) ∷ TXCANOD := digit (c .txcanod) ∷ SOF := digit (c .sof) ∷ INTOD := digit (c .intod) ∷ []
 
 abbrev pub ioChange : IoConfiguration → Change
-ioChange c =
-    changeOf (IOCON .address 0)
-    (XSTBYEN := digit (c .xstbyen) ∷ TXCANOD := digit (c .txcanod) ∷ SOF := digit (c .sof) ∷ INTOD := digit (c .intod) ∷ [])
+ioChange c = changeOf (IOCON .address 0) (ioSettings c)
 
 -- ---- bit timing
 
 abbrev pub nominalSettings : NominalBitTime → List Setting
 nominalSettings n = nbt.BRP := n .brp ∷ nbt.TSEG1 := n .tseg1 ∷ nbt.TSEG2 := n .tseg2 ∷ nbt.SJW := n .sjw ∷ []
 
+abbrev pub nominalChange : NominalBitTime → Change
+nominalChange n = changeOf (nbt.CiNBTCFG .address 0) (nominalSettings n)
+
 abbrev pub dataSettings : DataBitTime → List Setting
 dataSettings d = dbt.BRP := d .brp ∷ dbt.TSEG1 := d .tseg1 ∷ dbt.TSEG2 := d .tseg2 ∷ dbt.SJW := d .sjw ∷ []
+
+abbrev pub dataChange : DataBitTime → Change
+dataChange d = changeOf (dbt.CiDBTCFG .address 0) (dataSettings d)
 
 -- TDCMOD 2 is automatic
 abbrev pub delaySettings : DataBitTime → List Setting
 delaySettings d = TDCMOD := 2 ∷ TDCO := d .tdco ∷ TDCV := 0 ∷ []
-
-abbrev pub nominalChange : NominalBitTime → Change
-nominalChange n = changeOf (nbt.CiNBTCFG .address 0) (nominalSettings n)
-
-abbrev pub dataChange : DataBitTime → Change
-dataChange d = changeOf (dbt.CiDBTCFG .address 0) (dataSettings d)
 
 abbrev pub delayChange : DataBitTime → Change
 delayChange d = changeOf (CiTDC .address 0) (delaySettings d)
 
 -- ---- what else `configure` changes: event FIFO and transmit queue off, counter on, the data bits, attempts by RTXAT
 
+abbrev pub stefSettings : List Setting
+stefSettings = STEF := 0 ∷ []
+
 abbrev pub stefChange : Change
-stefChange = changeOf (CiCON .address 0) (STEF := 0 ∷ [])
+stefChange = changeOf (CiCON .address 0) stefSettings
+
+abbrev pub txqenSettings : List Setting
+txqenSettings = TXQEN := 0 ∷ []
 
 abbrev pub txqenChange : Change
-txqenChange = changeOf (CiCON .address 0) (TXQEN := 0 ∷ [])
+txqenChange = changeOf (CiCON .address 0) txqenSettings
+
+abbrev pub counterSettings : List Setting
+counterSettings = TBCEN := 1 ∷ []
 
 abbrev pub counterChange : Change
-counterChange = changeOf (CiTSCON .address 0) (TBCEN := 1 ∷ [])
+counterChange = changeOf (CiTSCON .address 0) counterSettings
+
+abbrev pub dncntSettings : ℕ → List Setting
+dncntSettings n = DNCNT := n ∷ []
 
 abbrev pub dncntChange : ℕ → Change
-dncntChange n = changeOf (CiCON .address 0) (DNCNT := n ∷ [])
+dncntChange n = changeOf (CiCON .address 0) (dncntSettings n)
+
+abbrev pub rtxatSettings : List Setting
+rtxatSettings = RTXAT := 1 ∷ []
 
 abbrev pub rtxatChange : Change
-rtxatChange = changeOf (CiCON .address 0) (RTXAT := 1 ∷ [])
+rtxatChange = changeOf (CiCON .address 0) rtxatSettings
 
 -- interrupts: what is not asked for stays as read
 abbrev pub asked : Bool → List Setting → List Setting

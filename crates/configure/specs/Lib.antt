@@ -1,3 +1,4 @@
 pub mod Changes
 pub mod Areas
 pub mod Calls
+pub mod Laws

@@ -1,9 +1,9 @@
 -- Where the next item of a plan stands.
 -- Assumes nothing.
-use Prim.Native.Nat.{ℕ, suc, _+_, _≤_, _<_}
-use mathlib.Core.Path.{_≡_, refl, sym, ap, _∙_}
-use mathlib.Core.Bool.{Bool, true, false}
-use mathlib.Core.List.{List, [], _∷_}
+use Prim.Native.Nat.{ℕ, _+_, _≤_, _<_}
+use mathlib.Core.Path.{_≡_, sym, ap, _∙_}
+use mathlib.Core.Bool.{Bool}
+use mathlib.Core.List.{List, _∷_}
 use native.Mathlib.Numerals.{add-one}
 use lib.ListN.{length, getD, drop, drop-of-length-le}
 use lib.Seq.{drop-cons}
@@ -19,11 +19,10 @@ module _ (items : List Slot) (i : ℕ) where
   pub cut : (d : Slot) → i < length items → drop i items ≡ getD items i d ∷ drop (i + 1) items
   cut d l = rw (add-one i) (drop-cons items i d l)
 
-  pub place-here : (d : Slot) → i < length items → isThere (getD items i d .item) ≡ true → placeFrom i (drop i items) ≡ i
-  place-here d l e = ap (placeFrom i) (cut d l) ∙ ap (λ b. if b then i else placeFrom (i + 1) (drop (i + 1) items)) e
-
-  pub place-next : (d : Slot) → i < length items → isThere (getD items i d .item) ≡ false → placeFrom i (drop i items) ≡ placeFrom (i + 1) (drop (i + 1) items)
-  place-next d l e = ap (placeFrom i) (cut d l) ∙ ap (λ b. if b then i else placeFrom (i + 1) (drop (i + 1) items)) e
+  -- whether it does anything tells whether the place is this one
+  pub place-at : (b : Bool) (d : Slot) → i < length items → isThere (getD items i d .item) ≡ b
+      → placeFrom i (drop i items) ≡ (if b then i else placeFrom (i + 1) (drop (i + 1) items))
+  place-at b d l e = ap (placeFrom i) (cut d l) ∙ ap (λ b. if b then i else placeFrom (i + 1) (drop (i + 1) items)) e
 
   pub place-end : length items ≤ i → placeFrom i (drop i items) ≡ i
   place-end l = ap (placeFrom i) (drop-of-length-le items l)

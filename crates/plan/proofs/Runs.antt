@@ -1,14 +1,15 @@
 -- The machine and the talk say the same of every answer.
 -- Assumes nothing.
-use Prim.Native.Nat.{ℕ, zero, suc, _+_, _-_, _*_, _≤_, _<_}
+use Prim.Native.Nat.{ℕ, zero, suc, _+_, _-_, _*_, _^_, _≤_, _<_}
 use mathlib.Core.Path.{_≡_, refl, sym, ap, _∙_}
 use mathlib.Core.Bool.{Bool, true, false, false≢true}
 use mathlib.Core.List.{List, [], _∷_, _++_}
 use native.Mathlib.Omega.{arith}
 use lib.ListN.{length, drop, replicate}
 use lib.Seq.{drop-drop}
-use lib.Dec.{eqb, eqb·suc-zero}
+use lib.Dec.{eqb, eqb·suc-zero, ltb}
 use Rattle.laws.specs.If.{if_then_else_}
+use Rattle.laws.proofs.Choice.{by-if}
 use Rattle.spi.specs.declared.refusal.Refusal.{Refusal}
 use Rattle.spi.specs.declared.ask.Ask.{Ask}
 use Rattle.spi.specs.declared.ask.Answer.{Answer}
@@ -25,9 +26,9 @@ use Rattle.plan.specs.declared.plan.Plan.{Plan}
 use Rattle.plan.specs.declared.plan.Move.{Move}
 use Rattle.plan.specs.Change.{modified}
 use Rattle.plan.specs.Item.{addressOf, shown, lateOf, echoWord, isThere}
-use Rattle.plan.specs.Step.{begun, afterPoll, afterEcho, stopped, nextAt, placeFrom, standing, arrivedAt, slots, filled, planOf, refusedPlan, movedTo, stepOf, askAt, askOf, outcomeAt, outcomeOf}
-use Rattle.plan.specs.Prepared.{Prepared, ready, turnedDown, planFor, talkFor, asksFor}
-use Rattle.plan.specs.Talk.{changeTalk, pollTalk, readBack, echoRest, echoTalk, talkAt, itemTalk, planTalk, listed, talkOf, asksOf, allAsks}
+use Rattle.plan.specs.Step.{begun, afterPoll, afterEcho, stopped, nextAt, placeFrom, standing, arrivedAt, slots, filled, planOf, movedTo, stepOf, askAt, askOf, outcomeAt, outcomeOf}
+use Rattle.plan.specs.Prepared.{Prepared, ready, turnedDown, planFor, talkFor, asksFor, modify, verify}
+use Rattle.plan.specs.Talk.{pollTalk, readBack, echoRest, echoTalk, talkAt, itemTalk, planTalk, listed, talkOf, asksOf, allAsks}
 
 -- the talk after a move: of the phase, or of the items that are left
 module _ (failed : Refusal) (k : Talk Outcome) where
@@ -36,17 +37,15 @@ module _ (failed : Refusal) (k : Talk Outcome) where
   moveTalk Move.Next = k
 
   -- the last poll, and one with more behind it
-  poll-talk : (p : Poll) (n w : ℕ) → moveTalk (afterPoll p zero w) ≡ (if shown p w then k else refused (lateOf p))
+  poll-last : (p : Poll) (w : ℕ) → moveTalk (afterPoll p zero w) ≡ (if shown p w then k else refused (lateOf p))
   unfolding afterPoll
-  poll-talk p n w = if-ap moveTalk (shown p w) Move.Next (stopped (lateOf p))
+  poll-last p w = if-ap moveTalk (shown p w) Move.Next (stopped (lateOf p))
 
   poll-more : (p : Poll) (n w : ℕ) → moveTalk (afterPoll p (suc n) w) ≡ (if shown p w then k else pause (pollTalk failed p n k))
   unfolding afterPoll
   poll-more p n w =
       let e : suc n - 1 ≡ n = omega arith in
-      ap (λ (b : Bool). moveTalk (if shown p w then Move.Next else if b then stopped (lateOf p) else Move.To (PlanAt.Wait p (suc n - 1)))) (eqb·suc-zero n)
-      ∙ if-ap moveTalk (shown p w) Move.Next (Move.To (PlanAt.Wait p (suc n - 1)))
-      ∙ ap (λ (m : ℕ). if shown p w then k else pause (pollTalk failed p m k)) e
+      rw (eqb·suc-zero n, e) (if-ap moveTalk (shown p w) Move.Next (Move.To (PlanAt.Wait p n)))
 
   -- the echo of a word
   echo-last : (w : ℕ) → moveTalk (afterEcho zero w) ≡ (if eqb w (echoWord zero) then k else refused Refusal.SpiFailedRamEcho)
@@ -57,15 +56,13 @@ module _ (failed : Refusal) (k : Talk Outcome) where
   unfolding afterEcho
   echo-more n w =
       let e : suc n - 1 ≡ n = omega arith in
-      ap (λ (b : Bool). moveTalk (if eqb w (echoWord (suc n)) then if b then Move.Next else Move.To (PlanAt.EchoWrite (suc n - 1)) else stopped Refusal.SpiFailedRamEcho)) (eqb·suc-zero n)
-      ∙ if-ap moveTalk (eqb w (echoWord (suc n))) (Move.To (PlanAt.EchoWrite (suc n - 1))) (stopped Refusal.SpiFailedRamEcho)
-      ∙ ap (λ (m : ℕ). if eqb w (echoWord (suc n)) then echoTalk failed m k else refused Refusal.SpiFailedRamEcho) e
+      rw (eqb·suc-zero n, e) (if-ap moveTalk (eqb w (echoWord (suc n))) (Move.To (PlanAt.EchoWrite n)) (stopped Refusal.SpiFailedRamEcho))
 
   move-talk : (at : PlanAt) (a : Answer) (rx : List ℕ) → moveTalk (nextAt failed at a rx) ≡ answered (talkAt failed at k) a rx
   unfolding answered pollTalk echoRest
   move-talk (PlanAt.Read c) a rx = on-word moveTalk stopped refused (λ r. refl) (wordReply failed a rx) _ _ (λ w. refl)
   move-talk (PlanAt.Write address word) a rx = on-done moveTalk stopped refused (λ r. refl) (doneReply failed a (length rx) 0) _ _ refl
-  move-talk (PlanAt.Poll p zero) a rx = on-word moveTalk stopped refused (λ r. refl) (wordReply failed a rx) _ _ (poll-talk p zero)
+  move-talk (PlanAt.Poll p zero) a rx = on-word moveTalk stopped refused (λ r. refl) (wordReply failed a rx) _ _ (poll-last p)
   move-talk (PlanAt.Poll p (suc n)) a rx = on-word moveTalk stopped refused (λ r. refl) (wordReply failed a rx) _ _ (poll-more p n)
   move-talk (PlanAt.Wait p n) a rx = on-done moveTalk stopped refused (λ r. refl) (waitReply a) _ _ refl
   move-talk (PlanAt.EchoWrite left) a rx = on-done moveTalk stopped refused (λ r. refl) (doneReply failed a (length rx) 0) _ _ refl
@@ -74,29 +71,18 @@ module _ (failed : Refusal) (k : Talk Outcome) where
   move-talk PlanAt.Done a rx = refl
   move-talk (PlanAt.Refused r) a rx = refl
 
-  ask-talk : (at : PlanAt) → askAt at ≡ asks (talkAt failed at k)
+  -- what is asked, and how the plan ended
+  shows : (at : PlanAt) → (askAt at ≡ asks (talkAt failed at k)) × (outcomeAt at ≡ ended (λ x. x) (talkAt failed at k))
   unfolding pollTalk
-  ask-talk (PlanAt.Read c) = refl
-  ask-talk (PlanAt.Write address word) = refl
-  ask-talk (PlanAt.Poll p zero) = refl
-  ask-talk (PlanAt.Poll p (suc n)) = refl
-  ask-talk (PlanAt.Wait p n) = refl
-  ask-talk (PlanAt.EchoWrite left) = refl
-  ask-talk (PlanAt.EchoRead left) = refl
-  ask-talk PlanAt.Done = refl
-  ask-talk (PlanAt.Refused r) = refl
-
-  out-talk : (at : PlanAt) → outcomeAt at ≡ ended (λ x. x) (talkAt failed at k)
-  unfolding pollTalk
-  out-talk (PlanAt.Read c) = refl
-  out-talk (PlanAt.Write address word) = refl
-  out-talk (PlanAt.Poll p zero) = refl
-  out-talk (PlanAt.Poll p (suc n)) = refl
-  out-talk (PlanAt.Wait p n) = refl
-  out-talk (PlanAt.EchoWrite left) = refl
-  out-talk (PlanAt.EchoRead left) = refl
-  out-talk PlanAt.Done = refl
-  out-talk (PlanAt.Refused r) = refl
+  shows (PlanAt.Read c) = (refl, refl)
+  shows (PlanAt.Write address word) = (refl, refl)
+  shows (PlanAt.Poll p zero) = (refl, refl)
+  shows (PlanAt.Poll p (suc n)) = (refl, refl)
+  shows (PlanAt.Wait p n) = (refl, refl)
+  shows (PlanAt.EchoWrite left) = (refl, refl)
+  shows (PlanAt.EchoRead left) = (refl, refl)
+  shows PlanAt.Done = (refl, refl)
+  shows (PlanAt.Refused r) = (refl, refl)
 
 -- ---- the next item is the first one that is left and does anything
 
@@ -149,13 +135,13 @@ unfolding stepOf
 stepped s a rx = moved s (nextAt (s .failed) (s .at) a rx) ∙ move-talk (s .failed) _ (s .at) a rx
 
 pub follows : Follows stepOf askOf talkOf
-follows = record { stepped = stepped; asked = λ s. ask-talk (s .failed) _ (s .at) }
+follows = record { stepped = stepped; asked = λ s. shows (s .failed) _ (s .at) .0 }
 
 pub run-talk : (s : Plan) (xs : List (Answer × List ℕ)) → talkOf (run stepOf s xs) ≡ run answered (talkOf s) xs
 run-talk = runs stepOf askOf talkOf follows
 
 pub outcome-talk : (s : Plan) → outcomeOf s ≡ ended (λ x. x) (talkOf s)
-outcome-talk s = out-talk (s .failed) _ (s .at)
+outcome-talk s = shows (s .failed) _ (s .at) .1
 
 -- ---- a plan begins with its items
 
@@ -228,3 +214,17 @@ call-talk (turnedDown r) = refl
 pub call-bound : (p : Prepared) → Within (asksFor p) (talkFor p)
 call-bound (ready failed items) = bound failed items
 call-bound (turnedDown r) = tt
+
+pub call-within : (n : ℕ) (p : Prepared) → asksFor p ≤ n → Within n (talkFor p)
+call-within n p l = more (asksFor p) n (talkFor p) l (call-bound p)
+
+-- a test in front, by which a call is refused before any exchange
+pub test-within : (n : ℕ) (b : Bool) (p : Prepared) (r : Refusal) → Within n (talkFor p) → Within n (talkFor (if b then p else turnedDown r))
+test-within n b p r h = by-if (λ q. Within n (talkFor q)) b (λ e. h) (λ e. tt)
+
+pub modify-bound : (address clear set : ℕ) → Within 2 (talkFor (modify address clear set))
+unfolding modify
+modify-bound address clear set = test-within 2 (ltb address (2 ^ 12)) (ready _ _) _ (bound _ _)
+
+pub verify-bound : Within 64 (talkFor verify)
+verify-bound = call-bound verify

@@ -19,7 +19,7 @@ use Rattle.spi.specs.Ask.{sent}
 use Rattle.spi.specs.Instruction.{commandOf}
 use Rattle.spi.specs.Ram.{inRange}
 use Rattle.spi.specs.Reply.{wordReply, doneReply}
-use Rattle.spi.specs.Talk.{Talk, done, refused, asks, answered, run, Within, Follows}
+use Rattle.spi.specs.Talk.{Talk, done, refused, ask, asks, answered, run, Within, Follows}
 use Rattle.spi.specs.declared.refusal.Refusal.{Refusal}
 use Rattle.spi.specs.declared.ask.Ask.{Ask}
 use Rattle.spi.specs.declared.ask.Answer.{Answer}
@@ -31,6 +31,12 @@ use Rattle.tx_fifo.specs.declared.push.Push.{Push}
 use Rattle.tx_fifo.specs.declared.push.PushAt.{PushAt}
 use Rattle.tx_fifo.specs.Step.{toSend, encodingFor, begun, startOf, afterControl, afterStatus, afterAddress, nextAt, stepOf, askAt, askOf, outcomeAt, outcomeOf, doneAt, isDone}
 use Rattle.tx_fifo.specs.Talk.{commitTalk, writeTalk, addressTalk, statusTalk, pushTalk, withEncoding, pushCall, talkAt, talkOf}
+
+-- whether a talk is done
+abbrev pub finished : {A : Type 0} → Talk A → Bool
+finished (done x) = true
+finished (refused r) = false
+finished (ask q k) = false
 
 -- ---- one step is one answer
 
@@ -78,16 +84,16 @@ module _ (fifo size len : ℕ) where
   step-at PushAt.Done a rx = refl
   step-at (PushAt.Refused r) a rx = refl
 
-  -- what is asked, how it ended and whether it is done are what the talk says
+  -- what is asked, how it ended, and that and whether it is done are what the talk says
   says : (at : PushAt)
-      → (askAt fifo len at ≡ asks (rest at)) × (outcomeAt at ≡ ended (λ (o : Outcome). o) (rest at)) × (rest at ≡ (if doneAt at then done Outcome.Done else rest at))
-  says PushAt.Control = (refl, refl, refl)
-  says (PushAt.Status w) = (refl, refl, refl)
-  says (PushAt.Address w) = (refl, refl, refl)
-  says (PushAt.Write w m) = (refl, refl, refl)
-  says (PushAt.Commit w) = (refl, refl, refl)
-  says PushAt.Done = (refl, refl, refl)
-  says (PushAt.Refused r) = (refl, refl, refl)
+      → (askAt fifo len at ≡ asks (rest at)) × (outcomeAt at ≡ ended (λ (o : Outcome). o) (rest at)) × (rest at ≡ (if doneAt at then done Outcome.Done else rest at)) × (doneAt at ≡ finished (rest at))
+  says PushAt.Control = (refl, refl, refl, refl)
+  says (PushAt.Status w) = (refl, refl, refl, refl)
+  says (PushAt.Address w) = (refl, refl, refl, refl)
+  says (PushAt.Write w m) = (refl, refl, refl, refl)
+  says (PushAt.Commit w) = (refl, refl, refl, refl)
+  says PushAt.Done = (refl, refl, refl, refl)
+  says (PushAt.Refused r) = (refl, refl, refl, refl)
 
 -- ---- the whole call
 
@@ -119,6 +125,10 @@ outcome-talk s = says (s .fifo) (s .size) (s .object .len) (s .at) .1
 pub done-talk : (s : Push) → isDone s ≡ true → talkOf s ≡ done Outcome.Done
 unfolding talkOf
 done-talk s e = says (s .fifo) (s .size) (s .object .len) (s .at) .2 ∙ rw e
+
+pub done-exactly : (s : Push) → isDone s ≡ finished (talkOf s)
+unfolding talkOf
+done-exactly s = says (s .fifo) (s .size) (s .object .len) (s .at) .3
 
 -- ---- five exchanges at most
 
@@ -155,13 +165,15 @@ pub body-sent : (a : ℕ) (bs : List ℕ) → sent (Ask.Body a (length bs)) (obj
 unfolding sent zeroed
 body-sent a bs = ap (λ (l : List ℕ). commandOf OpCode.Write a ++ l) (take-append-seam bs _)
 
-object-kept : (s : Push) (xs : List (Answer × List ℕ)) → run stepOf s xs .object ≡ s .object
-unfolding run stepOf
-object-kept s [] = refl
-object-kept s (x ∷ xs) = object-kept (stepOf s (x .0) (x .1)) xs
+-- what no step changes is the same after all of them
+pub kept : {S B : Type 0} (step : S → Answer → List ℕ → S) (part : S → B) → ((s : S) (a : Answer) (rx : List ℕ) → part (step s a rx) ≡ part s)
+    → (s : S) (xs : List (Answer × List ℕ)) → part (run step s xs) ≡ part s
+unfolding run
+kept step part h s [] = refl
+kept step part h s (x ∷ xs) = kept step part h (step s (x .0) (x .1)) xs ∙ h s (x .0) (x .1)
 
 -- all the while the call has the object that its message is written as
 pub object-carried : (fifo : ℕ) (h : Header) (seq : ℕ) (p bs : List ℕ) (xs : List (Answer × List ℕ))
     → isFifo fifo ≡ true → encoding (toSend h seq p) ≡ Encoding.object bs → run stepOf (startOf fifo h seq p) xs .object ≡ objectIn bs
-unfolding startOf encodingFor
-object-carried fifo h seq p bs xs f e = object-kept (startOf fifo h seq p) xs ∙ rw (f, e)
+unfolding startOf stepOf encodingFor
+object-carried fifo h seq p bs xs f e = kept stepOf (λ s. s .object) (λ s a rx. refl) (startOf fifo h seq p) xs ∙ rw (f, e)

@@ -9,7 +9,7 @@ pub fifo-change-spec : {M : Type 1} → statement M
 fifo-change-spec =
     tie.close
     (tie.spec
-    (λ c. fifo-told _ (c .before .pre) .0)
+    (λ c. let s = fifo-told _ (c .before .pre) .0 in search needs)
     (λ c κs. search needs) (λ c κs. search needs) (λ c κs. search needs) (λ c κs. search needs)
     (λ c κs. let f = fifo-told _ (c .before .before .before .before .before .pre) .1 in search needs)
     (λ c κs. fifo-told _ (c .before .before .before .before .before .before .pre) .2)

@@ -2,7 +2,6 @@
 -- Assumes nothing.
 use borrow.Author.Needs.{needs}
 use Rattle.plan.proofs.Places.{arrive-here, arrive-end}
-use mathlib.Core.Path.{_∙_}
 use Rattle.plan.proofs.plan.arrive.Statement.{statement}
 use Rattle.plan.proofs.plan.arrive.Tie as tie
 

@@ -1,0 +1,67 @@
+-- What the calls that set the chip up write: the fields that they set, one after the other, and every other bit as read.
+-- Assumes nothing.
+use Prim.Native.Nat.{ℕ, _^_, _<_}
+use mathlib.Core.Path.{_≡_}
+use mathlib.Core.Bool.{true}
+use mathlib.Core.List.{List}
+use Rattle.field.specs.Settings.{Setting, settings, AllFit}
+use Rattle.configuration.specs.CanControl.{REQOP, DNCNT}
+use Rattle.spi.specs.declared.refusal.Done.{Done}
+use Rattle.plan.specs.declared.change.Change.{Change}
+use Rattle.plan.specs.Change.{modified}
+use Rattle.configure.specs.declared.settings.OscillatorConfiguration.{OscillatorConfiguration}
+use Rattle.configure.specs.declared.settings.IoConfiguration.{IoConfiguration}
+use Rattle.configure.specs.declared.settings.BitTimeConfiguration.{BitTimeConfiguration}
+use Rattle.configure.specs.declared.settings.Settings.{Settings}
+use Rattle.configure.specs.declared.settings.FifoConfiguration.{FifoConfiguration}
+use Rattle.configure.specs.declared.settings.FilterConfiguration.{FilterConfiguration}
+use Rattle.configure.specs.Changes.{fits, modeChange, modeSettings, oscillatorChange, oscillatorSettings, ioChange, ioSettings, nominalChange, nominalSettings, dataChange, dataSettings, delayChange, delaySettings, stefChange, stefSettings, txqenChange, txqenSettings, counterChange, counterSettings, dncntChange, dncntSettings, rtxatChange, rtxatSettings, interruptChange, interruptSettings}
+use Rattle.configure.specs.Areas.{fifoFits, fifoChange, fifoSettings, offChange, offSettings, objectChange, objectSettings, maskChange, maskSettings, onChange, onSettings}
+use Rattle.configure.specs.Calls.{timingFits, filterCheck}
+
+-- no value is wider than its field, and for every word read the change writes what these settings make of it
+abbrev pub Writes : Change → List Setting → Type 0
+Writes c ss = AllFit ss × ((w : ℕ) → w < 2 ^ 32 → modified c w ≡ settings ss w)
+
+-- ---- the changes of each call, where none of its settings is refused
+
+abbrev pub ModeWrites : Type 0
+ModeWrites = (m : ℕ) → fits REQOP m ≡ true → Writes (modeChange m) (modeSettings m)
+
+abbrev pub OscillatorWrites : Type 0
+OscillatorWrites = (o : OscillatorConfiguration) → Writes (oscillatorChange o) (oscillatorSettings o)
+
+abbrev pub IoWrites : Type 0
+IoWrites = (c : IoConfiguration) → Writes (ioChange c) (ioSettings c)
+
+abbrev pub TimingWrites : Type 0
+TimingWrites =
+    (b : BitTimeConfiguration) → timingFits b ≡ true
+    → Writes (nominalChange (b .nominal)) (nominalSettings (b .nominal))
+    × Writes (dataChange (b .data)) (dataSettings (b .data))
+    × Writes (delayChange (b .data)) (delaySettings (b .data))
+
+-- what `configure` does beside these four
+abbrev pub ConfigureWrites : Type 0
+ConfigureWrites =
+    (s : Settings) → fits DNCNT (s .dncnt) ≡ true
+    → Writes stefChange stefSettings
+    × Writes txqenChange txqenSettings
+    × Writes counterChange counterSettings
+    × Writes (dncntChange (s .dncnt)) (dncntSettings (s .dncnt))
+    × Writes rtxatChange rtxatSettings
+    × Writes (interruptChange s) (interruptSettings s)
+
+abbrev pub FifoWrites : Type 0
+FifoWrites = (n : ℕ) (c : FifoConfiguration) → fifoFits c ≡ true → Writes (fifoChange n c) (fifoSettings c)
+
+abbrev pub OffWrites : Type 0
+OffWrites = (f : ℕ) → Writes (offChange f) (offSettings f)
+
+-- what a filter's configuration does after that
+abbrev pub FilterWrites : Type 0
+FilterWrites =
+    (f : ℕ) (c : FilterConfiguration) → filterCheck f c ≡ Done.Good
+    → Writes (objectChange f (c .object) (c .mode)) (objectSettings (c .object) (c .mode))
+    × Writes (maskChange f (c .mask) (c .mode)) (maskSettings (c .mask) (c .mode))
+    × Writes (onChange f (c .fifo)) (onSettings f (c .fifo))

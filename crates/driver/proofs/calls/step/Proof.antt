@@ -1,0 +1,19 @@
+-- `driver::calls::step` meets its contract.
+-- Assumes nothing.
+use borrow.Author.Needs.{needs}
+use Rattle.driver.specs.Step.{stepOf}
+use Rattle.driver.proofs.calls.step.Statement.{statement}
+use Rattle.driver.proofs.calls.step.Tie as tie
+
+pub step-spec : {M : Type 1} → statement M
+unfolding stepOf
+step-spec =
+    tie.close
+    (tie.spec (search needs) (λ c κs. search needs) (search needs) (λ c κs. search needs) (search needs) (λ c κs. search needs) (search needs)
+    (λ c κs. search needs) (search needs) (λ c κs. search needs) (λ c κs. search needs) (search needs) (λ c κs. search needs)
+    (λ c. simp (c .register-step .ensures, c .before .before .at .given .1))
+    (λ c. simp (c .ram-step .ensures, c .before .before .at2 .given .1))
+    (λ c. simp (c .plan-step .ensures, c .before .enum-told .given .1))
+    (λ c. simp (c .push-step .ensures, c .before .enum-told2 .given .1))
+    (λ c. simp (c .transmitted .ensures, c .before .transmit-step .ensures, c .before .before .enum-told3 .given .1))
+    (λ c. simp (c .fetch-step .ensures, c .before .enum-told4 .given .1)))

@@ -1,0 +1,4 @@
+pub mod Send
+pub mod Start
+pub mod Step
+pub mod Talk

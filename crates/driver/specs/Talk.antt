@@ -1,0 +1,30 @@
+-- A call of any family as the line sees it.
+-- Assumes nothing.
+use Rattle.spi.specs.Talk.{Talk, done, andThen}
+use Rattle.call.specs.declared.Outcome.{Outcome}
+use Rattle.register.specs.Talk as register
+use Rattle.ram.specs.Talk as ram
+use Rattle.plan.specs.Talk as plan
+use Rattle.tx_fifo.specs.Talk as push
+use Rattle.tx_fifo.specs.Transmit.{transmitTalkOf}
+use Rattle.rx_fifo.specs.declared.Fetch.{Fetch}
+use Rattle.rx_fifo.specs.Talk as fetch
+use Rattle.driver.specs.declared.calls.CallAt.{CallAt}
+use Rattle.driver.specs.declared.calls.Call.{Call}
+use Rattle.driver.specs.Step.{transmitOf}
+
+-- has-next, peek and get end in what was fetched: its outcome
+abbrev pub fetchTalk : Fetch → Talk Outcome
+fetchTalk f = andThen (fetch.talkOf f) (λ x. done (fetch.outcomeBy x))
+
+abbrev pub talkAt : CallAt → Call → Talk Outcome
+talkAt (CallAt.Register r) s = register.talkOf r
+talkAt (CallAt.Ram r) s = ram.talkOf r
+talkAt CallAt.Plan s = plan.talkOf (s .plan)
+talkAt CallAt.Push s = push.talkOf (s .push)
+talkAt CallAt.Transmit s = transmitTalkOf (transmitOf s)
+talkAt CallAt.Fetch s = fetchTalk (s .fetch)
+
+-- the rest of a call
+unfoldable pub talkOf : Call → Talk Outcome
+talkOf s = talkAt (s .at) s

@@ -1,0 +1,38 @@
+-- The first bytes of what was received, and of what is held.
+-- Assumes nothing.
+use mathlib.Core.Path.{_≡_, sym, ap, _∙_}
+use mathlib.Core.List.{List, [], _∷_}
+use Prim.Native.Nat.{ℕ, zero, suc, min, _≤_}
+use native.Mathlib.Nat.{min-zero, suc-min-suc}
+use native.Mathlib.Omega.{arith}
+use lib.ListN.{length, take, length-take}
+use lib.Seq.{take-nil, length-take-le, take-append-le, take-take}
+use Rattle.words.specs.Words.{roundUp}
+use Rattle.words.proofs.Laws.{up-le}
+use Rattle.parts.specs.Parts.{put}
+use Rattle.call.specs.declared.Found.{Found}
+use Rattle.rx_fifo.specs.Step.{heldOf}
+use Rattle.rx_fifo.specs.Outcome.{messageOf, foundOf}
+
+-- no more than there are
+pub take-short : (n : ℕ) (l : List ℕ) → take (min (length l) n) l ≡ take n l
+take-short n [] = take-nil (min 0 n) ∙ sym (take-nil n)
+take-short zero (x ∷ xs) = ap (λ (k : ℕ). take k (x ∷ xs)) (min-zero (suc (length xs)))
+take-short (suc n) (x ∷ xs) =
+    ap (λ (k : ℕ). take k (x ∷ xs)) (suc-min-suc (length xs) n) ∙ ap (λ (l : List ℕ). x ∷ l) (take-short n xs)
+
+-- what is told of a message has the length of what is poured
+pub found-is : (f : Found) (held : List ℕ) → length held ≡ 64 → foundOf (messageOf f held) ≡ record { header = f .header; stamp = f .stamp; len = min (f .len) 64 }
+unfolding messageOf
+found-is f held e =
+    let l = length-take-le (min (f .len) 64) held (omega (arith, e)) in
+    λ i. record { header = f .header; stamp = f .stamp; len = l i }
+
+-- what is held of a payload's answer gives the message that the answer gives
+pub held-message : (f : Found) (held rx : List ℕ) → length rx ≡ roundUp (f .len) → messageOf f (heldOf held rx) ≡ messageOf f rx
+unfolding messageOf heldOf put
+held-message f held rx e =
+    let n : ℕ = min (f .len) 64 in
+    let l : n ≤ length (take 64 rx) = rw (length-take 64 rx, e) (omega (arith, up-le (f .len))) in
+    let p = take-append-le n (take 64 rx) _ l ∙ take-take n 64 rx (omega arith) in
+    λ i. record { header = f .header; seq = 0; stamp = f .stamp; payload = p i }

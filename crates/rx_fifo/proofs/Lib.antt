@@ -1,0 +1,5 @@
+mod Bytes
+mod Phases
+pub mod Runs
+pub mod Bounds
+pub mod Objects

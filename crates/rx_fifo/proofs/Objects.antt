@@ -1,0 +1,200 @@
+-- The message that a peek and a get hand out is the one that the object's bytes hold.
+-- Assumes nothing.
+use Prim.Native.Nat.{ℕ, _+_, _^_, min, _≤_, _<_}
+use native.Mathlib.Nat.{min-eq-left}
+use native.Mathlib.Omega.{arith}
+use mathlib.Core.Path.{_≡_, refl, sym, ap, _∙_}
+use mathlib.Core.Bool.{Bool, true, false}
+use mathlib.Core.List.{List, [], _∷_, append-nil}
+use lib.ListN.{length, take, drop, length-drop}
+use lib.Seq.{length-take-le, take-take, getD-take}
+use lib.Dec.{ltb}
+use borrow.Author.Tests.{eq-eqb, le-ltb, le-leb}
+use Rattle.laws.specs.If.{if_then_else_}
+use Rattle.field.specs.Field.{read, flag}
+use Rattle.fifo.specs.Control.{CiFIFOCON, TXEN, RXTSEN, isFifo}
+use Rattle.fifo.specs.Status.{CiFIFOSTA, TFNRFNIF}
+use Rattle.fifo.specs.UserAddress.{CiFIFOUA}
+use Rattle.words.specs.Words.{leBytes, leAt, roundUp}
+use Rattle.words.proofs.Laws.{le-back, le-length, le-drop, up-le}
+use Rattle.parts.specs.Parts.{part}
+use Rattle.header.specs.declared.dlc.Length.{Length}
+use Rattle.header.specs.Dlc.{lengthOf}
+use Rattle.header.specs.Header.{DLC, FDF, headerOf}
+use Rattle.header.proofs.Dlcs.{length-le}
+use Rattle.message.specs.declared.object.Stamp.{Stamp}
+use Rattle.message.specs.Message.{Message, bodyAt, messageIn}
+use Rattle.message.proofs.Round.{is-held}
+use Rattle.spi.specs.declared.refusal.Refusal.{Refusal}
+use Rattle.spi.specs.declared.refusal.Done.{Done}
+use Rattle.spi.specs.declared.ask.Answer.{Answer}
+use Rattle.spi.specs.declared.reply.OneWord.{OneWord}
+use Rattle.spi.specs.declared.reply.TwoWords.{TwoWords}
+use Rattle.spi.specs.Ram.{inRange}
+use Rattle.spi.specs.Reply.{wordReply, pairReply, doneReply}
+use Rattle.spi.specs.Talk.{Talk, refused, onWord, onPair, onDone, readWord, readPair, readBytes, answered, run}
+use Rattle.spi.proofs.Laws.{range-told}
+use Rattle.call.specs.declared.Found.{Found}
+use Rattle.rx_fifo.specs.declared.Want.{Want}
+use Rattle.rx_fifo.specs.Step.{stamped}
+use Rattle.rx_fifo.specs.Outcome.{messageOf}
+use Rattle.rx_fifo.specs.Talk.{Fetched, lastTalk, bodyTalk, toBodyTalk, timeTalk, toTimeTalk, foundTalk, headerTalk, toHeaderTalk, addressTalk, heldTalk, statusTalk, controlTalk, lentTalk}
+use Rattle.rx_fifo.specs.Laws.{says, gives, parts, answers, Shows, PeekReads, GetReads}
+
+-- ---- what the answers say
+
+length-part : (b : List ℕ) (x n : ℕ) → x + n ≤ length b → length (part b x n) ≡ n
+unfolding part
+length-part b x n h = length-take-le n (drop x b) (rw (length-drop x b) (omega arith))
+
+-- a word of the first n bytes
+le-take : (l : List ℕ) (n a : ℕ) → a + 4 ≤ n → leAt (take n l) a ≡ leAt l a
+unfolding leAt
+le-take l n a h =
+    rw (getD-take n l a 0 (omega arith), getD-take n l (a + 1) 0 (omega arith), getD-take n l (a + 2) 0 (omega arith), getD-take n l (a + 3) 0 (omega arith))
+
+module _ (b : List ℕ) where
+  pair-of : 8 ≤ length b → pairReply Refusal.SpiRead Answer.Exchanged (part b 0 8) ≡ TwoWords.Words (leAt b 0) (leAt b 4)
+  unfolding part
+  pair-of h = rw (length-take-le 8 b h, le-take b 8 0 (omega arith), le-take b 8 4 (omega arith))
+
+  word-of : (x : ℕ) → x + 4 ≤ length b → wordReply Refusal.SpiRead Answer.Exchanged (part b x 4) ≡ OneWord.Word (leAt b x)
+  unfolding part
+  word-of x h = rw (length-take-le 4 (drop x b) (rw (length-drop x b) (omega arith)), le-take (drop x b) 4 0 (omega arith), le-drop b x)
+
+word-is : (w : ℕ) → w < 2 ^ 32 → wordReply Refusal.SpiRead Answer.Exchanged (leBytes w) ≡ OneWord.Word w
+word-is w h = rw (le-length w, rw (append-nil (leBytes w)) at (le-back w [] h))
+
+-- ---- a talk on such an answer
+
+module _ {A : Type 0} (x : ℕ) (xs : List (Answer × List ℕ)) where
+  pub word-said : (k : ℕ → Talk A) (w : ℕ) → w < 2 ^ 32 → run answered (readWord Refusal.SpiRead x k) (says w ∷ xs) ≡ run answered (k w) xs
+  unfolding run answered
+  word-said k w h = ap (λ (r : OneWord). run answered (onWord refused r k) xs) (word-is w h)
+
+  pub word-given : (k : ℕ → Talk A) (b : List ℕ) (y : ℕ) → y + 4 ≤ length b → run answered (readWord Refusal.SpiRead x k) (gives b y 4 ∷ xs) ≡ run answered (k (leAt b y)) xs
+  unfolding run answered
+  word-given k b y h = ap (λ (r : OneWord). run answered (onWord refused r k) xs) (word-of b y h)
+
+  pub pair-given : (k : ℕ → ℕ → Talk A) (b : List ℕ) → 8 ≤ length b → run answered (readPair Refusal.SpiRead x k) (gives b 0 8 ∷ xs) ≡ run answered (k (leAt b 0) (leAt b 4)) xs
+  unfolding run answered
+  pair-given k b h = ap (λ (r : TwoWords). run answered (onPair refused r k) xs) (pair-of b h)
+
+  pub bytes-given : (k : List ℕ → Talk A) (b : List ℕ) (y n : ℕ) → y + n ≤ length b
+      → run answered (readBytes Refusal.SpiRead x n k) (gives b y n ∷ xs) ≡ run answered (k (part b y n)) xs
+  unfolding run answered
+  bytes-given k b y n h =
+      let e : doneReply Refusal.SpiRead Answer.Exchanged (length (part b y n)) n ≡ Done.Good = rw (eq-eqb _ _ (length-part b y n h)) in
+      ap (λ (r : Done). run answered (onDone refused r (k (part b y n))) xs) e
+
+-- ---- RAM in range
+
+pub range-is : (a n : ℕ) → 0x400 ≤ a → a + n ≤ 0xC00 → inRange a n ≡ true
+unfolding inRange
+range-is a n h l = rw (le-leb 0x400 a h, le-leb (a + n) 0xC00 l)
+
+eight : (stamped : Bool) → 8 ≤ bodyAt stamped
+eight true = omega arith
+eight false = omega arith
+
+-- ---- the object, from its user address on
+
+-- an object with a payload of n bytes
+abbrev foundIn : (stamped : Bool) → ℕ → List ℕ → Found
+foundIn stamped n b = record { header = headerOf (leAt b 0) (leAt b 4); stamp = if stamped then Stamp.At (leAt b 8) else Stamp.None; len = n }
+
+pub message-is : (stamped : Bool) (n : ℕ) (b : List ℕ) → n ≤ 64 → messageOf (foundIn stamped n b) (part b (bodyAt stamped) (roundUp n)) ≡ messageIn false stamped n b
+unfolding messageOf messageIn part
+message-is stamped n b h =
+    let p : take (min n 64) (take (roundUp n) (drop (bodyAt stamped) b)) ≡ take n (drop (bodyAt stamped) b) = rw (min-eq-left h) (take-take n (roundUp n) (drop (bodyAt stamped) b) (up-le n)) in
+    λ i. record { header = headerOf (leAt b 0) (leAt b 4); seq = 0; stamp = if stamped then Stamp.At (leAt b 8) else Stamp.None; payload = p i }
+
+module _ (want : Want) (fifo n : ℕ) (b : List ℕ) (short : n ≤ 64) where
+  -- the payload
+  body-reads : (stamped : Bool) (x : ℕ) → 0x400 ≤ x → x + roundUp n ≤ 0xC00 → bodyAt stamped + roundUp n ≤ length b
+      → run answered (toBodyTalk want fifo x (foundIn stamped n b)) (gives b (bodyAt stamped) (roundUp n) ∷ []) ≡ lastTalk want fifo (messageIn false stamped n b)
+  unfolding run
+  body-reads stamped x l r h =
+      let f : Found = foundIn stamped n b in
+      ap (λ (t : Bool). run answered (if t then bodyTalk want fifo x f else refused (Refusal.InvalidRamAddress x)) (gives b (bodyAt stamped) (roundUp n) ∷ [])) (range-is x (roundUp n) l r)
+      ∙ bytes-given x [] (λ rx. lastTalk want fifo (messageOf f rx)) b (bodyAt stamped) (roundUp n) h
+      ∙ ap (lastTalk want fifo) (message-is stamped n b short)
+
+  -- the timestamp, if there is one, and the payload
+  parts-read : (stamped : Bool) (m : ℕ) → 0x400 ≤ m → m + (bodyAt stamped + roundUp n) ≤ 0xC00 → bodyAt stamped + roundUp n ≤ length b
+      → run answered (if stamped then toTimeTalk want fifo (m + 8) (foundIn false n b) else toBodyTalk want fifo (m + 8) (foundIn false n b)) (parts stamped n b)
+      ≡ lastTalk want fifo (messageIn false stamped n b)
+  parts-read true m l r h =
+      let f : Found = foundIn false n b in
+      let x : ℕ = m + 8 in
+      ap (λ (t : Bool). run answered (if t then timeTalk want fifo x f else refused (Refusal.InvalidRamAddress x)) (parts true n b)) (range-is x 4 (omega arith) (omega arith))
+      ∙ word-given x (gives b 12 (roundUp n) ∷ []) (λ t. toBodyTalk want fifo (x + 4) (stamped f t)) b 8 (omega arith)
+      ∙ body-reads true (x + 4) (omega arith) (omega arith) h
+  parts-read false m l r h = body-reads false (m + 8) (omega arith) (omega arith) h
+
+  module _ (u w : ℕ) (hw : w < 2 ^ 32) (whole : bodyAt (flag RXTSEN w) + roundUp n ≤ length b)
+      (in-ram : inRange (u + 0x400) (bodyAt (flag RXTSEN w) + roundUp n) ≡ true)
+      (len : lengthOf (flag FDF (leAt b 4)) (read DLC (leAt b 4)) ≡ Length.Is n) where
+    abbrev rest : List (Answer × List ℕ)
+    rest = says w ∷ parts (flag RXTSEN w) n b
+
+    header-reads : run answered (headerTalk want fifo (u + 0x400)) (gives b 0 8 ∷ rest) ≡ lastTalk want fifo (messageIn false (flag RXTSEN w) n b)
+    header-reads =
+        let m : ℕ = u + 0x400 in
+        let (l, r) = range-told m (bodyAt (flag RXTSEN w) + roundUp n) in-ram in
+        pair-given m rest (λ a d. foundTalk want fifo m (headerOf a d) (lengthOf (flag FDF d) (read DLC d))) b (omega (arith, eight (flag RXTSEN w)))
+        ∙ ap (λ (k : Length). run answered (foundTalk want fifo m (headerOf (leAt b 0) (leAt b 4)) k) rest) len
+        ∙ word-said (CiFIFOCON .address fifo) (parts (flag RXTSEN w) n b)
+        (λ v. if flag RXTSEN v then toTimeTalk want fifo (m + 8) (foundIn false n b) else toBodyTalk want fifo (m + 8) (foundIn false n b)) w hw
+        ∙ parts-read (flag RXTSEN w) m l r whole
+
+    pub object-reads : run answered (addressTalk want fifo) (says u ∷ gives b 0 8 ∷ rest) ≡ lastTalk want fifo (messageIn false (flag RXTSEN w) n b)
+    object-reads =
+        let m : ℕ = u + 0x400 in
+        let (l, r) = range-told m (bodyAt (flag RXTSEN w) + roundUp n) in-ram in
+        let e = eight (flag RXTSEN w) in
+        word-said (CiFIFOUA .address fifo) (gives b 0 8 ∷ rest) (toHeaderTalk want fifo) u (omega arith)
+        ∙ ap (λ (t : Bool). run answered (if t then refused Refusal.BadUserAddress else if inRange m 8 then headerTalk want fifo m else refused (Refusal.InvalidRamAddress m)) (gives b 0 8 ∷ rest))
+        (le-ltb 0xFBFF u (omega arith))
+        ∙ ap (λ (t : Bool). run answered (if t then headerTalk want fifo m else refused (Refusal.InvalidRamAddress m)) (gives b 0 8 ∷ rest)) (range-is m 8 l (omega arith))
+        ∙ header-reads
+
+-- ---- the whole call
+
+-- where more than the status is read
+module _ (want : Want) (fifo room c v : ℕ) (xs : List (Answer × List ℕ)) (hf : isFifo fifo ≡ true) (hr : 64 ≤ room) (hc : c < 2 ^ 32)
+    (receiving : flag TXEN c ≡ false) (hv : v < 2 ^ 32) (next : flag TFNRFNIF v ≡ true) where
+  pub status-reads : run answered (lentTalk want fifo room) (says c ∷ says v ∷ xs) ≡ run answered (heldTalk want fifo true) xs
+  unfolding lentTalk
+  status-reads =
+      ap (λ (t : Bool). run answered (if t then if ltb room 64 then refused Refusal.BufferTooSmall else controlTalk want fifo else refused Refusal.BadNumber) (says c ∷ says v ∷ xs)) hf
+      ∙ ap (λ (t : Bool). run answered (if t then refused Refusal.BufferTooSmall else controlTalk want fifo) (says c ∷ says v ∷ xs)) (le-ltb room 64 hr)
+      ∙ word-said (CiFIFOCON .address fifo) (says v ∷ xs) (λ w. if flag TXEN w then refused Refusal.FifoNotRx else statusTalk want fifo) c hc
+      ∙ ap (λ (t : Bool). run answered (if t then refused Refusal.FifoNotRx else statusTalk want fifo) (says v ∷ xs)) receiving
+      ∙ word-said (CiFIFOSTA .address fifo) xs (λ w. heldTalk want fifo (flag TFNRFNIF w)) v hv
+      ∙ ap (λ (t : Bool). run answered (heldTalk want fifo t) xs) next
+
+-- a payload that is whole has its length
+payload-length : (stamped : Bool) (n : ℕ) (b : List ℕ) → bodyAt stamped + n ≤ length b → length (messageIn false stamped n b .payload) ≡ n
+unfolding messageIn
+payload-length stamped n b h = length-take-le n (drop (bodyAt stamped) b) (rw (length-drop (bodyAt stamped) b) (omega arith))
+
+reads : (want : Want) (fifo room c v u w : ℕ) (b : List ℕ) (m : Message) → heldTalk want fifo true ≡ addressTalk want fifo → isFifo fifo ≡ true → 64 ≤ room
+    → Shows c v u w b m → run answered (lentTalk want fifo room) (answers c v u w (length (m .payload)) b) ≡ lastTalk want fifo m
+reads want fifo room c v u w b m goes hf hr s =
+    let stamped : Bool = flag RXTSEN w in
+    let h = is-held false stamped b m (s .decoded) in
+    let e : h .long ≡ length (m .payload) = sym (payload-length stamped (h .long) b (h .fits)) ∙ ap (λ (x : Message). length (x .payload)) (h .message) in
+    let n : ℕ = length (m .payload) in
+    let len : lengthOf (flag FDF (leAt b 4)) (read DLC (leAt b 4)) ≡ Length.Is n = h .length-is ∙ ap Length.Is e in
+    let xs : List (Answer × List ℕ) = says u ∷ gives b 0 8 ∷ says w ∷ parts stamped n b in
+    status-reads want fifo room c v xs hf hr (s .control) (s .receiving) (s .status) (s .next)
+    ∙ ap (λ (t : Talk Fetched). run answered t xs) goes
+    ∙ object-reads want fifo n b (length-le (flag FDF (leAt b 4)) n (read DLC (leAt b 4)) len) u w (s .again) (s .whole) (s .in-ram) len
+    ∙ ap (lastTalk want fifo) (ap (λ (k : ℕ). messageIn false stamped k b) (sym e) ∙ h .message)
+
+pub peek-reads : PeekReads
+peek-reads fifo room c v u w b m = reads Want.Peek fifo room c v u w b m refl
+
+pub get-reads : GetReads
+get-reads fifo room c v u w b m = reads Want.Get fifo room c v u w b m refl

@@ -1,0 +1,40 @@
+-- What the phases that a `match` does not name have in common. A phase's tag is its place in the enum.
+-- Assumes nothing.
+use mathlib.Core.Path.{_≡_, refl}
+use mathlib.Core.List.{List, [], _∷_}
+use Prim.Native.Nat.{ℕ}
+use types.Run.{OneOf, miss}
+use denote.Enum.Declared.{tagOf}
+use Rattle.call.specs.declared.Outcome.{Outcome}
+use Rattle.rx_fifo.specs.declared.FetchAt.{FetchAt}
+use Rattle.rx_fifo.specs.Step.{heldAt}
+use Rattle.rx_fifo.specs.Outcome.{outcomeAt, sizeAt}
+use Rattle.rx_fifo.proofs.FetchAt.{the-type}
+
+abbrev notBody : List ℕ
+notBody = 0 ∷ 1 ∷ 2 ∷ 3 ∷ 4 ∷ 5 ∷ 7 ∷ 8 ∷ 9 ∷ 10 ∷ 11 ∷ 12 ∷ []
+
+abbrev notDone : List ℕ
+notDone = 0 ∷ 1 ∷ 2 ∷ 3 ∷ 4 ∷ 5 ∷ 6 ∷ 7 ∷ 8 ∷ 10 ∷ 11 ∷ 12 ∷ []
+
+abbrev asking : List ℕ
+asking = 0 ∷ 1 ∷ 2 ∷ 3 ∷ 4 ∷ 5 ∷ 6 ∷ 7 ∷ 8 ∷ []
+
+module _ (held rx : List ℕ) where
+  pub others : (at : FetchAt)
+      → (OneOf notBody (tagOf the-type at) → held ≡ heldAt at held rx)
+      × (OneOf notDone (tagOf the-type at) → 0 ≡ sizeAt at)
+      × (OneOf asking (tagOf the-type at) → Outcome.Running ≡ outcomeAt at held)
+  others FetchAt.Control = (λ o. refl, λ o. refl, λ o. refl)
+  others FetchAt.Status = (λ o. refl, λ o. refl, λ o. refl)
+  others FetchAt.Address = (λ o. refl, λ o. refl, λ o. refl)
+  others (FetchAt.Header m) = (λ o. refl, λ o. refl, λ o. refl)
+  others (FetchAt.Again m f) = (λ o. refl, λ o. refl, λ o. refl)
+  others (FetchAt.Time x f) = (λ o. refl, λ o. refl, λ o. refl)
+  others (FetchAt.Body x f) = (λ o. absurd (miss notBody 6 tt o), λ o. refl, λ o. refl)
+  others (FetchAt.Next f) = (λ o. refl, λ o. refl, λ o. refl)
+  others (FetchAt.Commit w f) = (λ o. refl, λ o. refl, λ o. refl)
+  others (FetchAt.Done f) = (λ o. refl, λ o. absurd (miss notDone 9 tt o), λ o. absurd (miss asking 9 tt o))
+  others FetchAt.Empty = (λ o. refl, λ o. refl, λ o. absurd (miss asking 10 tt o))
+  others (FetchAt.Told next) = (λ o. refl, λ o. refl, λ o. absurd (miss asking 11 tt o))
+  others (FetchAt.Refused r) = (λ o. refl, λ o. refl, λ o. absurd (miss asking 12 tt o))

@@ -1,0 +1,12 @@
+-- `rx_fifo::step::after_next` meets its contract.
+-- Assumes nothing.
+use borrow.Author.Needs.{needs}
+use Rattle.rx_fifo.proofs.step.after_next.Statement.{statement}
+use Rattle.rx_fifo.proofs.step.after_next.Tie as tie
+
+pub after-next-spec : {M : Type 1} → statement M
+after-next-spec =
+    tie.close
+    (tie.spec (search needs) (search needs)
+    (λ c. simp (c .before .reply .given .1))
+    (λ c. simp (c .before .reply2 .given .1)))

@@ -1,0 +1,4 @@
+pub mod Step
+pub mod Outcome
+pub mod Talk
+pub mod Laws
