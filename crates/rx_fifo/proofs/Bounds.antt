@@ -25,8 +25,8 @@ use Rattle.spi.specs.Reply.{wordReply, pairReply, doneReply}
 use Rattle.spi.specs.Talk.{done, refused, Within}
 use Rattle.spi.proofs.Talks.{more, word-within, pair-within, done-within, if-within}
 use Rattle.call.specs.declared.Found.{Found}
-use Rattle.rx_fifo.specs.declared.Want.{Want}
-use Rattle.rx_fifo.specs.Step.{stamped}
+use Rattle.fetch.specs.declared.Want.{Want}
+use Rattle.fetch.specs.Step.{stamped}
 use Rattle.rx_fifo.specs.Outcome.{messageOf}
 use Rattle.rx_fifo.specs.Talk.{message, empty, commitTalk, nextTalk, lastTalk, bodyTalk, toBodyTalk, timeTalk, toTimeTalk, againTalk, foundTalk, headerTalk, toHeaderTalk, addressTalk, heldTalk, statusTalk, controlTalk, hasNextTalk, lentTalk, peekTalk, getTalk}
 

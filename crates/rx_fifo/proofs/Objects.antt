@@ -35,8 +35,8 @@ use Rattle.spi.specs.Reply.{wordReply, pairReply, doneReply}
 use Rattle.spi.specs.Talk.{Talk, refused, onWord, onPair, onDone, readWord, readPair, readBytes, answered, run}
 use Rattle.spi.proofs.Laws.{range-told}
 use Rattle.call.specs.declared.Found.{Found}
-use Rattle.rx_fifo.specs.declared.Want.{Want}
-use Rattle.rx_fifo.specs.Step.{stamped}
+use Rattle.fetch.specs.declared.Want.{Want}
+use Rattle.fetch.specs.Step.{stamped}
 use Rattle.rx_fifo.specs.Outcome.{messageOf}
 use Rattle.rx_fifo.specs.Talk.{Fetched, lastTalk, bodyTalk, toBodyTalk, timeTalk, toTimeTalk, foundTalk, headerTalk, toHeaderTalk, addressTalk, heldTalk, statusTalk, controlTalk, lentTalk}
 use Rattle.rx_fifo.specs.Laws.{says, gives, parts, answers, Shows, PeekReads, GetReads}

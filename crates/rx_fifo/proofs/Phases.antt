@@ -6,10 +6,10 @@ use Prim.Native.Nat.{ℕ}
 use types.Run.{OneOf, miss}
 use denote.Enum.Declared.{tagOf}
 use Rattle.call.specs.declared.Outcome.{Outcome}
-use Rattle.rx_fifo.specs.declared.FetchAt.{FetchAt}
+use Rattle.fetch.specs.declared.FetchAt.{FetchAt}
 use Rattle.rx_fifo.specs.Step.{heldAt}
 use Rattle.rx_fifo.specs.Outcome.{outcomeAt, sizeAt}
-use Rattle.rx_fifo.proofs.FetchAt.{the-type}
+use Rattle.fetch.proofs.FetchAt.{the-type}
 
 abbrev notBody : List ℕ
 notBody = 0 ∷ 1 ∷ 2 ∷ 3 ∷ 4 ∷ 5 ∷ 7 ∷ 8 ∷ 9 ∷ 10 ∷ 11 ∷ 12 ∷ []

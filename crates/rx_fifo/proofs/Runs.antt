@@ -26,10 +26,11 @@ use Rattle.spi.specs.Talk.{Talk, refused, onDone, asks, answered, run, Follows}
 use Rattle.spi.proofs.Talks.{if-ap, on-word, on-pair, on-done, runs}
 use Rattle.call.specs.declared.Found.{Found}
 use Rattle.call.specs.Outcome.{ended}
-use Rattle.rx_fifo.specs.declared.Want.{Want}
+use Rattle.fetch.specs.declared.Want.{Want}
 use Rattle.rx_fifo.specs.declared.Fetch.{Fetch}
-use Rattle.rx_fifo.specs.declared.FetchAt.{FetchAt}
-use Rattle.rx_fifo.specs.Step.{afterControl, afterStatus, byStatus, afterAddress, afterHeader, byLength, toTime, toBody, afterAgain, afterTime, stamped, afterBody, nextAt, heldOf, heldAt, stepOf, askFrom, askOf, firstAt, lentAt, hasNextStart, lentStart}
+use Rattle.fetch.specs.declared.FetchAt.{FetchAt}
+use Rattle.rx_fifo.specs.Step.{heldOf, heldAt, stepOf, askFrom, askOf, firstAt, lentAt, hasNextStart, lentStart}
+use Rattle.fetch.specs.Step.{afterControl, afterStatus, byStatus, afterAddress, afterHeader, byLength, toTime, toBody, afterAgain, afterTime, stamped, afterBody, nextAt}
 use Rattle.rx_fifo.specs.Outcome.{messageOf, outcomeAt, outcomeOf, sizeAt, filled, filledBy}
 use Rattle.rx_fifo.specs.Talk.{Fetched, talkAt, talkOf, heldTalk, toTimeTalk, toBodyTalk, foundTalk, lastTalk, hasNextTalk, lentTalk, outcomeBy, lentAfter}
 use Rattle.rx_fifo.proofs.Bytes.{held-message}

@@ -23,10 +23,10 @@ use Rattle.spi.specs.Ram.{inRange}
 use Rattle.spi.specs.Talk.{Talk, done, refused, ask, readWord, readPair, readBytes, writeWord}
 use Rattle.call.specs.declared.Found.{Found}
 use Rattle.call.specs.declared.Outcome.{Outcome}
-use Rattle.rx_fifo.specs.declared.Want.{Want}
+use Rattle.fetch.specs.declared.Want.{Want}
 use Rattle.rx_fifo.specs.declared.Fetch.{Fetch}
-use Rattle.rx_fifo.specs.declared.FetchAt.{FetchAt}
-use Rattle.rx_fifo.specs.Step.{stamped}
+use Rattle.fetch.specs.declared.FetchAt.{FetchAt}
+use Rattle.fetch.specs.Step.{stamped}
 use Rattle.rx_fifo.specs.Outcome.{messageOf, foundOf, toldOf}
 
 -- how such a call is done: whether there is a next message; the oldest message; none is held

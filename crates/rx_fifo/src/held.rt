@@ -3,7 +3,7 @@ ghost use mathlib.Core.Path.{_≡_};
 ghost use Prim.Native.Nat.{_≤_, min};
 ghost use Rattle.rx_fifo.specs.Step.{heldOf, heldAt};
 ghost use Rattle.rx_fifo.specs.Outcome.{sizeAt, filled};
-use crate::FetchAt;
+use fetch::FetchAt;
 
 // No payload is longer than 64 bytes.
 pub fn at_most_64(n: usize) -> usize

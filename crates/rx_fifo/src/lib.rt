@@ -9,6 +9,8 @@ ghost use Rattle.rx_fifo.specs.Step.{askFrom, askOf, firstAt, lentAt, st
 ghost use Rattle.rx_fifo.specs.Outcome.{toldOf, outcomeOf, filledBy};
 use call::Found;
 use call::Outcome;
+use fetch::FetchAt;
+use fetch::Want;
 use fifo::FifoControl;
 use fifo::FifoStatus;
 use fifo::UserAddress;
@@ -17,35 +19,6 @@ use spi::Ask;
 use spi::Refusal;
 
 mod held;
-mod step;
-
-pub enum Want {
-    HasNext,
-    Peek,
-    Get,
-}
-
-// Where a call stands: the exchange that it asks for, with what was read before, or how it ended.
-pub enum FetchAt {
-    Control,
-    Status,
-    Address,
-    // The object's address.
-    Header(u16),
-    // Control again, for RXTSEN; the object's address.
-    Again(u16, Found),
-    // The timestamp's address.
-    Time(u16, Found),
-    // The payload's address.
-    Body(u16, Found),
-    // Control a third time, and that word to be written with UINC.
-    Next(Found),
-    Commit(u32, Found),
-    Done(Found),
-    Empty,
-    Told(bool),
-    Refused(Refusal),
-}
 
 // The payload is held here until the call is done: a get may still be refused after it has read it.
 pub struct Fetch {
@@ -174,7 +147,7 @@ pub fn fetch_step(s: Fetch, answer: Answer, rx: &[u8]) -> Fetch
     let want = s.want;
     let h = s.held;
     let held = held::held_at(at, h, rx);
-    let next = step::next_at(want, at, answer, rx);
+    let next = fetch::next_at(want, at, answer, rx);
     Fetch {
         fifo: s.fifo,
         want: want,

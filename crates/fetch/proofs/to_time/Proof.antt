@@ -1,0 +1,18 @@
+-- `fetch::to_time` meets its contract.
+-- Assumes nothing.
+use mathlib.Core.Path.{sym, _∙_}
+use native.Mathlib.Omega.{arith}
+use borrow.Author.Needs.{needs}
+use Rattle.spi.proofs.Laws.{range-told}
+use Rattle.fetch.specs.Step.{toTime}
+use Rattle.fetch.proofs.to_time.Statement.{statement}
+use Rattle.fetch.proofs.to_time.Tie as tie
+
+pub to-time-spec : {M : Type 1} → statement M
+unfolding toTime
+to-time-spec =
+    tie.close
+    (tie.spec (λ c κs. search needs)
+    (λ c. omega (arith, range-told (c .before .before .args .x) 4 (sym (c .before .in-range .ensures) ∙ c .if1 .taken)))
+    (λ c. simp (sym (c .before .in-range .ensures) ∙ c .if1 .taken))
+    (λ c. simp (sym (c .before .in-range .ensures) ∙ c .if1 .left)))
