@@ -15,7 +15,7 @@ use Rattle.plan.proofs.Runs as plan
 use Rattle.tx_fifo.proofs.Runs as push
 use Rattle.tx_fifo.proofs.Transmits as transmit
 use Rattle.rx_fifo.proofs.Runs as fetch
-use Rattle.rx_fifo.specs.Talk.{Fetched, outcomeBy} 
+use Rattle.rx_fifo.specs.Talk.{Fetched, outcomeBy}
 use Rattle.driver.specs.declared.calls.CallAt.{CallAt}
 use Rattle.driver.specs.declared.calls.Call.{Call}
 use Rattle.driver.specs.Step.{transmitOf, askAt, askOf, stepAt, stepOf, outcomeAt, outcomeOf}

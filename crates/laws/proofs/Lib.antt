@@ -1,2 +1,3 @@
 pub mod Choice
 pub mod Table
+pub mod Unique
