@@ -11,7 +11,7 @@ use Rattle.fifo.specs.UserAddress.{CiFIFOUA}
 use Rattle.bit_timing.specs.Signed.{sevenOf}
 use Rattle.spi.specs.Instruction.{commandOf}
 use Rattle.spi.specs.Ram.{accessOf}
-use Rattle.spi.specs.Refusals.{numbered, answered}
+use Rattle.spi.specs.Refusals.{numbered, doneNumbers}
 use Rattle.header.specs.Header.{word0}
 use Rattle.message.specs.Message.{Message, Encoding, refused, object, encoding}
 use Rattle.header.specs.declared.Header.{Header}
@@ -31,7 +31,7 @@ said (a is b) = b
 
 -- a RAM read's answer: nothing where it is in range, or the refusal's number and value
 abbrev pub readAnswer : ℕ → ℕ → List ℕ
-readAnswer a n = answered (accessOf a n (Refusal.InvalidReadLength n))
+readAnswer a n = doneNumbers (accessOf a n (Refusal.InvalidReadLength n))
 
 -- the header of a classic data frame
 abbrev pub classic : Bool → ℕ → Header

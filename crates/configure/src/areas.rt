@@ -1,7 +1,7 @@
 // The changes that configure a FIFO and a filter.
 ghost use mathlib.Core.Path.{_≡_};
 ghost use mathlib.Core.Bool.{true};
-ghost use Prim.Native.Nat.{_<_, _≤_, _^_};
+ghost use Prim.Native.Nat.{_<_, _≤_};
 ghost use Rattle.header.specs.Header.{topId, sidOf, eidOf};
 ghost use Rattle.field.specs.Field.{digit, place};
 ghost use Rattle.field.specs.Settings.{_:=_};

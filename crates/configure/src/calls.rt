@@ -1,7 +1,6 @@
 // The calls that set the chip up. What is refused is refused before any exchange, in the order 20, 21, 24.
 ghost use mathlib.Core.Path.{_≡_};
 ghost use mathlib.Core.Bool.{true, _&&_};
-ghost use mathlib.Core.List.{[], _∷_};
 ghost use Prim.Native.Nat.{_<_};
 ghost use Rattle.laws.specs.If.{if_then_else_};
 ghost use lib.Dec.{eqb};
@@ -24,6 +23,7 @@ use crate::Settings;
 use crate::areas;
 use crate::changes;
 use fifo::is_fifo;
+use plan::Change;
 use plan::Item;
 use plan::Plan;
 use plan::Poll;
@@ -206,6 +206,18 @@ fn dncnt_item(n: u32) -> Item
     }
 }
 
+fn slot(item: Item) -> Slot
+    ensures { λ r. ⌜ r ≡ record { item = item } ⌝ }
+{
+    Slot { item: item }
+}
+
+fn changed(c: Change) -> Slot
+    ensures { λ r. ⌜ r ≡ record { item = Item.Change c } ⌝ }
+{
+    slot(Item::Change(c))
+}
+
 // All fifteen items.
 fn whole_plan(s: Settings) -> Plan
     requires { ⌜ (timingFits (s .bittime) ≡ true) × (s .dncnt < 32) ⌝ }
@@ -217,69 +229,23 @@ fn whole_plan(s: Settings) -> Plan
     let b = s.bittime;
     let n = b.nominal;
     let d = b.data;
-    let i0 = Slot {
-        item: Item::Change(changes::mode_change(4)),
-    };
-    let i1 = Slot {
-        item: Item::Poll(Poll::Mode(4, late), 4),
-    };
-    let i2 = Slot { item: Item::Echo };
-    let i3 = Slot {
-        item: Item::Change(changes::oscillator_change(oscillator)),
-    };
-    let i4 = Slot {
-        item: when_asked(oscillator.pll, Item::Poll(Poll::Pll, 2)),
-    };
-    let i5 = Slot {
-        item: Item::Change(changes::io_change(io)),
-    };
-    let i6 = Slot {
-        item: Item::Change(changes::nominal_change(n)),
-    };
-    let i7 = Slot {
-        item: Item::Change(changes::data_change(d)),
-    };
-    let i8 = Slot {
-        item: Item::Change(changes::delay_change(d)),
-    };
-    let i9 = Slot {
-        item: Item::Change(changes::stef_change()),
-    };
-    let i10 = Slot {
-        item: Item::Change(changes::txqen_change()),
-    };
-    let i11 = Slot {
-        item: when_asked(s.counter, Item::Change(changes::counter_change())),
-    };
-    let i12 = Slot {
-        item: dncnt_item(s.dncnt),
-    };
-    let i13 = Slot {
-        item: Item::Change(changes::rtxat_change()),
-    };
-    let i14 = Slot {
-        item: Item::Change(changes::interrupt_change(s)),
-    };
-    plan_of(
-        late,
-        [
-            i0,
-            i1,
-            i2,
-            i3,
-            i4,
-            i5,
-            i6,
-            i7,
-            i8,
-            i9,
-            i10,
-            i11,
-            i12,
-            i13,
-            i14,
-        ],
-    )
+    let a = changed(changes::mode_change(4));
+    let c = slot(Item::Poll(Poll::Mode(4, late), 4));
+    let e = slot(Item::Echo);
+    let f = changed(changes::oscillator_change(oscillator));
+    let g = slot(when_asked(oscillator.pll, Item::Poll(Poll::Pll, 2)));
+    let h = changed(changes::io_change(io));
+    let j = changed(changes::nominal_change(n));
+    let k = changed(changes::data_change(d));
+    let l = changed(changes::delay_change(d));
+    let m = changed(changes::stef_change());
+    let o = changed(changes::txqen_change());
+    let p = slot(when_asked(s.counter, Item::Change(changes::counter_change())));
+    let q = slot(dncnt_item(s.dncnt));
+    let r = changed(changes::rtxat_change());
+    let t = changed(changes::interrupt_change(s));
+    let items = [a, c, e, f, g, h, j, k, l, m, o, p, q, r, t];
+    plan_of(late, items)
 }
 
 pub fn configure_all(s: Settings) -> Plan

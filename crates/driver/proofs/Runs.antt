@@ -1,25 +1,36 @@
 -- A call of any family and its talk say the same of every answer.
 -- Assumes nothing.
 use Prim.Native.Nat.{ℕ}
-use mathlib.Core.Path.{_≡_, refl, sym, ap, _∙_}
+use mathlib.Core.Path.{_≡_, refl, ap, _∙_}
 use mathlib.Core.List.{List}
-use Rattle.spi.specs.declared.ask.Ask.{Ask}
 use Rattle.spi.specs.declared.ask.Answer.{Answer}
 use Rattle.spi.specs.Talk.{Talk, done, refused, ask, andThen, answered, asks, run, Follows}
 use Rattle.spi.proofs.Talks.{runs}
 use Rattle.call.specs.declared.Outcome.{Outcome}
 use Rattle.call.specs.Outcome.{ended}
+use Rattle.register.specs.declared.RegisterCall.{RegisterCall}
+use Rattle.ram.specs.declared.RamCall.{RamCall}
+use Rattle.plan.specs.declared.plan.Plan.{Plan}
+use Rattle.tx_fifo.specs.declared.push.Push.{Push}
+use Rattle.tx_fifo.specs.declared.transmit.Transmit.{Transmit}
+use Rattle.tx_fifo.specs.Transmit.{transmitTalkOf}
+use Rattle.rx_fifo.specs.declared.Fetch.{Fetch}
+use Rattle.register.specs.Talk as register-talks
+use Rattle.ram.specs.Talk as ram-talks
+use Rattle.plan.specs.Talk as plan-talks
+use Rattle.tx_fifo.specs.Talk as push-talks
 use Rattle.register.proofs.Runs as register
 use Rattle.ram.proofs.Runs as ram
 use Rattle.plan.proofs.Runs as plan
 use Rattle.tx_fifo.proofs.Runs as push
 use Rattle.tx_fifo.proofs.Transmits as transmit
 use Rattle.rx_fifo.proofs.Runs as fetch
-use Rattle.rx_fifo.specs.Talk.{Fetched, outcomeBy}
+use Rattle.rx_fifo.specs.Talk.{outcomeBy}
 use Rattle.driver.specs.declared.calls.CallAt.{CallAt}
 use Rattle.driver.specs.declared.calls.Call.{Call}
 use Rattle.driver.specs.Step.{transmitOf, askAt, askOf, stepAt, stepOf, outcomeAt, outcomeOf}
-use Rattle.driver.specs.Talk.{talkAt, talkOf}
+use Rattle.driver.specs.Start.{ofRegister, ofRam, ofPlan, ofPush, ofTransmit, ofFetch}
+use Rattle.driver.specs.Talk.{fetchTalk, talkAt, talkOf}
 
 -- ---- a talk whose result is told in other words
 
@@ -87,3 +98,29 @@ run-talk = runs stepOf askOf talkOf follows
 pub outcome-talk : (s : Call) → outcomeOf s ≡ ended (λ x. x) (talkOf s)
 unfolding outcomeOf talkOf
 outcome-talk s = outcome-at (s .at) s
+
+-- ---- a call that was wrapped has its family's talk
+
+pub register-talk : (r : RegisterCall) → talkOf (ofRegister r) ≡ register-talks.talkOf r
+unfolding talkOf ofRegister
+register-talk r = refl
+
+pub ram-talk : (r : RamCall) → talkOf (ofRam r) ≡ ram-talks.talkOf r
+unfolding talkOf ofRam
+ram-talk r = refl
+
+pub plan-talk : (p : Plan) → talkOf (ofPlan p) ≡ plan-talks.talkOf p
+unfolding talkOf ofPlan
+plan-talk p = refl
+
+pub push-talk : (p : Push) → talkOf (ofPush p) ≡ push-talks.talkOf p
+unfolding talkOf ofPush
+push-talk p = refl
+
+pub transmit-talk : (t : Transmit) → talkOf (ofTransmit t) ≡ transmitTalkOf t
+unfolding talkOf ofTransmit
+transmit-talk t = refl
+
+pub fetch-talk : (f : Fetch) → talkOf (ofFetch f) ≡ fetchTalk f
+unfolding talkOf ofFetch
+fetch-talk f = refl

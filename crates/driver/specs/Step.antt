@@ -38,10 +38,14 @@ askAt CallAt.Fetch s = fetch.askOf (s .fetch)
 unfoldable pub askOf : Call → Ask
 askOf s = askAt (s .at) s
 
+-- a call of which only the place changes
+abbrev pub movedTo : Call → CallAt → Call
+movedTo s at = record { at = at; plan = s .plan; push = s .push; fetch = s .fetch }
+
 -- where an answer takes the call
 abbrev pub stepAt : CallAt → Call → Answer → List ℕ → Call
-stepAt (CallAt.Register r) s a rx = record { at = CallAt.Register (register.stepOf r a rx); plan = s .plan; push = s .push; fetch = s .fetch }
-stepAt (CallAt.Ram r) s a rx = record { at = CallAt.Ram (ram.stepOf r a rx); plan = s .plan; push = s .push; fetch = s .fetch }
+stepAt (CallAt.Register r) s a rx = movedTo s (CallAt.Register (register.stepOf r a rx))
+stepAt (CallAt.Ram r) s a rx = movedTo s (CallAt.Ram (ram.stepOf r a rx))
 stepAt CallAt.Plan s a rx = record { at = CallAt.Plan; plan = plan.stepOf (s .plan) a rx; push = s .push; fetch = s .fetch }
 stepAt CallAt.Push s a rx = record { at = CallAt.Push; plan = s .plan; push = push.stepOf (s .push) a rx; fetch = s .fetch }
 stepAt CallAt.Transmit s a rx = transmitting (transmitStep (transmitOf s) a rx) (s .fetch)

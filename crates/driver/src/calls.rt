@@ -1,6 +1,6 @@
 // A call of any family: what it asks, where an answer takes it, how it ended, what it leaves in the lent buffer.
 ghost use mathlib.Core.Path.{_≡_};
-ghost use Rattle.driver.specs.Step.{askOf, transmitting, stepOf, outcomeOf, filledBy};
+ghost use Rattle.driver.specs.Step.{askOf, transmitting, movedTo, stepOf, outcomeOf, filledBy};
 use call::Outcome;
 use plan::Plan;
 use ram::RamCall;
@@ -65,6 +65,21 @@ fn transmitted(t: Transmit, fetch: Fetch) -> Call
     }
 }
 
+// Only the place changes.
+fn at_now(s: Call, at: CallAt) -> Call
+    ensures { λ r. ⌜ r ≡ movedTo s at ⌝ }
+{
+    let plan = s.plan;
+    let push = s.push;
+    let fetch = s.fetch;
+    Call {
+        at: at,
+        plan: plan,
+        push: push,
+        fetch: fetch,
+    }
+}
+
 pub fn step(s: Call, answer: Answer, rx: &[u8]) -> Call
     ensures { λ r. ⌜ r ≡ stepOf s answer (now (rx .entry)) ⌝ }
 {
@@ -73,18 +88,8 @@ pub fn step(s: Call, answer: Answer, rx: &[u8]) -> Call
     let push = s.push;
     let fetch = s.fetch;
     match at {
-        CallAt::Register(r) => Call {
-            at: CallAt::Register(register::register_step(r, answer, rx)),
-            plan: plan,
-            push: push,
-            fetch: fetch,
-        },
-        CallAt::Ram(r) => Call {
-            at: CallAt::Ram(ram::ram_step(r, answer, rx)),
-            plan: plan,
-            push: push,
-            fetch: fetch,
-        },
+        CallAt::Register(r) => at_now(s, CallAt::Register(register::register_step(r, answer, rx))),
+        CallAt::Ram(r) => at_now(s, CallAt::Ram(ram::ram_step(r, answer, rx))),
         CallAt::Plan => Call {
             at: CallAt::Plan,
             plan: plan::plan_step(plan, answer, rx),

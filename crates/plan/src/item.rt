@@ -1,6 +1,6 @@
 // The items of a plan.
 ghost use mathlib.Core.Path.{_≡_};
-ghost use Prim.Native.Nat.{_-_, _^_};
+ghost use Prim.Native.Nat.{_-_};
 ghost use Rattle.plan.specs.Item.{addressOf, shown, lateOf, echoWord, isThere};
 use crate::Change;
 use chip::OscillatorControl;

@@ -1,9 +1,9 @@
 // The machine that carries out a plan.
 ghost use mathlib.Core.Path.{_≡_};
-ghost use mathlib.Core.List.{List, [], _∷_};
-ghost use Prim.Native.Nat.{_+_, _≤_};
+ghost use mathlib.Core.List.{[], _∷_};
+ghost use Prim.Native.Nat.{_+_};
 ghost use lib.ListN.{drop};
-ghost use Rattle.plan.specs.Step.{begun, afterPoll, afterEcho, nextAt, placeFrom, arrivedAt, stepOf, askAt, askOf, outcomeAt, outcomeOf, planOf, refusedPlan};
+ghost use Rattle.plan.specs.Step.{begun, afterPoll, afterEcho, nextAt, placeFrom, arrivedAt, stepOf, askAt, askOf, outcomeOf, planOf, refusedPlan};
 use crate::Change;
 use crate::Item;
 use crate::Poll;

@@ -3,9 +3,9 @@
 use Prim.Native.Nat.{ℕ, zero, suc, _+_, _≤_, _<_}
 use native.Mathlib.Nat.{le-of-suc-le-suc, not-suc-le-zero}
 use native.Mathlib.Omega.{arith}
-use mathlib.Core.Path.{_≡_, refl, sym, ap, _∙_}
+use mathlib.Core.Path.{_≡_, refl, ap, _∙_}
 use mathlib.Core.Bool.{Bool, true, false}
-use mathlib.Core.List.{List, [], _∷_, _++_}
+use mathlib.Core.List.{List, [], _∷_}
 use Rattle.laws.specs.If.{if_then_else_}
 use Rattle.spi.specs.declared.refusal.Refusal.{Refusal}
 use Rattle.spi.specs.declared.refusal.Done.{Done}
@@ -14,7 +14,7 @@ use Rattle.spi.specs.declared.ask.Answer.{Answer}
 use Rattle.spi.specs.declared.reply.OneWord.{OneWord}
 use Rattle.spi.specs.declared.reply.TwoWords.{TwoWords}
 use Rattle.spi.specs.declared.reply.CheckedWord.{CheckedWord}
-use Rattle.spi.specs.Talk.{Talk, done, refused, ask, onWord, onPair, onDone, onChecked, andThen, asks, answered, run, Within, Follows}
+use Rattle.spi.specs.Talk.{Talk, done, refused, ask, onWord, onPair, onDone, onChecked, andThen, answered, run, Within, Follows}
 
 -- ---- a function goes into a choice, and into what is done by an answer
 

@@ -2,7 +2,7 @@
 -- Assumes nothing.
 use Prim.Native.Nat.{ℕ}
 use mathlib.Core.List.{List, [], _∷_, _++_}
-use lib.ListN.{length, take, replicate}
+use lib.ListN.{length, take}
 use Rattle.words.specs.Words.{leBytes}
 use Rattle.parts.specs.Parts.{zeroed}
 use Rattle.spi.specs.declared.instruction.OpCode.{OpCode}

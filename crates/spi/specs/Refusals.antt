@@ -31,6 +31,6 @@ numbered Refusal.NoLayout = 27 ∷ []
 numbered Refusal.BufferTooSmall = 28 ∷ []
 
 -- nothing where all is well
-abbrev pub answered : Done → List ℕ
-answered Done.Good = []
-answered (Done.Bad r) = numbered r
+abbrev pub doneNumbers : Done → List ℕ
+doneNumbers Done.Good = []
+doneNumbers (Done.Bad r) = numbered r

@@ -2,7 +2,7 @@
 -- Assumes nothing.
 use Prim.Native.Nat.{ℕ}
 use mathlib.Core.Bool.{Bool}
-use mathlib.Core.List.{List, _∷_, [], _++_}
+use mathlib.Core.List.{List, _++_}
 use lib.ListN.{length, take}
 use lib.Dec.{eqb}
 use Rattle.laws.specs.If.{if_then_else_}

@@ -2,7 +2,6 @@
 // a failed exchange means.
 ghost use mathlib.Core.Path.{_≡_};
 ghost use Rattle.spi.specs.Reply.{wordReply, pairReply, doneReply, waitReply, crcGood, crcReply};
-ghost use Prim.Native.Nat.{_≤_};
 ghost use lib.ListN.{length};
 use crate::Answer;
 use crate::Done;

@@ -3,8 +3,6 @@
 use borrow.Author.Needs.{needs}
 use Rattle.spi.specs.Reply.{crcGood}
 use Rattle.crc.proofs.Laws.{of-parts}
-use lib.ListN.{take}
-use mathlib.Core.Path.{sym, _∙_}
 use Rattle.spi.proofs.reply.crc_good.Statement.{statement}
 use Rattle.spi.proofs.reply.crc_good.Tie as tie
 

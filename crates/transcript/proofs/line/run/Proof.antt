@@ -1,9 +1,9 @@
--- `talks::line::run` meets its contract: so many turns.
+-- `transcript::line::run` meets its contract: so many turns.
 -- Assumes nothing.
 use Prim.Native.Nat.{_-_, _≤_}
 use borrow.Author.Needs.{needs}
-use Rattle.talks.proofs.line.run.Statement.{statement}
-use Rattle.talks.proofs.line.run.Tie as tie
+use Rattle.transcript.proofs.line.run.Statement.{statement}
+use Rattle.transcript.proofs.line.run.Tie as tie
 
 abbrev Inv-loop : tie.InvT-loop
 Inv-loop line lent answers s₀ i₀ t12 t13 t14 s i = i ≤ 110

@@ -1,9 +1,9 @@
--- `talks::print::bytes` meets its contract: the place stays below n.
+-- `transcript::print::bytes` meets its contract: the place stays below n.
 -- Assumes nothing.
 use Prim.Native.Nat.{_-_, _≤_}
 use borrow.Author.Needs.{needs}
-use Rattle.talks.proofs.print.bytes.Statement.{statement}
-use Rattle.talks.proofs.print.bytes.Tie as tie
+use Rattle.transcript.proofs.print.bytes.Statement.{statement}
+use Rattle.transcript.proofs.print.bytes.Tie as tie
 
 abbrev Inv-loop : tie.InvT-loop
 Inv-loop s n i₀ i = i ≤ n

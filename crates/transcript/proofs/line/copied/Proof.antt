@@ -1,9 +1,9 @@
--- `talks::line::copied` meets its contract: the place stays in the array.
+-- `transcript::line::copied` meets its contract: the place stays in the array.
 -- Assumes nothing.
 use Prim.Native.Nat.{_-_, _≤_}
 use borrow.Author.Needs.{needs}
-use Rattle.talks.proofs.line.copied.Statement.{statement}
-use Rattle.talks.proofs.line.copied.Tie as tie
+use Rattle.transcript.proofs.line.copied.Statement.{statement}
+use Rattle.transcript.proofs.line.copied.Tie as tie
 
 abbrev Inv-loop : tie.InvT-loop
 Inv-loop src from n rx₀ i₀ rx i = i ≤ 140
