@@ -1,5 +1,5 @@
 // The calls that set the chip up, each once, against answers that are written down here; the transcript is compared with one
-// written by hand from the scope document.
+// worked out from the scope document apart from the code.
 use configure::BitTimeConfiguration;
 use configure::DataBitTime;
 use configure::FifoConfiguration;

@@ -1,5 +1,5 @@
 // The calls on registers, on RAM and on FIFOs, each once, against answers that are written down here; the transcript is compared
-// with one written by hand from the scope document.
+// with one worked out from the scope document apart from the code.
 use driver::of_fetch;
 use driver::of_plan;
 use driver::of_push;
