@@ -2,7 +2,7 @@
 // an access may touch, and why a call is refused.
 mod ask;
 mod instruction;
-mod ram;
+mod range;
 mod refusal;
 mod reply;
 
@@ -14,9 +14,9 @@ pub use instruction::OpCode;
 pub use instruction::checked_read;
 pub use instruction::command;
 pub use instruction::write_word;
-pub use ram::in_range;
-pub use ram::read_access;
-pub use ram::write_access;
+pub use range::in_range;
+pub use range::read_access;
+pub use range::write_access;
 pub use refusal::Done;
 pub use refusal::Refusal;
 pub use reply::CheckedWord;

@@ -1,12 +1,12 @@
--- `spi::ram::in_range` meets its contract.
+-- `spi::range::in_range` meets its contract.
 -- Assumes nothing.
 use borrow.Author.Tests.{lt-leb, le-leb}
 use Prim.Native.Nat.{_+_}
 use native.Mathlib.Omega.{arith}
 use borrow.Author.Needs.{needs}
 use Rattle.spi.specs.Ram.{inRange}
-use Rattle.spi.proofs.ram.in_range.Statement.{statement}
-use Rattle.spi.proofs.ram.in_range.Tie as tie
+use Rattle.spi.proofs.range.in_range.Statement.{statement}
+use Rattle.spi.proofs.range.in_range.Tie as tie
 
 pub in-range-spec : {M : Type 1} → statement M
 unfolding inRange

@@ -1,11 +1,11 @@
--- `spi::ram::access` meets its contract.
+-- `spi::range::access` meets its contract.
 -- Assumes nothing.
 use mathlib.Core.Path.{sym, _∙_}
 use borrow.Author.Tests.{eq-eqb, ne-eqb}
 use borrow.Author.Needs.{needs}
 use Rattle.spi.specs.Ram.{accessOf}
-use Rattle.spi.proofs.ram.access.Statement.{statement}
-use Rattle.spi.proofs.ram.access.Tie as tie
+use Rattle.spi.proofs.range.access.Statement.{statement}
+use Rattle.spi.proofs.range.access.Tie as tie
 
 pub access-spec : {M : Type 1} → statement M
 unfolding accessOf
