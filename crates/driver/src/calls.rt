@@ -1,6 +1,7 @@
 // A call of any family: what it asks, where an answer takes it, how it ended, what it leaves in the lent buffer.
 ghost use mathlib.Core.Path.{_≡_};
-ghost use Rattle.driver.specs.Step.{askOf, transmitting, movedTo, stepOf, outcomeOf, filledBy};
+ghost use Rattle.driver.specs.declared.calls.CallAt.{CallAt};
+ghost use Rattle.driver.specs.Step.{askOf, transmitOf, movedTo, stepAt, stepOf, outcomeOf, filledBy};
 use call::Outcome;
 use plan::Plan;
 use ram::RamCall;
@@ -29,39 +30,46 @@ pub struct Call {
     pub fetch: Fetch,
 }
 
+fn plan_in(s: Call) -> Plan
+    ensures { λ r. ⌜ r ≡ s .plan ⌝ }
+{
+    s.plan
+}
+
+fn push_in(s: Call) -> Push
+    ensures { λ r. ⌜ r ≡ s .push ⌝ }
+{
+    s.push
+}
+
+fn fetch_in(s: Call) -> Fetch
+    ensures { λ r. ⌜ r ≡ s .fetch ⌝ }
+{
+    s.fetch
+}
+
+fn transmit_in(s: Call) -> Transmit
+    ensures { λ r. ⌜ r ≡ transmitOf s ⌝ }
+{
+    let push = s.push;
+    let plan = s.plan;
+    Transmit {
+        push: push,
+        request: plan,
+    }
+}
+
 pub fn ask(s: Call) -> Ask
     ensures { λ r. ⌜ r ≡ askOf s ⌝ }
 {
     let at = s.at;
-    let plan = s.plan;
-    let push = s.push;
-    let fetch = s.fetch;
     match at {
         CallAt::Register(r) => register::register_ask(r),
         CallAt::Ram(r) => ram::ram_ask(r),
-        CallAt::Plan => plan::plan_ask(plan),
-        CallAt::Push => tx_fifo::push_ask(push),
-        CallAt::Transmit => {
-            let t = Transmit {
-                push: push,
-                request: plan,
-            };
-            tx_fifo::transmit_ask(t)
-        }
-        CallAt::Fetch => rx_fifo::fetch_ask(fetch),
-    }
-}
-
-fn transmitted(t: Transmit, fetch: Fetch) -> Call
-    ensures { λ r. ⌜ r ≡ transmitting t fetch ⌝ }
-{
-    let push = t.push;
-    let plan = t.request;
-    Call {
-        at: CallAt::Transmit,
-        plan: plan,
-        push: push,
-        fetch: fetch,
+        CallAt::Plan => plan::plan_ask(plan_in(s)),
+        CallAt::Push => tx_fifo::push_ask(push_in(s)),
+        CallAt::Transmit => tx_fifo::transmit_ask(transmit_in(s)),
+        CallAt::Fetch => rx_fifo::fetch_ask(fetch_in(s)),
     }
 }
 
@@ -80,41 +88,74 @@ fn at_now(s: Call, at: CallAt) -> Call
     }
 }
 
+fn plan_stepped(s: Call, answer: Answer, rx: &[u8]) -> Call
+    ensures { λ r. ⌜ r ≡ stepAt CallAt.Plan s answer (now (rx .entry)) ⌝ }
+{
+    let plan = s.plan;
+    let push = s.push;
+    let fetch = s.fetch;
+    Call {
+        at: CallAt::Plan,
+        plan: plan::plan_step(plan, answer, rx),
+        push: push,
+        fetch: fetch,
+    }
+}
+
+fn push_stepped(s: Call, answer: Answer, rx: &[u8]) -> Call
+    ensures { λ r. ⌜ r ≡ stepAt CallAt.Push s answer (now (rx .entry)) ⌝ }
+{
+    let plan = s.plan;
+    let push = s.push;
+    let fetch = s.fetch;
+    Call {
+        at: CallAt::Push,
+        plan: plan,
+        push: tx_fifo::push_step(push, answer, rx),
+        fetch: fetch,
+    }
+}
+
+fn transmit_stepped(s: Call, answer: Answer, rx: &[u8]) -> Call
+    ensures { λ r. ⌜ r ≡ stepAt CallAt.Transmit s answer (now (rx .entry)) ⌝ }
+{
+    let t = tx_fifo::transmit_step(transmit_in(s), answer, rx);
+    let plan = t.request;
+    let push = t.push;
+    let fetch = s.fetch;
+    Call {
+        at: CallAt::Transmit,
+        plan: plan,
+        push: push,
+        fetch: fetch,
+    }
+}
+
+fn fetch_stepped(s: Call, answer: Answer, rx: &[u8]) -> Call
+    ensures { λ r. ⌜ r ≡ stepAt CallAt.Fetch s answer (now (rx .entry)) ⌝ }
+{
+    let plan = s.plan;
+    let push = s.push;
+    let fetch = s.fetch;
+    Call {
+        at: CallAt::Fetch,
+        plan: plan,
+        push: push,
+        fetch: rx_fifo::fetch_step(fetch, answer, rx),
+    }
+}
+
 pub fn step(s: Call, answer: Answer, rx: &[u8]) -> Call
     ensures { λ r. ⌜ r ≡ stepOf s answer (now (rx .entry)) ⌝ }
 {
     let at = s.at;
-    let plan = s.plan;
-    let push = s.push;
-    let fetch = s.fetch;
     match at {
         CallAt::Register(r) => at_now(s, CallAt::Register(register::register_step(r, answer, rx))),
         CallAt::Ram(r) => at_now(s, CallAt::Ram(ram::ram_step(r, answer, rx))),
-        CallAt::Plan => Call {
-            at: CallAt::Plan,
-            plan: plan::plan_step(plan, answer, rx),
-            push: push,
-            fetch: fetch,
-        },
-        CallAt::Push => Call {
-            at: CallAt::Push,
-            plan: plan,
-            push: tx_fifo::push_step(push, answer, rx),
-            fetch: fetch,
-        },
-        CallAt::Transmit => {
-            let t = Transmit {
-                push: push,
-                request: plan,
-            };
-            transmitted(tx_fifo::transmit_step(t, answer, rx), fetch)
-        }
-        CallAt::Fetch => Call {
-            at: CallAt::Fetch,
-            plan: plan,
-            push: push,
-            fetch: rx_fifo::fetch_step(fetch, answer, rx),
-        },
+        CallAt::Plan => plan_stepped(s, answer, rx),
+        CallAt::Push => push_stepped(s, answer, rx),
+        CallAt::Transmit => transmit_stepped(s, answer, rx),
+        CallAt::Fetch => fetch_stepped(s, answer, rx),
     }
 }
 
@@ -122,22 +163,13 @@ pub fn outcome(s: Call) -> Outcome
     ensures { λ r. ⌜ r ≡ outcomeOf s ⌝ }
 {
     let at = s.at;
-    let plan = s.plan;
-    let push = s.push;
-    let fetch = s.fetch;
     match at {
         CallAt::Register(r) => register::register_outcome(r),
         CallAt::Ram(r) => ram::ram_outcome(r),
-        CallAt::Plan => plan::plan_outcome(plan),
-        CallAt::Push => tx_fifo::push_outcome(push),
-        CallAt::Transmit => {
-            let t = Transmit {
-                push: push,
-                request: plan,
-            };
-            tx_fifo::transmit_outcome(t)
-        }
-        CallAt::Fetch => rx_fifo::fetch_outcome(fetch),
+        CallAt::Plan => plan::plan_outcome(plan_in(s)),
+        CallAt::Push => tx_fifo::push_outcome(push_in(s)),
+        CallAt::Transmit => tx_fifo::transmit_outcome(transmit_in(s)),
+        CallAt::Fetch => rx_fifo::fetch_outcome(fetch_in(s)),
     }
 }
 

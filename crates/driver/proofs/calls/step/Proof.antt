@@ -10,11 +10,11 @@ unfolding stepOf
 step-spec =
     tie.close
     (tie.spec (search needs) (λ c κs. search needs) (λ c κs. search needs) (search needs) (λ c κs. search needs) (λ c κs. search needs) (search needs)
-    (λ c κs. search needs) (search needs) (λ c κs. search needs) (search needs) (λ c κs. search needs) (λ c κs. search needs) (search needs)
+    (λ c κs. search needs) (search needs) (λ c κs. search needs) (search needs) (λ c κs. search needs) (search needs)
     (λ c κs. search needs)
     (λ c. simp (c .at-now .ensures, c .before .register-step .ensures, c .before .before .before .at .given .1))
     (λ c. simp (c .at-now2 .ensures, c .before .ram-step .ensures, c .before .before .before .at2 .given .1))
-    (λ c. simp (c .plan-step .ensures, c .before .enum-told .given .1))
-    (λ c. simp (c .push-step .ensures, c .before .enum-told2 .given .1))
-    (λ c. simp (c .transmitted .ensures, c .before .transmit-step .ensures, c .before .before .enum-told3 .given .1))
-    (λ c. simp (c .fetch-step .ensures, c .before .enum-told4 .given .1)))
+    (λ c. simp (c .plan-stepped .ensures, c .before .enum-told .given .1))
+    (λ c. simp (c .push-stepped .ensures, c .before .enum-told2 .given .1))
+    (λ c. simp (c .transmit-stepped .ensures, c .before .enum-told3 .given .1))
+    (λ c. simp (c .fetch-stepped .ensures, c .before .enum-told4 .given .1)))
