@@ -17,15 +17,16 @@ use Rattle.plan.specs.declared.item.Item.{Item}
 use Rattle.plan.specs.Talk.{asksOf}
 use Rattle.plan.specs.Prepared.{ready, turnedDown, talkFor}
 use Rattle.plan.proofs.Runs.{call-bound, call-within, test-within}
-use Rattle.configure.specs.declared.settings.OscillatorConfiguration.{OscillatorConfiguration}
-use Rattle.configure.specs.declared.settings.IoConfiguration.{IoConfiguration}
-use Rattle.configure.specs.declared.settings.BitTimeConfiguration.{BitTimeConfiguration}
-use Rattle.configure.specs.declared.settings.Settings.{Settings}
-use Rattle.configure.specs.declared.settings.FifoConfiguration.{FifoConfiguration}
-use Rattle.configure.specs.declared.settings.FilterConfiguration.{FilterConfiguration}
-use Rattle.configure.specs.Changes.{fits, counterChange, dncntChange}
-use Rattle.configure.specs.Areas.{fifoFits}
-use Rattle.configure.specs.Calls.{configureItems, filterItems, setOpMode, configureOsc, configureIo, timingFits, configureBitTiming, configureAll, configureFifo, isFilter, disableFilter, filterCheck, configureFilter}
+use Rattle.changes.specs.declared.settings.OscillatorConfiguration.{OscillatorConfiguration}
+use Rattle.changes.specs.declared.settings.IoConfiguration.{IoConfiguration}
+use Rattle.changes.specs.declared.settings.BitTimeConfiguration.{BitTimeConfiguration}
+use Rattle.changes.specs.declared.settings.Settings.{Settings}
+use Rattle.areas.specs.declared.settings.FifoConfiguration.{FifoConfiguration}
+use Rattle.areas.specs.declared.settings.FilterConfiguration.{FilterConfiguration}
+use Rattle.changes.specs.Changes.{fits, timingFits, counterChange, dncntChange}
+use Rattle.areas.specs.Areas.{fifoFits, isFilter, filterCheck}
+use Rattle.adjust.specs.Calls.{filterItems, setOpMode, configureOsc, configureIo, configureBitTiming, configureFifo, disableFilter, configureFilter}
+use Rattle.configure.specs.Whole.{configureItems, configureAll}
 
 -- a choice of two items
 either : (b : Bool) (i j : Item) → asksOf (if b then i else j) ≤ asksOf i + asksOf j

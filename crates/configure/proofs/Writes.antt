@@ -28,11 +28,12 @@ use Rattle.header.specs.Header.{topId, sidOf, eidOf}
 use Rattle.plan.specs.declared.change.Change.{Change}
 use Rattle.plan.specs.Change.{modified, changeOf}
 use Rattle.plan.proofs.Changes.{change-sets}
-use Rattle.configure.specs.declared.settings.FifoMode.{FifoMode}
-use Rattle.configure.specs.Changes.{modeSettings, oscillatorSettings, ioSettings, nominalSettings, dataSettings, delaySettings, stefSettings, txqenSettings, counterSettings, dncntSettings, rtxatSettings, asked, interruptSettings}
-use Rattle.configure.specs.Areas.{directionSettings, directionFits, fifoSettings, offSettings, objectSettings, maskSettings, onSettings}
+use Rattle.areas.specs.declared.settings.FifoMode.{FifoMode}
+use Rattle.changes.specs.Changes.{modeSettings, oscillatorSettings, ioSettings, nominalSettings, dataSettings, delaySettings, stefSettings, txqenSettings, counterSettings, dncntSettings, rtxatSettings, asked, interruptSettings}
+use Rattle.areas.specs.Areas.{directionSettings, directionFits, fifoSettings, offSettings, objectSettings, maskSettings, onSettings}
 use Rattle.configure.specs.Laws.{Writes, ModeWrites, OscillatorWrites, IoWrites, TimingWrites, ConfigureWrites, FifoWrites, OffWrites, FilterWrites}
-use Rattle.configure.proofs.Tests.{fits-told, transmit-told, fifo-told, timing-told, filter-told}
+use Rattle.changes.proofs.Tests.{fits-told, timing-told}
+use Rattle.areas.proofs.Tests.{transmit-told, fifo-told, filter-told}
 
 -- settings that fit their fields are written
 writes : (address : ℕ) (ss : List Setting) → AllFit ss → Writes (changeOf address ss) ss

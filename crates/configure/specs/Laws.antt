@@ -9,15 +9,14 @@ use Rattle.configuration.specs.CanControl.{REQOP, DNCNT}
 use Rattle.spi.specs.declared.refusal.Done.{Done}
 use Rattle.plan.specs.declared.change.Change.{Change}
 use Rattle.plan.specs.Change.{modified}
-use Rattle.configure.specs.declared.settings.OscillatorConfiguration.{OscillatorConfiguration}
-use Rattle.configure.specs.declared.settings.IoConfiguration.{IoConfiguration}
-use Rattle.configure.specs.declared.settings.BitTimeConfiguration.{BitTimeConfiguration}
-use Rattle.configure.specs.declared.settings.Settings.{Settings}
-use Rattle.configure.specs.declared.settings.FifoConfiguration.{FifoConfiguration}
-use Rattle.configure.specs.declared.settings.FilterConfiguration.{FilterConfiguration}
-use Rattle.configure.specs.Changes.{fits, modeChange, modeSettings, oscillatorChange, oscillatorSettings, ioChange, ioSettings, nominalChange, nominalSettings, dataChange, dataSettings, delayChange, delaySettings, stefChange, stefSettings, txqenChange, txqenSettings, counterChange, counterSettings, dncntChange, dncntSettings, rtxatChange, rtxatSettings, interruptChange, interruptSettings}
-use Rattle.configure.specs.Areas.{fifoFits, fifoChange, fifoSettings, offChange, offSettings, objectChange, objectSettings, maskChange, maskSettings, onChange, onSettings}
-use Rattle.configure.specs.Calls.{timingFits, filterCheck}
+use Rattle.changes.specs.declared.settings.OscillatorConfiguration.{OscillatorConfiguration}
+use Rattle.changes.specs.declared.settings.IoConfiguration.{IoConfiguration}
+use Rattle.changes.specs.declared.settings.BitTimeConfiguration.{BitTimeConfiguration}
+use Rattle.changes.specs.declared.settings.Settings.{Settings}
+use Rattle.areas.specs.declared.settings.FifoConfiguration.{FifoConfiguration}
+use Rattle.areas.specs.declared.settings.FilterConfiguration.{FilterConfiguration}
+use Rattle.changes.specs.Changes.{fits, modeChange, modeSettings, oscillatorChange, oscillatorSettings, ioChange, ioSettings, timingFits, nominalChange, nominalSettings, dataChange, dataSettings, delayChange, delaySettings, stefChange, stefSettings, txqenChange, txqenSettings, counterChange, counterSettings, dncntChange, dncntSettings, rtxatChange, rtxatSettings, interruptChange, interruptSettings}
+use Rattle.areas.specs.Areas.{fifoFits, fifoChange, fifoSettings, offChange, offSettings, objectChange, objectSettings, maskChange, maskSettings, onChange, onSettings, filterCheck}
 
 -- no value is wider than its field, and for every word read the change writes what these settings make of it
 abbrev pub Writes : Change → List Setting → Type 0

@@ -1,4 +1,2 @@
-pub mod Changes
-pub mod Areas
-pub mod Calls
+pub mod Whole
 pub mod Laws

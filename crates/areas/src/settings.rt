@@ -1,0 +1,53 @@
+// What the calls of a FIFO and a filter are given. A number is any number: one that is wider than its field is refused (24).
+
+// Fields of CiFIFOCON that a FIFO which sends has.
+pub struct TxFifo {
+    pub txpri: u32,
+    pub txat: u32,
+    pub rtren: bool,
+    pub txatie: bool,
+    pub empty: bool,
+    pub half: bool,
+    pub notfull: bool,
+}
+
+// Fields of CiFIFOCON that a FIFO which receives has.
+pub struct RxFifo {
+    pub rxtsen: bool,
+    pub rxovie: bool,
+    pub full: bool,
+    pub half: bool,
+    pub notempty: bool,
+}
+
+pub enum FifoMode {
+    Transmit(TxFifo),
+    Receive(RxFifo),
+}
+
+// `size`: how many messages; `plsize`: PLSIZE, 0 to 7.
+pub struct FifoConfiguration {
+    pub size: u32,
+    pub plsize: u32,
+    pub mode: FifoMode,
+}
+
+pub struct Identifier {
+    pub extended: bool,
+    pub id: u32,
+}
+
+// Which frames a filter takes.
+pub enum FilterMode {
+    Standard,
+    Extended,
+    Both,
+}
+
+// A filter gives what its object and mask match to a FIFO.
+pub struct FilterConfiguration {
+    pub fifo: u8,
+    pub mode: FilterMode,
+    pub object: Identifier,
+    pub mask: Identifier,
+}

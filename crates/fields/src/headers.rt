@@ -1,0 +1,124 @@
+// A message's two header words, through the port's encoding and decoding: it has no reader or setter for a single field.
+// A field is counted as in `names`: SID, EID and DLC, the five flags, SEQ.
+ghost use Prim.Native.Nat.{_≤_};
+use header::Dlc;
+use header::Header;
+use header::Length;
+use header::dlc_for_len;
+use header::eid_of;
+use header::first_word;
+use header::header_of;
+use header::length_of;
+use header::second_word;
+use named::cut;
+
+pub const DLC: usize = 2;
+
+const IDE: usize = 3;
+
+const FDF: usize = 6;
+
+const SEQ: usize = 8;
+
+// How many fields document 01 carries. SEQ is one to send; SID11 and FILHIT are left out.
+pub fn carried(sending: bool) -> usize {
+    if sending { 9 } else { 8 }
+}
+
+// A header with this flag alone; with none for any other field.
+fn lone(i: usize) -> Header {
+    Header {
+        extended: i == IDE,
+        id: 0,
+        rtr: i == 4,
+        brs: i == 5,
+        fdf: i == FDF,
+        esi: i == 7,
+    }
+}
+
+fn flag_word(i: usize) -> u32 {
+    second_word(lone(i), 0, 0)
+}
+
+// The port refuses a classic frame with a DLC above 8, so DLC and SEQ are read as those of an FD frame.
+fn dlc_in(b: u32) -> u32 {
+    let Length::Is(n) = length_of(b | flag_word(FDF)) else {
+        return 16;
+    };
+    match dlc_for_len(n, true) {
+        Dlc::Is(d) => if d < 16 { d as u32 } else { 16 },
+        Dlc::Bad => 16,
+    }
+}
+
+fn seq_in(b: u32) -> u32 {
+    let mut object = [0u8; 72];
+    let word = words::le_bytes(b | flag_word(FDF));
+    parts::put_at(&mut object, 4, &word);
+    let decoded = message::decode(true, false, &object);
+    let frame = decoded.frame;
+    frame.seq
+}
+
+pub fn read(i: usize, a: u32, b: u32) -> u32 {
+    let h = header_of(a, b);
+    match i {
+        0 => header_of(a, 0).id,
+        1 => eid_of(true, header_of(a, flag_word(IDE)).id),
+        2 => dlc_in(b),
+        3 => h.extended as u32,
+        4 => h.rtr as u32,
+        5 => h.brs as u32,
+        6 => h.fdf as u32,
+        7 => h.esi as u32,
+        _ => seq_in(b),
+    }
+}
+
+// The extended identifier that has v in SID or in EID and nothing else.
+fn id_of(i: usize, v: u32) -> u32
+    ensures { λ r. ⌜ r ≤ 0x1FFFFFFF ⌝ }
+{
+    if i == 0 {
+        cut(v, 0x7FF) * 0x4_0000
+    } else {
+        cut(v, 0x3_FFFF)
+    }
+}
+
+fn id_word(i: usize, v: u32) -> u32 {
+    first_word(Header {
+        extended: true,
+        id: id_of(i, v),
+        rtr: false,
+        brs: false,
+        fdf: false,
+        esi: false,
+    })
+}
+
+// The second word of a message that has v in this field and nothing else.
+fn rest_word(i: usize, v: u32) -> u32 {
+    match i {
+        DLC => second_word(lone(i), 0, cut(v, 15)),
+        SEQ => second_word(lone(i), cut(v, 0x7F_FFFF), 0),
+        _ => if v == 0 { 0 } else { flag_word(i) },
+    }
+}
+
+// The bits of `all` as in `set`, and the others as they are.
+fn over(w: u32, all: u32, set: u32) -> u32 {
+    w & !all | set
+}
+
+const MOST: u32 = 0xFFFF_FFFF;
+
+// The field's bits are those that are 1 for its largest value.
+pub fn with_first(i: usize, v: u32, a: u32) -> u32 {
+    over(a, id_word(i, MOST), id_word(i, v))
+}
+
+pub fn with_second(i: usize, v: u32, b: u32) -> u32 {
+    over(b, rest_word(i, MOST), rest_word(i, v))
+}

@@ -1,0 +1,112 @@
+// What is made of a transcript's lines: where its reader stands, which cases agree, and what is written of the others.
+use classes::Seen;
+use items::Item;
+use spoken::Line;
+use text::Number;
+
+mod state;
+
+pub use state::State;
+pub use state::begin;
+pub use state::is_due;
+pub use state::is_lost;
+pub use state::told;
+
+// The first difference of a case is held until its end, since only then it is known whether the case is compared.
+fn held(s: State, line: &[u8], out: &[u8], theirs: &mut [u8], mine: &mut [u8]) -> State {
+    if check::same(line, out) {
+        return s;
+    }
+    let n = lines::put(theirs, 0, line);
+    let k = lines::put(mine, 0, out);
+    state::differing(s, n, k)
+}
+
+// What the port does, `out`, is compared with the line, and with nothing where the case ends too early.
+fn judged(
+    s: State,
+    item: Item,
+    line: &[u8],
+    out: &[u8],
+    theirs: &mut [u8],
+    mine: &mut [u8],
+) -> State {
+    if state::is_due(s, item) {
+        return held(s, state::compared(item, line), out, theirs, mine);
+    }
+    s
+}
+
+// A line that is a case by itself.
+fn single(s: State, item: Item, line: &[u8], counts: &mut [u64]) {
+    if !singles::is_single(item) {
+        return;
+    }
+    let mut out = [0u8; 8192];
+    match singles::single(item, line, &mut out) {
+        Number::Is(n) => state::count_single(
+            s,
+            singles::class(item, line),
+            line,
+            text::front(&out, n as usize),
+            counts,
+        ),
+        Number::Bad => state::count_bad(s, counts),
+    }
+}
+
+// What a call's line says.
+pub fn hear(item: Item, line: &[u8], long: bool, numbers: &mut [u64], lent: &mut [u8]) -> Line {
+    if let Item::Call = item {
+        if !long {
+            return spoken::understood(line, numbers, lent);
+        }
+    }
+    Line::Bad
+}
+
+pub fn seen_after(
+    seen: Seen,
+    item: Item,
+    heard: Line,
+    line: &[u8],
+    numbers: &[u64],
+    rx: &[u8],
+) -> Seen {
+    if let Line::Row(spoken) = heard {
+        return classes::called(spoken.row, numbers);
+    }
+    match item {
+        Item::Sent => classes::asked(seen, line),
+        Item::Got(n) => classes::answered(seen, text::front(rx, n)),
+        _ => seen,
+    }
+}
+
+fn classed(s: State, seen: Seen, item: Item, line: &[u8]) -> State {
+    match item {
+        Item::Result => state::classed(s, classes::class(seen, line)),
+        _ => s,
+    }
+}
+
+// A line is read: the case that it ends, or that it is, is counted.
+pub fn settled(
+    before: State,
+    item: Item,
+    line: &[u8],
+    out: &[u8],
+    theirs: &mut [u8],
+    mine: &mut [u8],
+    counts: &mut [u64],
+) -> State {
+    let s = judged(state::next(before), item, line, out, theirs, mine);
+    let t = state::closed(s, item, theirs, mine, counts);
+    single(t, item, line, counts);
+    t
+}
+
+// After a line, `heard` being what a call's line says.
+pub fn after(s: State, item: Item, heard: Line, seen: Seen, line: &[u8]) -> State {
+    classed(state::after(s, item, heard), seen, item, line)
+}

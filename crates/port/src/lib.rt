@@ -1,0 +1,84 @@
+// The port's side: what a call does now, as a transcript's line, and where an answer takes it.
+use call::Outcome;
+use driver::Call;
+use send::Sent;
+use spi::Answer;
+use spi::Ask;
+
+fn count(s: Sent) -> usize {
+    match s {
+        Sent::Bytes(n) => n,
+        Sent::Short => 0,
+    }
+}
+
+// A RAM read of so many bytes ends with them.
+fn ended(o: Outcome, read: usize, buf: &[u8], out: &mut [u8]) -> usize {
+    let a = lines::put(out, 0, b"= ");
+    if 0 < read {
+        if let Outcome::Done = o {
+            return lines::read_result(out, a, text::front(buf, read - 1));
+        }
+    }
+    lines::result(out, a, o, buf)
+}
+
+fn shown(q: Ask, tx: &[u8], o: Outcome, read: usize, buf: &[u8], out: &mut [u8]) -> usize {
+    match q {
+        Ask::Wait => lines::put(out, 0, b"wait 500"),
+        Ask::Nothing => ended(o, read, buf, out),
+        _ => lines::exchange(out, 0, tx, spi::exchange_of(q).want),
+    }
+}
+
+// What the call does now, if it is wanted. The first `sent` bytes of `lent` are what a RAM write sends, the first `got` of `rx` what
+// came last; `read` is one more than the bytes that a RAM read asks for, and 0 for any other call.
+pub fn line(
+    call: Call,
+    wanted: bool,
+    read: usize,
+    lent: &[u8],
+    sent: usize,
+    rx: &[u8],
+    got: usize,
+    out: &mut [u8],
+) -> usize {
+    if !wanted {
+        return 0;
+    }
+    let mut tx = [0u8; 4200];
+    let mut buf = [0u8; 2048];
+    let n = count(driver::send(call, text::front(lent, sent), &mut tx));
+    driver::fill(call, text::front(rx, got), &mut buf);
+    shown(
+        driver::ask(call),
+        text::front(&tx, n),
+        driver::outcome(call),
+        read,
+        &buf,
+        out,
+    )
+}
+
+// What a line of the transcript means to the call.
+pub enum Step {
+    Stay,
+    Begin(usize),
+    Answer(Answer),
+}
+
+pub fn moved(
+    call: Call,
+    step: Step,
+    a: &[u64],
+    lent: &[u8],
+    sent: usize,
+    rx: &[u8],
+    got: usize,
+) -> Call {
+    match step {
+        Step::Stay => call,
+        Step::Begin(row) => starts::start(row, a, text::front(lent, sent)),
+        Step::Answer(answer) => driver::step(call, answer, text::front(rx, got)),
+    }
+}

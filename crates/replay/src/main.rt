@@ -1,0 +1,131 @@
+// Holds a transcript against the port: makes each call, gives it the answers that are written there, and compares what it does.
+use classes::Seen;
+use items::Item;
+use judge::State;
+use port::Step;
+use reading::Kind;
+use spi::Answer;
+use spoken::Line;
+
+fn is_long(kind: Kind) -> bool {
+    match kind {
+        Kind::Long => true,
+        _ => false,
+    }
+}
+
+fn is_end(kind: Kind) -> bool {
+    match kind {
+        Kind::End => true,
+        _ => false,
+    }
+}
+
+fn read_of(seen: Seen) -> usize {
+    if seen.row == 6 {
+        if seen.size < 0xFFFF_FFFF {
+            return seen.size as usize + 1;
+        }
+    }
+    0
+}
+
+// Where a case begins the call is made anew; answers go to it as long as it does what the transcript has.
+fn step_of(s: State, item: Item, heard: Line) -> Step {
+    if let Line::Row(spoken) = heard {
+        return Step::Begin(spoken.row);
+    }
+    if s.differs || judge::is_lost(s) {
+        return Step::Stay;
+    }
+    match item {
+        Item::Got(_) => Step::Answer(Answer::Exchanged),
+        Item::Failed => Step::Answer(Answer::Failed),
+        Item::Wait => Step::Answer(Answer::Waited),
+        _ => Step::Stay,
+    }
+}
+
+// A line at a time. No transcript has so many lines that the turns run out.
+fn run(
+    piece: &mut [u8; 65536],
+    buf: &mut [u8; 8192],
+    lent: &mut [u8; 4200],
+    rx: &mut [u8; 4200],
+    out: &mut [u8; 8192],
+    theirs: &mut [u8; 8192],
+    mine: &mut [u8; 8192],
+    numbers: &mut [u64; 24],
+    counts: &mut [u64; 9],
+) {
+    let mut r = reading::begin();
+    let mut s = judge::begin();
+    let mut seen = classes::called(0, numbers);
+    let mut call = driver::of_register(register::reset_start());
+    let mut turns = u64::MAX;
+    loop {
+        r = reading::next_line(r, piece, buf);
+        let kind = r.kind;
+        let long = is_long(kind);
+        let line = text::front(buf, r.len);
+        let item = items::item_of(line, long, rx);
+        let n = port::line(
+            call,
+            judge::is_due(s, item),
+            read_of(seen),
+            lent,
+            s.lent,
+            rx,
+            s.got,
+            out,
+        );
+        s = judge::settled(s, item, line, text::front(out, n), theirs, mine, counts);
+        let heard = judge::hear(item, line, long, numbers, lent);
+        s = judge::after(s, item, heard, seen, line);
+        seen = judge::seen_after(seen, item, heard, line, numbers, rx);
+        call = port::moved(
+            call,
+            step_of(s, item, heard),
+            numbers,
+            lent,
+            s.lent,
+            rx,
+            s.got,
+        );
+        if is_end(kind) {
+            return;
+        }
+        if turns < 1 {
+            return;
+        }
+        turns -= 1;
+    }
+}
+
+fn told(counts: [u64; 9]) {
+    judge::told(&counts);
+}
+
+fn main() {
+    let mut piece = io::large_buffer();
+    let mut buf = [0u8; 8192];
+    let mut lent = [0u8; 4200];
+    let mut rx = [0u8; 4200];
+    let mut out = [0u8; 8192];
+    let mut theirs = [0u8; 8192];
+    let mut mine = [0u8; 8192];
+    let mut numbers = [0u64; 24];
+    let mut counts = [0u64; 9];
+    run(
+        &mut piece,
+        &mut buf,
+        &mut lent,
+        &mut rx,
+        &mut out,
+        &mut theirs,
+        &mut mine,
+        &mut numbers,
+        &mut counts,
+    );
+    told(counts);
+}

@@ -1,0 +1,139 @@
+// Lines that are a name and arguments: calls and results.
+ghost use Prim.Native.Nat.{_≤_};
+ghost use lib.ListN.{length};
+use text::Number;
+
+// A line by its row in a table, and its last number: of bytes, how many.
+pub struct Spoken {
+    pub row: usize,
+    pub count: usize,
+}
+
+pub enum Line {
+    Row(Spoken),
+    Bad,
+}
+
+fn put_at(numbers: &mut [u64], at: usize, n: u64) {
+    if at < numbers.len() {
+        numbers[at] = n;
+    }
+}
+
+// Which word of a list a word is.
+fn choice(w: &[u8], list: &[u8]) -> Number {
+    let n = text::count(list);
+    let mut i = 0;
+    while i < n {
+        if text::is(list, i, w) {
+            return Number::Is(i as u64);
+        }
+        i += 1;
+    }
+    Number::Bad
+}
+
+// A timestamp's word, or none.
+fn stamp(w: &[u8]) -> Number {
+    if check::same(w, b"-") {
+        return Number::Is(0);
+    }
+    text::hex(w)
+}
+
+// What a word says as the argument that a letter stands for; bytes go to the lent buffer, and the number is how many.
+fn argument(letter: u8, w: &[u8], lent: &mut [u8]) -> Number {
+    match letter {
+        b'd' => text::decimal(w),
+        b'h' => text::hex(w),
+        b'i' => text::identifier(w),
+        b'f' => text::flags(w),
+        b'b' => text::bytes(w, lent),
+        b'm' => choice(w, b"std ext both"),
+        b'k' => choice(w, b"std ext"),
+        b's' => stamp(w),
+        b't' => choice(w, b"tx"),
+        b'r' => choice(w, b"rx"),
+        b'o' => choice(w, b"off"),
+        _ => Number::Bad,
+    }
+}
+
+// How many arguments a row has.
+fn size_of(shape: &[u8]) -> usize
+    ensures { λ r. ⌜ r ≤ length (now (shape .entry)) ⌝ }
+{
+    if check::same(shape, b"-") {
+        return 0;
+    }
+    shape.len()
+}
+
+// The arguments of a line as a row has them: how many bytes the last has, or Bad where the line has others.
+fn arguments(line: &[u8], shape: &[u8], numbers: &mut [u64], lent: &mut [u8]) -> Number {
+    let n = size_of(shape);
+    let words = text::count(line);
+    if words < 2 {
+        return Number::Bad;
+    }
+    if words - 2 != n {
+        return Number::Bad;
+    }
+    let mut last: u64 = 0;
+    let mut i = 0;
+    while i < n {
+        let Number::Is(v) = argument(shape[i], text::word(line, i + 2), lent) else {
+            return Number::Bad;
+        };
+        put_at(numbers, i, v);
+        last = v;
+        i += 1;
+    }
+    Number::Is(last)
+}
+
+// Whether a row is the line's.
+fn try_row(line: &[u8], table: &[u8], row: usize, numbers: &mut [u64], lent: &mut [u8]) -> Number {
+    if 100 <= row {
+        return Number::Bad;
+    }
+    if text::is(line, 1, text::word(table, 2 * row)) {
+        return arguments(line, text::word(table, 2 * row + 1), numbers, lent);
+    }
+    Number::Bad
+}
+
+// The first row of a table that is the line's. A row is a name, the line's word 1, and a letter for each word that follows it there: d
+// decimal, h hex, i identifier, f flags, b bytes, m std, ext or both, k std or ext, s timestamp; t, r and o are the words tx, rx and
+// off; - is no word.
+fn row_of(line: &[u8], table: &[u8], numbers: &mut [u64], lent: &mut [u8]) -> Line {
+    let n = text::count(table) / 2;
+    let mut row = 0;
+    while row < n {
+        if let Number::Is(last) = try_row(line, table, row, numbers, lent) {
+            return Line::Row(Spoken {
+                row: row,
+                count: last as usize,
+            });
+        }
+        row += 1;
+    }
+    Line::Bad
+}
+
+// A call's line, `call NAME ARGS...`.
+pub fn understood(line: &[u8], numbers: &mut [u64], lent: &mut [u8]) -> Line {
+    let table =
+        b"reset - get_op_mode - read_register h checked_read h write_register hh verify_long - read_ram hd write_ram hb verify - modify_register hhh set_op_mode d configure_osc dd configure_io dddd configure_bit_timing ddddddddd configure dddddddddddddddddddd configure_fifo dddtddddddd configure_fifo dddrddddd configure_filter do configure_filter ddmii request d push difdb transmit difdb has_next d peek d get d";
+    row_of(line, table, numbers, lent)
+}
+
+// A result's line, `= RESULT`. What it says goes to the buffers.
+pub fn is_result(line: &[u8], numbers: &mut [u64], lent: &mut [u8]) -> bool {
+    let table =
+        b"ok - none - yes - no - panic - refused d refused dh refused dd word h mode d bytes b message khfsb";
+    match row_of(line, table, numbers, lent) {
+        Line::Row(_) => true,
+        Line::Bad => false,
+    }
+}

@@ -1,0 +1,31 @@
+// Calls from call lines: the numbers of a line become the arguments of the call that its row names. A number that is too large for
+// its parameter becomes the parameter's largest, which the call refuses by the same number.
+mod fifos;
+mod plans;
+mod setup;
+mod simple;
+
+use driver::Call;
+
+// The buffer that is lent to a RAM read, a peek and a get.
+pub const ROOM: usize = 2048;
+
+// The call of a row, `lent` being the bytes of its last argument.
+pub fn start(row: usize, a: &[u64], lent: &[u8]) -> Call {
+    if row < 5 {
+        return driver::of_register(simple::register(row, a));
+    }
+    if row < 8 {
+        return driver::of_ram(simple::ram(row, a, lent.len()));
+    }
+    if row < 20 {
+        return driver::of_plan(plans::plan(row, a));
+    }
+    if row == 20 {
+        return driver::of_push(fifos::push(a, lent));
+    }
+    if row == 21 {
+        return driver::of_transmit(fifos::transmit(a, lent));
+    }
+    driver::of_fetch(fifos::fetch(row, a))
+}
