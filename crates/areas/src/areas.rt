@@ -1,6 +1,6 @@
 // The changes that configure a FIFO and a filter.
 ghost use mathlib.Core.Path.{_≡_};
-ghost use mathlib.Core.Bool.{Bool, true, _&&_};
+ghost use mathlib.Core.Bool.{true, _&&_};
 ghost use Rattle.laws.specs.If.{if_then_else_};
 ghost use Rattle.spi.specs.declared.refusal.Refusal.{Refusal};
 ghost use Rattle.spi.specs.declared.refusal.Done.{Done};

@@ -12,8 +12,8 @@ use Rattle.register.specs.declared.RegisterCall.{RegisterCall}
 use Rattle.ram.specs.declared.RamCall.{RamCall}
 use Rattle.plan.specs.declared.plan.Plan.{Plan}
 use Rattle.tx_fifo.specs.declared.push.Push.{Push}
-use Rattle.tx_fifo.specs.declared.transmit.Transmit.{Transmit}
-use Rattle.tx_fifo.specs.Transmit.{transmitTalkOf}
+use Rattle.transmit.specs.declared.transmit.Transmit.{Transmit}
+use Rattle.transmit.specs.Transmit.{transmitTalkOf}
 use Rattle.rx_fifo.specs.declared.Fetch.{Fetch}
 use Rattle.register.specs.Talk as register-talks
 use Rattle.ram.specs.Talk as ram-talks
@@ -23,7 +23,7 @@ use Rattle.register.proofs.Runs as register
 use Rattle.ram.proofs.Runs as ram
 use Rattle.plan.proofs.Runs as plan
 use Rattle.tx_fifo.proofs.Runs as push
-use Rattle.tx_fifo.proofs.Transmits as transmit
+use Rattle.transmit.proofs.Transmits as transmit
 use Rattle.rx_fifo.proofs.Runs as fetch
 use Rattle.rx_fifo.specs.Talk.{outcomeBy}
 use Rattle.driver.specs.declared.calls.CallAt.{CallAt}

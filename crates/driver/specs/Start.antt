@@ -9,7 +9,7 @@ use Rattle.plan.specs.declared.plan.Plan.{Plan}
 use Rattle.plan.specs.Step.{refusedPlan}
 use Rattle.tx_fifo.specs.declared.push.Push.{Push}
 use Rattle.tx_fifo.specs.declared.push.PushAt.{PushAt}
-use Rattle.tx_fifo.specs.declared.transmit.Transmit.{Transmit}
+use Rattle.transmit.specs.declared.transmit.Transmit.{Transmit}
 use Rattle.rx_fifo.specs.declared.Fetch.{Fetch}
 use Rattle.rx_fifo.specs.Step.{hasNextStart}
 use Rattle.driver.specs.declared.calls.CallAt.{CallAt}

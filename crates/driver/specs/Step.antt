@@ -7,13 +7,13 @@ use Rattle.spi.specs.declared.ask.Answer.{Answer}
 use Rattle.call.specs.declared.Outcome.{Outcome}
 use Rattle.plan.specs.declared.plan.Plan.{Plan}
 use Rattle.tx_fifo.specs.declared.push.Push.{Push}
-use Rattle.tx_fifo.specs.declared.transmit.Transmit.{Transmit}
+use Rattle.transmit.specs.declared.transmit.Transmit.{Transmit}
 use Rattle.rx_fifo.specs.declared.Fetch.{Fetch}
 use Rattle.register.specs.Step as register
 use Rattle.ram.specs.Step as ram
 use Rattle.plan.specs.Step as plan
 use Rattle.tx_fifo.specs.Step as push
-use Rattle.tx_fifo.specs.Transmit.{transmitAsk, transmitStep, transmitOutcome}
+use Rattle.transmit.specs.Transmit.{transmitAsk, transmitStep, transmitOutcome}
 use Rattle.rx_fifo.specs.Step as fetch
 use Rattle.rx_fifo.specs.Outcome as found
 use Rattle.driver.specs.declared.calls.CallAt.{CallAt}

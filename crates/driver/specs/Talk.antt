@@ -6,7 +6,7 @@ use Rattle.register.specs.Talk as register
 use Rattle.ram.specs.Talk as ram
 use Rattle.plan.specs.Talk as plan
 use Rattle.tx_fifo.specs.Talk as push
-use Rattle.tx_fifo.specs.Transmit.{transmitTalkOf}
+use Rattle.transmit.specs.Transmit.{transmitTalkOf}
 use Rattle.rx_fifo.specs.declared.Fetch.{Fetch}
 use Rattle.rx_fifo.specs.Talk as fetch
 use Rattle.driver.specs.declared.calls.CallAt.{CallAt}

@@ -9,8 +9,8 @@ use register::RegisterCall;
 use rx_fifo::Fetch;
 use spi::Answer;
 use spi::Ask;
+use transmit::Transmit;
 use tx_fifo::Push;
-use tx_fifo::Transmit;
 
 // Which family a call is of. What has an array in it stands beside.
 pub enum CallAt {
@@ -68,7 +68,7 @@ pub fn ask(s: Call) -> Ask
         CallAt::Ram(r) => ram::ram_ask(r),
         CallAt::Plan => plan::plan_ask(plan_in(s)),
         CallAt::Push => tx_fifo::push_ask(push_in(s)),
-        CallAt::Transmit => tx_fifo::transmit_ask(transmit_in(s)),
+        CallAt::Transmit => transmit::transmit_ask(transmit_in(s)),
         CallAt::Fetch => rx_fifo::fetch_ask(fetch_in(s)),
     }
 }
@@ -119,7 +119,7 @@ fn push_stepped(s: Call, answer: Answer, rx: &[u8]) -> Call
 fn transmit_stepped(s: Call, answer: Answer, rx: &[u8]) -> Call
     ensures { λ r. ⌜ r ≡ stepAt CallAt.Transmit s answer (now (rx .entry)) ⌝ }
 {
-    let t = tx_fifo::transmit_step(transmit_in(s), answer, rx);
+    let t = transmit::transmit_step(transmit_in(s), answer, rx);
     let plan = t.request;
     let push = t.push;
     let fetch = s.fetch;
@@ -168,7 +168,7 @@ pub fn outcome(s: Call) -> Outcome
         CallAt::Ram(r) => ram::ram_outcome(r),
         CallAt::Plan => plan::plan_outcome(plan_in(s)),
         CallAt::Push => tx_fifo::push_outcome(push_in(s)),
-        CallAt::Transmit => tx_fifo::transmit_outcome(transmit_in(s)),
+        CallAt::Transmit => transmit::transmit_outcome(transmit_in(s)),
         CallAt::Fetch => rx_fifo::fetch_outcome(fetch_in(s)),
     }
 }

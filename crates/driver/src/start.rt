@@ -9,9 +9,9 @@ use ram::RamCall;
 use register::RegisterCall;
 use rx_fifo::Fetch;
 use spi::Refusal;
+use transmit::Transmit;
 use tx_fifo::Push;
 use tx_fifo::PushAt;
-use tx_fifo::Transmit;
 
 fn idle_push() -> Push
     ensures { λ r. ⌜ r ≡ idlePush ⌝ }

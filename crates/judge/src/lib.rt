@@ -12,45 +12,38 @@ pub use state::is_due;
 pub use state::is_lost;
 pub use state::told;
 
-// The first difference of a case is held until its end, since only then it is known whether the case is compared.
-fn held(s: State, line: &[u8], out: &[u8], theirs: &mut [u8], mine: &mut [u8]) -> State {
+// The first difference of a case is held until its end, since only then it is known whether the case is compared: what the transcript
+// has behind `-`, what the port did behind `+`.
+fn held(s: State, line: &[u8], out: &[u8], note: &mut [u8]) -> State {
     if check::same(line, out) {
         return s;
     }
-    let n = lines::put(theirs, 0, line);
-    let k = lines::put(mine, 0, out);
-    state::differing(s, n, k)
+    let a = lines::put(note, 0, b"- ");
+    let b = lines::put(note, a, line);
+    let c = lines::put(note, b, b"\n+ ");
+    let d = lines::put(note, c, out);
+    state::differing(s, lines::put(note, d, b"\n"))
 }
 
 // What the port does, `out`, is compared with the line, and with nothing where the case ends too early.
-fn judged(
-    s: State,
-    item: Item,
-    line: &[u8],
-    out: &[u8],
-    theirs: &mut [u8],
-    mine: &mut [u8],
-) -> State {
+fn judged(s: State, item: Item, line: &[u8], out: &[u8], note: &mut [u8]) -> State {
     if state::is_due(s, item) {
-        return held(s, state::compared(item, line), out, theirs, mine);
+        return held(s, state::compared(item, line), out, note);
     }
     s
 }
 
 // A line that is a case by itself.
-fn single(s: State, item: Item, line: &[u8], counts: &mut [u64]) {
+fn single(s: State, item: Item, line: &[u8], note: &mut [u8], counts: &mut [u64]) {
     if !singles::is_single(item) {
         return;
     }
     let mut out = [0u8; 8192];
     match singles::single(item, line, &mut out) {
-        Number::Is(n) => state::count_single(
-            s,
-            singles::class(item, line),
-            line,
-            text::front(&out, n as usize),
-            counts,
-        ),
+        Number::Is(n) => {
+            let t = held(s, line, text::front(&out, n as usize), note);
+            state::count_single(t, singles::class(item, line), note, counts);
+        }
         Number::Bad => state::count_bad(s, counts),
     }
 }
@@ -96,13 +89,12 @@ pub fn settled(
     item: Item,
     line: &[u8],
     out: &[u8],
-    theirs: &mut [u8],
-    mine: &mut [u8],
+    note: &mut [u8],
     counts: &mut [u64],
 ) -> State {
-    let s = judged(state::next(before), item, line, out, theirs, mine);
-    let t = state::closed(s, item, theirs, mine, counts);
-    single(t, item, line, counts);
+    let s = judged(state::next(before), item, line, out, note);
+    let t = state::closed(s, item, note, counts);
+    single(t, item, line, note, counts);
     t
 }
 

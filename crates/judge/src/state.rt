@@ -23,7 +23,7 @@ const AGREE: usize = 0;
 const DIFFER: usize = 8;
 
 // The line that was read last and the one that the case began with, counted from 1; the line where the port first did otherwise, and
-// how long the two texts are that are held of it; the case's class; how many bytes the call's line has, and how many came last.
+// how long the text is that is held of it; the case's class; how many bytes the call's line has, and how many came last.
 pub struct State {
     pub number: u64,
     pub start: u64,
@@ -31,8 +31,7 @@ pub struct State {
     pub class: u8,
     pub differs: bool,
     pub at: u64,
-    pub theirs: usize,
-    pub mine: usize,
+    pub note: usize,
     pub lent: usize,
     pub got: usize,
 }
@@ -45,8 +44,7 @@ pub fn begin() -> State {
         class: 0,
         differs: false,
         at: 0,
-        theirs: 0,
-        mine: 0,
+        note: 0,
         lent: 0,
         got: 0,
     }
@@ -76,17 +74,13 @@ fn number(n: u64) {
     io::print_decimal(STDOUT_FILENO, n);
 }
 
-// What the transcript has stands behind `-`, what the port did behind `+`.
-fn report(at: u64, start: u64, theirs: &[u8], mine: &[u8]) {
+fn report(at: u64, start: u64, note: &[u8]) {
     write(b"line ");
     number(at);
     write(b" differs, in the case of line ");
     number(start);
-    write(b"\n- ");
-    write(theirs);
-    write(b"\n+ ");
-    write(mine);
     write(b"\n");
+    write(note);
 }
 
 fn error(at: u64) {
@@ -142,12 +136,11 @@ pub fn compared(item: Item, line: &[u8]) -> &[u8] {
     line
 }
 
-pub fn differing(s: State, theirs: usize, mine: usize) -> State {
+pub fn differing(s: State, note: usize) -> State {
     let mut t = s;
     t.differs = true;
     t.at = s.number;
-    t.theirs = theirs;
-    t.mine = mine;
+    t.note = note;
     t
 }
 
@@ -158,12 +151,13 @@ pub fn classed(s: State, class: u8) -> State {
 }
 
 // A case ends: it is counted, and told where it differs. One without a result differs whatever its class.
-pub fn closed(s: State, item: Item, theirs: &[u8], mine: &[u8], counts: &mut [u64]) -> State {
+pub fn closed(s: State, item: Item, note: &[u8], counts: &mut [u64]) -> State {
     let mut t = s;
     if !is_end(item) {
         return t;
     }
     t.phase = IDLE;
+    t.differs = false;
     if s.phase == IDLE {
         return t;
     }
@@ -176,12 +170,7 @@ pub fn closed(s: State, item: Item, theirs: &[u8], mine: &[u8], counts: &mut [u6
         return t;
     }
     if s.differs {
-        report(
-            s.at,
-            s.start,
-            text::front(theirs, s.theirs),
-            text::front(mine, s.mine),
-        );
+        report(s.at, s.start, text::front(note, s.note));
         counted(counts, DIFFER);
         return t;
     }
@@ -254,18 +243,18 @@ pub fn is_lost(s: State) -> bool {
     s.phase == LOST
 }
 
-// A line that is a case by itself: the class it is of, and the line that the port makes of it.
-pub fn count_single(s: State, class: u8, line: &[u8], mine: &[u8], counts: &mut [u64]) {
+// A line that is a case by itself, with its class and what is held of it where it differs.
+pub fn count_single(s: State, class: u8, note: &[u8], counts: &mut [u64]) {
     if 0 < class {
         counted(counts, class as usize);
         return;
     }
-    if check::same(line, mine) {
-        counted(counts, AGREE);
+    if s.differs {
+        report(s.number, s.number, text::front(note, s.note));
+        counted(counts, DIFFER);
         return;
     }
-    report(s.number, s.number, line, mine);
-    counted(counts, DIFFER);
+    counted(counts, AGREE);
 }
 
 // Such a line that is not understood.

@@ -53,8 +53,7 @@ fn run(
     lent: &mut [u8; 4200],
     rx: &mut [u8; 4200],
     out: &mut [u8; 8192],
-    theirs: &mut [u8; 8192],
-    mine: &mut [u8; 8192],
+    note: &mut [u8; 16400],
     numbers: &mut [u64; 24],
     counts: &mut [u64; 9],
 ) {
@@ -79,7 +78,7 @@ fn run(
             s.got,
             out,
         );
-        s = judge::settled(s, item, line, text::front(out, n), theirs, mine, counts);
+        s = judge::settled(s, item, line, text::front(out, n), note, counts);
         let heard = judge::hear(item, line, long, numbers, lent);
         s = judge::after(s, item, heard, seen, line);
         seen = judge::seen_after(seen, item, heard, line, numbers, rx);
@@ -112,8 +111,7 @@ fn main() {
     let mut lent = [0u8; 4200];
     let mut rx = [0u8; 4200];
     let mut out = [0u8; 8192];
-    let mut theirs = [0u8; 8192];
-    let mut mine = [0u8; 8192];
+    let mut note = [0u8; 16400];
     let mut numbers = [0u64; 24];
     let mut counts = [0u64; 9];
     run(
@@ -122,8 +120,7 @@ fn main() {
         &mut lent,
         &mut rx,
         &mut out,
-        &mut theirs,
-        &mut mine,
+        &mut note,
         &mut numbers,
         &mut counts,
     );

@@ -6,8 +6,8 @@ use crate::simple::number;
 use crate::simple::word;
 use header::Header;
 use rx_fifo::Fetch;
+use transmit::Transmit;
 use tx_fifo::Push;
-use tx_fifo::Transmit;
 
 // Whether a flag's bit is in the number of the flags.
 fn has(flags: u64, n: u64) -> bool {
@@ -32,7 +32,7 @@ pub fn push(a: &[u64], payload: &[u8]) -> Push {
 }
 
 pub fn transmit(a: &[u64], payload: &[u8]) -> Transmit {
-    tx_fifo::transmit_start(byte(a, 0), header_of(a), word(a, 3), payload)
+    transmit::transmit_start(byte(a, 0), header_of(a), word(a, 3), payload)
 }
 
 pub fn fetch(row: usize, a: &[u64]) -> Fetch {

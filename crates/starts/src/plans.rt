@@ -18,6 +18,6 @@ pub fn plan(row: usize, a: &[u64]) -> Plan {
         16 => setup::rx_call(a),
         17 => configure::disable_filter(byte(a, 0)),
         18 => setup::filter_call(a),
-        _ => tx_fifo::request_start(byte(a, 0)),
+        _ => transmit::request_start(byte(a, 0)),
     }
 }

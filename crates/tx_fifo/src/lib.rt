@@ -1,6 +1,5 @@
-// Calls on FIFOs that send: a message is pushed, the FIFO is requested to send, and both as one call.
+// The call by which a FIFO that sends is given a message.
 mod push;
-mod transmit;
 
 pub use push::Push;
 pub use push::PushAt;
@@ -9,9 +8,3 @@ pub use push::push_done;
 pub use push::push_outcome;
 pub use push::push_start;
 pub use push::push_step;
-pub use transmit::Transmit;
-pub use transmit::request_start;
-pub use transmit::transmit_ask;
-pub use transmit::transmit_outcome;
-pub use transmit::transmit_start;
-pub use transmit::transmit_step;

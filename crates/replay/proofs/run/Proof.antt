@@ -6,10 +6,10 @@ use Rattle.replay.proofs.run.Statement.{statement}
 use Rattle.replay.proofs.run.Tie as tie
 
 abbrev Inv-loop : tie.InvT-loop
-Inv-loop piece₀ buf₀ lent₀ rx₀ out₀ theirs₀ mine₀ numbers₀ counts₀ r₀ s₀ seen₀ call₀ turns₀ piece buf lent rx out theirs mine numbers counts r s seen call turns = Unit {0}
+Inv-loop piece₀ buf₀ lent₀ rx₀ out₀ note₀ numbers₀ counts₀ r₀ s₀ seen₀ call₀ turns₀ piece buf lent rx out note numbers counts r s seen call turns = Unit {0}
 
 abbrev μ-loop : tie.MeasureT-loop
-μ-loop piece₀ buf₀ lent₀ rx₀ out₀ theirs₀ mine₀ numbers₀ counts₀ r₀ s₀ seen₀ call₀ turns₀ piece buf lent rx out theirs mine numbers counts r s seen call turns = turns
+μ-loop piece₀ buf₀ lent₀ rx₀ out₀ note₀ numbers₀ counts₀ r₀ s₀ seen₀ call₀ turns₀ piece buf lent rx out note numbers counts r s seen call turns = turns
 
 fewer : (n : ℕ) → 1 ≤ n → n - 1 < n
 fewer n h = omega arith

@@ -1,9 +1,9 @@
--- `tx_fifo::transmit::transmit_start` meets its contract.
+-- `transmit::transmit::transmit_start` meets its contract.
 -- Assumes nothing.
 use borrow.Author.Needs.{needs}
-use Rattle.tx_fifo.specs.Transmit.{transmitStart}
-use Rattle.tx_fifo.proofs.transmit.transmit_start.Statement.{statement}
-use Rattle.tx_fifo.proofs.transmit.transmit_start.Tie as tie
+use Rattle.transmit.specs.Transmit.{transmitStart}
+use Rattle.transmit.proofs.transmit.transmit_start.Statement.{statement}
+use Rattle.transmit.proofs.transmit.transmit_start.Tie as tie
 
 pub transmit-start-spec : {M : Type 1} → statement M
 unfolding transmitStart

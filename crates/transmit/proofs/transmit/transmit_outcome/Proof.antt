@@ -1,10 +1,10 @@
--- `tx_fifo::transmit::transmit_outcome` meets its contract.
+-- `transmit::transmit::transmit_outcome` meets its contract.
 -- Assumes nothing.
 use mathlib.Core.Path.{sym, _∙_}
 use borrow.Author.Needs.{needs}
-use Rattle.tx_fifo.specs.Transmit.{transmitOutcome}
-use Rattle.tx_fifo.proofs.transmit.transmit_outcome.Statement.{statement}
-use Rattle.tx_fifo.proofs.transmit.transmit_outcome.Tie as tie
+use Rattle.transmit.specs.Transmit.{transmitOutcome}
+use Rattle.transmit.proofs.transmit.transmit_outcome.Statement.{statement}
+use Rattle.transmit.proofs.transmit.transmit_outcome.Tie as tie
 
 pub transmit-outcome-spec : {M : Type 1} → statement M
 unfolding transmitOutcome

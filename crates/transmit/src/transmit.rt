@@ -1,12 +1,6 @@
 // The request call, by which a FIFO is to send what it holds, and transmit: a push, and where it is done a request.
 ghost use mathlib.Core.Path.{_≡_};
-ghost use Rattle.tx_fifo.specs.Transmit.{requestStart, transmitStart, transmitAsk, transmitStep, transmitOutcome};
-use crate::Push;
-use crate::push_ask;
-use crate::push_done;
-use crate::push_outcome;
-use crate::push_start;
-use crate::push_step;
+ghost use Rattle.transmit.specs.Transmit.{requestStart, transmitStart, transmitAsk, transmitStep, transmitOutcome};
 use call::Outcome;
 use fifo::FifoControl;
 use fifo::is_fifo;
@@ -23,6 +17,12 @@ use plan::with_flag;
 use spi::Answer;
 use spi::Ask;
 use spi::Refusal;
+use tx_fifo::Push;
+use tx_fifo::push_ask;
+use tx_fifo::push_done;
+use tx_fifo::push_outcome;
+use tx_fifo::push_start;
+use tx_fifo::push_step;
 
 // Both calls from the start; the request is not looked at before the push is done. Where it is refused then, the message was
 // accepted. The call's body is that of the push.

@@ -1,10 +1,10 @@
--- `tx_fifo::transmit::request_start` meets its contract.
+-- `transmit::transmit::request_start` meets its contract.
 -- Assumes nothing.
 use mathlib.Core.Path.{sym, _∙_}
 use borrow.Author.Needs.{needs}
-use Rattle.tx_fifo.specs.Transmit.{requestStart}
-use Rattle.tx_fifo.proofs.transmit.request_start.Statement.{statement}
-use Rattle.tx_fifo.proofs.transmit.request_start.Tie as tie
+use Rattle.transmit.specs.Transmit.{requestStart}
+use Rattle.transmit.proofs.transmit.request_start.Statement.{statement}
+use Rattle.transmit.proofs.transmit.request_start.Tie as tie
 
 pub request-start-spec : {M : Type 1} → statement M
 unfolding requestStart

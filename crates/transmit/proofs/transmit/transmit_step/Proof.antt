@@ -1,10 +1,10 @@
--- `tx_fifo::transmit::transmit_step` meets its contract.
+-- `transmit::transmit::transmit_step` meets its contract.
 -- Assumes nothing.
 use mathlib.Core.Path.{sym, _∙_}
 use borrow.Author.Needs.{needs}
-use Rattle.tx_fifo.specs.Transmit.{transmitStep}
-use Rattle.tx_fifo.proofs.transmit.transmit_step.Statement.{statement}
-use Rattle.tx_fifo.proofs.transmit.transmit_step.Tie as tie
+use Rattle.transmit.specs.Transmit.{transmitStep}
+use Rattle.transmit.proofs.transmit.transmit_step.Statement.{statement}
+use Rattle.transmit.proofs.transmit.transmit_step.Tie as tie
 
 pub transmit-step-spec : {M : Type 1} → statement M
 unfolding transmitStep

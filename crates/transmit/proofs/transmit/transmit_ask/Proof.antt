@@ -1,10 +1,10 @@
--- `tx_fifo::transmit::transmit_ask` meets its contract.
+-- `transmit::transmit::transmit_ask` meets its contract.
 -- Assumes nothing.
 use mathlib.Core.Path.{sym, _∙_}
 use borrow.Author.Needs.{needs}
-use Rattle.tx_fifo.specs.Transmit.{transmitAsk}
-use Rattle.tx_fifo.proofs.transmit.transmit_ask.Statement.{statement}
-use Rattle.tx_fifo.proofs.transmit.transmit_ask.Tie as tie
+use Rattle.transmit.specs.Transmit.{transmitAsk}
+use Rattle.transmit.proofs.transmit.transmit_ask.Statement.{statement}
+use Rattle.transmit.proofs.transmit.transmit_ask.Tie as tie
 
 pub transmit-ask-spec : {M : Type 1} → statement M
 unfolding transmitAsk

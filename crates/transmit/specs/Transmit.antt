@@ -17,9 +17,9 @@ use Rattle.plan.specs.Talk.{changeTalk, talkOf as planTalkOf}
 use Rattle.plan.specs.declared.change.Change.{Change}
 use Rattle.plan.specs.declared.item.Item.{Item}
 use Rattle.plan.specs.declared.plan.Plan.{Plan}
-use Rattle.tx_fifo.specs.declared.transmit.Transmit.{Transmit}
+use Rattle.transmit.specs.declared.transmit.Transmit.{Transmit}
 use Rattle.tx_fifo.specs.Step.{startOf, stepOf, askOf, outcomeOf, isDone}
 use Rattle.tx_fifo.specs.Talk.{pushCall, talkOf}
 
 -- ---- request
 

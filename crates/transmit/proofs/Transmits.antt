@@ -24,12 +24,12 @@ use Rattle.plan.specs.Talk.{planTalk, talkOf as planTalkOf}
 use Rattle.plan.specs.declared.item.Item.{Item}
 use Rattle.plan.proofs.Changes.{change-sets}
 use Rattle.plan.proofs.Runs as machine
-use Rattle.tx_fifo.specs.declared.transmit.Transmit.{Transmit}
+use Rattle.transmit.specs.declared.transmit.Transmit.{Transmit}
 use Rattle.tx_fifo.specs.Step.{toSend, stepOf, isDone}
 use Rattle.tx_fifo.specs.Talk.{pushCall, talkOf}
-use Rattle.tx_fifo.specs.Transmit.{requestChange, requestStart, requestCall, transmitStart, transmitAsk, transmitStep, transmitOutcome, transmitCall, transmitTalkOf}
+use Rattle.transmit.specs.Transmit.{requestChange, requestStart, requestCall, transmitStart, transmitAsk, transmitStep, transmitOutcome, transmitCall, transmitTalkOf}
 use Rattle.tx_fifo.proofs.Runs as push
 use Rattle.tx_fifo.proofs.Runs.{finished, kept}
 
 -- ---- one call and then another: of the first until it is done, then of the second
 
