@@ -101,6 +101,16 @@ pub fn called(row: usize, a: &[u64]) -> Seen {
     }
 }
 
+// One more than the bytes that a RAM read asks for, 0 for any other call.
+pub fn read_of(s: Seen) -> usize {
+    if s.row == 6 {
+        if s.size < 0xFFFF_FFFF {
+            return s.size as usize + 1;
+        }
+    }
+    0
+}
+
 fn one_more(n: u32) -> u32 {
     if n < 1000 { n + 1 } else { n }
 }

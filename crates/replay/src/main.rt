@@ -1,5 +1,4 @@
 // Holds a transcript against the port: makes each call, gives it the answers that are written there, and compares what it does.
-use classes::Seen;
 use items::Item;
 use judge::State;
 use port::Step;
@@ -19,15 +18,6 @@ fn is_end(kind: Kind) -> bool {
         Kind::End => true,
         _ => false,
     }
-}
-
-fn read_of(seen: Seen) -> usize {
-    if seen.row == 6 {
-        if seen.size < 0xFFFF_FFFF {
-            return seen.size as usize + 1;
-        }
-    }
-    0
 }
 
 // Where a case begins the call is made anew; answers go to it as long as it does what the transcript has.
@@ -71,7 +61,7 @@ fn run(
         let n = port::line(
             call,
             judge::is_due(s, item),
-            read_of(seen),
+            classes::read_of(seen),
             lent,
             s.lent,
             rx,

@@ -1,146 +1,129 @@
-// The calls on registers, on RAM and on FIFOs, each once, against answers that are written down here; the transcript is compared
-// with one worked out from the scope document apart from the code.
-use driver::of_fetch;
-use driver::of_plan;
-use driver::of_push;
-use driver::of_ram;
-use driver::of_register;
-use driver::of_transmit;
-use header::Header;
-use transcript::BACK;
-use transcript::run;
+// Runs calls against answers that are written down, and writes the transcript of it. Standard input has for each call its line and
+// then, one a line, what it is answered: `< BYTES`, `!`, `wait 500`. What the program writes is compared with a transcript that was
+// worked out from the scope document apart from the code.
+use items::Item;
+use libc::STDOUT_FILENO;
+use port::Step;
+use reading::Kind;
+use spi::Answer;
+use spoken::Line;
 
-fn registers() {
-    run(b"reset", of_register(register::reset_start()), b"", &[0]);
-    run(
-        b"read_register 05c",
-        of_register(register::read_start(0x05C)),
-        b"",
-        b"\x04\x00\x04\x60\x00",
-    );
-    run(
-        b"write_register 05c e3600480",
-        of_register(register::write_start(0x05C, 0xE360_0480)),
-        b"",
-        &[0],
-    );
-    run(
-        b"modify_register e04 00000003 40000000",
-        of_plan(plan::modify_start(0xE04, 3, 0x4000_0000)),
-        b"",
-        b"\x04\x03\x00\x00\x03\x00",
-    );
-    run(
-        b"checked_read e14",
-        of_register(register::checked_start(0xE14)),
-        b"",
-        b"\x06\x00\x00\x00\x00\x00\x00\x06\x60\x04\x00\x00\x0c\x55",
-    );
-    run(
-        b"get_op_mode",
-        of_register(register::get_op_mode_start()),
-        b"",
-        b"\x04\x60\x07\x98\x04",
-    );
-}
-
-fn ram_calls() {
-    run(
-        b"read_ram bfc 4",
-        of_ram(ram::read_ram_start(0xBFC, 80, 8, 4)),
-        b"",
-        b"\x04\x01\x02\x03\x04",
-    );
-    run(
-        b"read_ram bfc 8",
-        of_ram(ram::read_ram_start(0xBFC, 80, 0, 8)),
-        b"",
-        b"",
-    );
-    run(
-        b"write_ram 400 01020304",
-        of_ram(ram::write_ram_start(0x400, 4)),
-        b"\x01\x02\x03\x04",
-        &[0],
-    );
-    run(
-        b"write_ram 400 010203",
-        of_ram(ram::write_ram_start(0x400, 3)),
-        b"\x01\x02\x03",
-        b"",
-    );
-    run(
-        b"verify_long",
-        of_ram(ram::verify_long_start()),
-        b"",
-        &[0, BACK],
-    );
-}
-
-fn header() -> Header {
-    Header {
-        extended: false,
-        id: 0x123,
-        rtr: false,
-        brs: false,
-        fdf: false,
-        esi: false,
+fn is_end(kind: Kind) -> bool {
+    match kind {
+        Kind::End => true,
+        _ => false,
     }
 }
 
-fn messages() {
-    let p = tx_fifo::push_start(1, header(), 5, b"\x01\x02\x03");
-    run(
-        b"push 1 s123 - 5 010203",
-        of_push(p),
-        b"",
-        b"\x04\x80\x00\x00\xe3\x04\x01\x00\x00\x00\x04\x10\x00\x00\x00\x00\x00",
-    );
-    run(
-        b"push 1 s123 - 5 010203",
-        of_push(p),
-        b"",
-        b"\x04\x80\x00\x00\xe3\x04\x01\x00\x00\x00\x04\x10\x00\x00\x00\xff",
-    );
-    run(
-        b"request 31",
-        of_plan(tx_fifo::request_start(31)),
-        b"",
-        b"\x04\x80\x00\x00\xe3\x00",
-    );
-    let t = tx_fifo::transmit_start(1, header(), 5, b"\x01\x02\x03");
-    run(
-        b"transmit 1 s123 - 5 010203",
-        of_transmit(t),
-        b"",
-        b"\x04\x80\x00\x00\xe3\x04\x01\x00\x00\x00\x04\x00\x00\x00\x00\x00\x00\x04\x80\x00\x00\xe3\xff",
-    );
+fn write(s: &[u8]) {
+    io::write_all(STDOUT_FILENO, s);
 }
 
-fn receiving() {
-    run(
-        b"has_next 2",
-        of_fetch(rx_fifo::has_next_start(2)),
-        b"",
-        b"\x04\x20\x00\x00\xe3\x04\x01\x00\x00\x00",
-    );
-    run(
-        b"peek 2",
-        of_fetch(rx_fifo::peek_start(2, 80)),
-        b"",
-        b"\x04\x20\x00\x00\xe3\x04\x01\x00\x00\x00\x04\x40\x00\x00\x00\x08\x36\x8e\x07\x10\x13\x00\x00\x00\x04\x20\x00\x00\xe3\x04\x78\x56\x34\x12\x04\xaa\xbb\xcc\xdd",
-    );
-    run(
-        b"get 2",
-        of_fetch(rx_fifo::get_start(2, 80)),
-        b"",
-        b"\x04\x00\x00\x00\xe3\x04\x01\x00\x00\x00\x04\x40\x00\x00\x00\x08\x23\x01\x00\x00\x00\x00\x00\x00\x04\x00\x00\x00\xe3\x00\x04\x00\x00\x00\xe3\x00",
-    );
+fn write_line(s: &[u8]) {
+    write(s);
+    write(b"\n");
+}
+
+// What the call does now. A wait is not written here: its line comes with the answers.
+fn show(s: &[u8]) {
+    if 0 < s.len() {
+        if s[0] != b'w' {
+            write_line(s);
+        }
+    }
+}
+
+fn step_of(item: Item, heard: Line) -> Step {
+    if let Line::Row(spoken) = heard {
+        return Step::Begin(spoken.row);
+    }
+    match item {
+        Item::Got(_) => Step::Answer(Answer::Exchanged),
+        Item::Failed => Step::Answer(Answer::Failed),
+        Item::Wait => Step::Answer(Answer::Waited),
+        _ => Step::Stay,
+    }
+}
+
+fn is_step(step: Step) -> bool {
+    match step {
+        Step::Stay => false,
+        _ => true,
+    }
+}
+
+fn got_of(item: Item) -> usize {
+    match item {
+        Item::Got(n) => n,
+        _ => 0,
+    }
+}
+
+// How many bytes the line of the call under way has, and one more than it reads from RAM.
+struct Sizes {
+    sent: usize,
+    read: usize,
+}
+
+fn sizes_after(s: Sizes, heard: Line, numbers: &[u64]) -> Sizes {
+    match heard {
+        Line::Row(spoken) => Sizes {
+            sent: spoken.count,
+            read: classes::read_of(classes::called(spoken.row, numbers)),
+        },
+        Line::Bad => s,
+    }
+}
+
+// A line at a time. No input has so many lines that the turns run out.
+fn run(
+    piece: &mut [u8; 65536],
+    buf: &mut [u8; 8192],
+    lent: &mut [u8; 4200],
+    rx: &mut [u8; 4200],
+    out: &mut [u8; 8192],
+    numbers: &mut [u64; 24],
+) {
+    let mut r = reading::begin();
+    let mut s = Sizes { sent: 0, read: 0 };
+    let mut call = driver::of_register(register::reset_start());
+    let mut turns = u64::MAX;
+    loop {
+        r = reading::next_line(r, piece, buf);
+        let kind = r.kind;
+        if is_end(kind) {
+            return;
+        }
+        let line = text::front(buf, r.len);
+        let item = items::item_of(line, false, rx);
+        let heard = judge::hear(item, line, false, numbers, lent);
+        let got = got_of(item);
+        let step = step_of(item, heard);
+        s = sizes_after(s, heard, numbers);
+        call = port::moved(call, step, numbers, lent, s.sent, rx, got);
+        let n = port::line(call, is_step(step), s.read, lent, s.sent, rx, got, out);
+        write_line(line);
+        show(text::front(out, n));
+        if turns < 1 {
+            return;
+        }
+        turns -= 1;
+    }
 }
 
 fn main() {
-    registers();
-    ram_calls();
-    messages();
-    receiving();
+    let mut piece = io::large_buffer();
+    let mut buf = [0u8; 8192];
+    let mut lent = [0u8; 4200];
+    let mut rx = [0u8; 4200];
+    let mut out = [0u8; 8192];
+    let mut numbers = [0u64; 24];
+    run(
+        &mut piece,
+        &mut buf,
+        &mut lent,
+        &mut rx,
+        &mut out,
+        &mut numbers,
+    );
 }
