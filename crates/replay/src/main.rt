@@ -58,29 +58,15 @@ fn run(
         let long = is_long(kind);
         let line = text::front(buf, r.len);
         let item = items::item_of(line, long, rx);
-        let n = port::line(
-            call,
-            judge::is_due(s, item),
-            classes::read_of(seen),
-            lent,
-            s.lent,
-            rx,
-            s.got,
-            out,
-        );
+        let due = judge::is_due(s, item);
+        let read = classes::read_of(seen);
+        let n = port::line(call, due, read, lent, s.lent, rx, s.got, out);
         s = judge::settled(s, item, line, text::front(out, n), note, counts);
         let heard = judge::hear(item, line, long, numbers, lent);
         s = judge::after(s, item, heard, seen, line);
         seen = judge::seen_after(seen, item, heard, line, numbers, rx);
-        call = port::moved(
-            call,
-            step_of(s, item, heard),
-            numbers,
-            lent,
-            s.lent,
-            rx,
-            s.got,
-        );
+        let step = step_of(s, item, heard);
+        call = port::moved(call, step, numbers, lent, s.lent, rx, s.got);
         if is_end(kind) {
             return;
         }
