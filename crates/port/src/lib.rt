@@ -1,9 +1,11 @@
 // The port's side: what a call does now, as a transcript's line, and where an answer takes it.
 use call::Outcome;
 use driver::Call;
+use items::Item;
 use send::Sent;
 use spi::Answer;
 use spi::Ask;
+use spoken::Line;
 
 fn count(s: Sent) -> usize {
     match s {
@@ -65,6 +67,19 @@ pub enum Step {
     Stay,
     Begin(usize),
     Answer(Answer),
+}
+
+// A call's line begins it, and what it is answered goes to it.
+pub fn step_of(item: Item, heard: Line) -> Step {
+    if let Line::Row(spoken) = heard {
+        return Step::Begin(spoken.row);
+    }
+    match item {
+        Item::Got(_) => Step::Answer(Answer::Exchanged),
+        Item::Failed => Step::Answer(Answer::Failed),
+        Item::Wait => Step::Answer(Answer::Waited),
+        _ => Step::Stay,
+    }
 }
 
 pub fn moved(

@@ -8,6 +8,20 @@ pub enum Kind {
     End,
 }
 
+pub fn is_long(kind: Kind) -> bool {
+    match kind {
+        Kind::Long => true,
+        _ => false,
+    }
+}
+
+pub fn is_end(kind: Kind) -> bool {
+    match kind {
+        Kind::End => true,
+        _ => false,
+    }
+}
+
 // Which bytes of the piece that was read last are left, and how many of the line's buffer are the line's.
 pub struct Reader {
     pub at: usize,

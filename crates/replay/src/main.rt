@@ -2,38 +2,14 @@
 use items::Item;
 use judge::State;
 use port::Step;
-use reading::Kind;
-use spi::Answer;
 use spoken::Line;
 
-fn is_long(kind: Kind) -> bool {
-    match kind {
-        Kind::Long => true,
-        _ => false,
-    }
-}
-
-fn is_end(kind: Kind) -> bool {
-    match kind {
-        Kind::End => true,
-        _ => false,
-    }
-}
-
-// Where a case begins the call is made anew; answers go to it as long as it does what the transcript has.
+// Answers go to the call as long as it does what the transcript has.
 fn step_of(s: State, item: Item, heard: Line) -> Step {
-    if let Line::Row(spoken) = heard {
-        return Step::Begin(spoken.row);
-    }
     if s.differs || judge::is_lost(s) {
         return Step::Stay;
     }
-    match item {
-        Item::Got(_) => Step::Answer(Answer::Exchanged),
-        Item::Failed => Step::Answer(Answer::Failed),
-        Item::Wait => Step::Answer(Answer::Waited),
-        _ => Step::Stay,
-    }
+    port::step_of(item, heard)
 }
 
 // A line at a time. No transcript has so many lines that the turns run out.
@@ -55,7 +31,7 @@ fn run(
     loop {
         r = reading::next_line(r, piece, buf);
         let kind = r.kind;
-        let long = is_long(kind);
+        let long = reading::is_long(kind);
         let line = text::front(buf, r.len);
         let item = items::item_of(line, long, rx);
         let due = judge::is_due(s, item);
@@ -67,7 +43,7 @@ fn run(
         seen = judge::seen_after(seen, item, heard, line, numbers, rx);
         let step = step_of(s, item, heard);
         call = port::moved(call, step, numbers, lent, s.lent, rx, s.got);
-        if is_end(kind) {
+        if reading::is_end(kind) {
             return;
         }
         if turns < 1 {

@@ -4,16 +4,7 @@
 use items::Item;
 use libc::STDOUT_FILENO;
 use port::Step;
-use reading::Kind;
-use spi::Answer;
 use spoken::Line;
-
-fn is_end(kind: Kind) -> bool {
-    match kind {
-        Kind::End => true,
-        _ => false,
-    }
-}
 
 fn write(s: &[u8]) {
     io::write_all(STDOUT_FILENO, s);
@@ -30,18 +21,6 @@ fn show(s: &[u8]) {
         if s[0] != b'w' {
             write_line(s);
         }
-    }
-}
-
-fn step_of(item: Item, heard: Line) -> Step {
-    if let Line::Row(spoken) = heard {
-        return Step::Begin(spoken.row);
-    }
-    match item {
-        Item::Got(_) => Step::Answer(Answer::Exchanged),
-        Item::Failed => Step::Answer(Answer::Failed),
-        Item::Wait => Step::Answer(Answer::Waited),
-        _ => Step::Stay,
     }
 }
 
@@ -91,14 +70,14 @@ fn run(
     loop {
         r = reading::next_line(r, piece, buf);
         let kind = r.kind;
-        if is_end(kind) {
+        if reading::is_end(kind) {
             return;
         }
         let line = text::front(buf, r.len);
         let item = items::item_of(line, false, rx);
         let heard = judge::hear(item, line, false, numbers, lent);
         let got = got_of(item);
-        let step = step_of(item, heard);
+        let step = port::step_of(item, heard);
         s = sizes_after(s, heard, numbers);
         call = port::moved(call, step, numbers, lent, s.sent, rx, got);
         let n = port::line(call, is_step(step), s.read, lent, s.sent, rx, got, out);
