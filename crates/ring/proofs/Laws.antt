@@ -1,0 +1,186 @@
+-- The laws of a ring's places, of the layout, and of the control word as it reads.
+-- Assumes nothing.
+use Prim.Native.Nat.{ℕ, zero, suc, _+_, _-_, _*_, _≤_, _<_}
+use mathlib.Core.Path.{_≡_, refl, sym, ap, _∙_}
+use mathlib.Core.Logic.{⊎-elim}
+use mathlib.Core.Bool.{true, false}
+use mathlib.Core.List.{List, [], _∷_}
+use native.Mathlib.Nat.{le-refl, le-trans, le-add-right, eq-or-lt-of-le, le-of-suc-le-suc, mul-le-mul-right, suc-mul}
+use native.Mathlib.Numerals.{add-one}
+use native.Mathlib.Omega.{arith}
+use borrow.Author.Tests.{ltb-true, ltb-false}
+use lib.Dec.{ltb}
+use lib.ListN.{getD}
+use Rattle.laws.specs.All.{all}
+use Rattle.laws.specs.If.{if_then_else_}
+use Rattle.laws.proofs.Choice.{by-if}
+use Rattle.laws.proofs.Table.{both}
+use Rattle.field.specs.Field.{Field, place as at, read, flag, write, Fits, apart, allApart}
+use Rattle.field.specs.Settings.{Setting, _:=_, settings, AllFit}
+use Rattle.field.proofs.Laws.{field-lt, read-write, write-other, apart-sym}
+use Rattle.field.proofs.Sets.{own}
+use Rattle.fifo.specs.Control.{UINC, TXREQ, FRESET}
+use Rattle.ring.specs.declared.ring.Fifo.{Fifo}
+use Rattle.ring.specs.Ring.{sending, depth, place, claimed, taken, increased, controlled, emptied, configured, commanded, turned}
+use Rattle.ring.specs.Registers.{frozenFields, copied, control}
+use Rattle.ring.specs.Layout.{size, room, end, base, slotAt}
+use Rattle.ring.specs.Laws.{slotEnd, SlotsApart, FifosApart, InRam, Alike, Frozen, UincReads0, FresetReads0}
+
+-- ---- the ring's places
+
+pub by-place : (P : ℕ → Type 0) (d h k : ℕ) → (h + k < d → P (h + k)) → (d ≤ h + k → P (h + k - d)) → P (place d h k)
+unfolding place
+by-place P d h k f g = by-if P (ltb (h + k) d) (λ e. f (ltb-true _ _ e)) (λ e. g (ltb-false _ _ e))
+
+-- a place is below every bound that the depth and the way there allow
+pub place-below : (b d h k : ℕ) → d ≤ b → h + k < b + d → place d h k < b
+place-below b d h k l s = by-place (λ p. p < b) d h k (λ a. omega arith) (λ a. omega arith)
+
+module _ (d h : ℕ) (l : h < d) where
+  pub place-lt : (k : ℕ) → k ≤ d → place d h k < d
+  place-lt k m = place-below d d h k (le-refl d) (omega arith)
+
+  pub place-zero : place d h 0 ≡ h
+  place-zero = by-place (λ p. p ≡ h) d h 0 (λ a. omega arith) (λ a. omega arith)
+
+  -- going on from the next place is going one further
+  pub place-next : (k : ℕ) → k < d → place d (place d h 1) k ≡ place d h (k + 1)
+  place-next k m =
+      by-place (λ r. place d (place d h 1) k ≡ r) d h (k + 1)
+      (λ c. by-place (λ p. place d p k ≡ h + (k + 1)) d h 1
+      (λ a. by-place (λ q. q ≡ h + (k + 1)) d (h + 1) k (λ b. omega arith) (λ b. omega arith))
+      (λ a. by-place (λ q. q ≡ h + (k + 1)) d (h + 1 - d) k (λ b. omega arith) (λ b. omega arith)))
+      (λ c. by-place (λ p. place d p k ≡ h + (k + 1) - d) d h 1
+      (λ a. by-place (λ q. q ≡ h + (k + 1) - d) d (h + 1) k (λ b. omega arith) (λ b. omega arith))
+      (λ a. by-place (λ q. q ≡ h + (k + 1) - d) d (h + 1 - d) k (λ b. omega arith) (λ b. omega arith)))
+
+  -- no two of the ring's places are the same
+  pub place-apart : (j k : ℕ) → j < d → k < d → (j ≡ k → ⊥) → place d h j ≡ place d h k → ⊥
+  place-apart j k m n ne =
+      by-place (λ p. p ≡ place d h k → ⊥) d h j
+      (λ a. by-place (λ q. h + j ≡ q → ⊥) d h k (λ b e. omega arith) (λ b e. omega arith))
+      (λ a. by-place (λ q. h + j - d ≡ q → ⊥) d h k (λ b e. omega arith) (λ b e. omega arith))
+
+-- ---- the layout
+
+module _ (ws : List ℕ) where
+  pub end-next : (n : ℕ) → end ws (suc n) ≡ end ws n + room (getD ws (suc n) 0)
+  unfolding end
+  end-next n = refl
+
+  pub end-plus : (n : ℕ) → end ws (n + 1) ≡ end ws n + room (getD ws (n + 1) 0)
+  end-plus n = rw add-one (end-next n)
+
+  -- the slots of FIFO n lie between its base and its end
+  pub base-end : (n : ℕ) → 1 ≤ n → base ws n + room (getD ws n 0) ≡ end ws n
+  unfolding base
+  base-end n h =
+      let e : n - 1 + 1 ≡ n = omega arith in
+      sym (rw e at (end-plus (n - 1)))
+
+  pub base-next : (n : ℕ) → 1 ≤ n → base ws (n + 1) ≡ base ws n + room (getD ws n 0)
+  unfolding base
+  base-next n h =
+      let e : n + 1 - 1 ≡ n = omega arith in
+      ap (end ws) e ∙ sym (base-end n h)
+
+  pub end-mono : (i j : ℕ) → i ≤ j → end ws i ≤ end ws j
+  unfolding end
+  end-mono i zero h = let e : i ≡ 0 = omega arith in rw e (le-refl 0)
+  end-mono i (suc j) h =
+      ⊎-elim (λ e. rw e (le-refl _)) (λ l. le-trans (end-mono i j (le-of-suc-le-suc l)) (le-add-right (end ws j) _)) (eq-or-lt-of-le h)
+
+  -- a slot ends where the next begins
+  slot-next : (n k : ℕ) → slotEnd ws n k ≡ slotAt ws n (k + 1)
+  unfolding slotAt
+  slot-next n k = let e : (k + 1) * size (getD ws n 0) ≡ k * size (getD ws n 0) + size (getD ws n 0) = rw (add-one, suc-mul) in omega arith
+
+  slot-mono : (n k l : ℕ) → k ≤ l → slotAt ws n k ≤ slotAt ws n l
+  unfolding slotAt
+  slot-mono n k l h = omega (arith, mul-le-mul-right (size (getD ws n 0)) h)
+
+  -- slot `depth` would begin where the FIFO ends
+  slot-last : (n : ℕ) → 1 ≤ n → slotAt ws n (depth (getD ws n 0)) ≡ end ws n
+  unfolding slotAt room
+  slot-last n h = base-end n h
+
+pub slots-apart : SlotsApart
+slots-apart ws n k l h = rw (slot-next ws n k) (slot-mono ws n (k + 1) l (omega arith))
+
+-- a slot ends within its FIFO
+pub slot-within : (ws : List ℕ) (n k : ℕ) → 1 ≤ n → k < depth (getD ws n 0) → slotEnd ws n k ≤ end ws n
+slot-within ws n k h l = rw (← slot-last ws n h) (slots-apart ws n k (depth (getD ws n 0)) l)
+
+pub fifos-apart : FifosApart
+unfolding slotAt base
+fifos-apart ws i j k l h a b =
+    le-trans (slot-within ws i k h b) (le-trans (end-mono ws i (j - 1) (omega arith)) (le-add-right (end ws (j - 1)) _))
+
+pub in-ram : InRam
+in-ram ws n k fits h l b = le-trans (slot-within ws n k h b) (le-trans (end-mono ws n 31 l) fits)
+
+-- ---- the control word as it reads
+
+fit : (f : Field) (v : ℕ) → Fits f (read f v)
+fit (at p k) v = field-lt v p k
+
+-- a field that none of those copied touches reads as before
+copied-off : (g : Field) (fs : List Field) (v w : ℕ) → all (apart g) fs ≡ true → read g (copied fs v w) ≡ read g w
+copied-off g [] v w e = refl
+copied-off g (f ∷ fs) v w e =
+    let (a, b) = both (apart g f) (all (apart g) fs) e in
+    copied-off g fs v (write f (read f v) w) b ∙ write-other f g (read f v) w (fit f v) (apart-sym g f a)
+
+copied-alike : (fs : List Field) (v w : ℕ) → allApart fs ≡ true → Alike fs (copied fs v w) v
+copied-alike [] v w e = tt
+copied-alike (f ∷ fs) v w e =
+    let (a, b) = both (all (apart f) fs) (allApart fs) e in
+    (copied-off f fs v (write f (read f v) w) a ∙ read-write f (read f v) w (fit f v), copied-alike fs v (write f (read f v) w) b)
+
+pub frozen-kept : Frozen
+unfolding control
+frozen-kept frozen f = copied-alike frozenFields frozen (f .control) refl
+
+-- a field that is not frozen reads as last written
+pub control-off : (g : Field) (frozen : ℕ) (f : Fifo) → all (apart g) frozenFields ≡ true → read g (control frozen f) ≡ read g (f .control)
+unfolding control
+control-off g frozen f e = copied-off g frozenFields frozen (f .control) e
+
+-- UINC's effect is on the ring alone
+increased-control : (frozen : ℕ) (f : Fifo) → increased frozen f .control ≡ f .control
+unfolding increased claimed taken
+increased-control frozen f =
+    by-if (λ (g : Fifo). g .control ≡ f .control) (sending frozen)
+    (λ e. by-if (λ (g : Fifo). g .control ≡ f .control) (ltb (f .count) (depth frozen)) (λ a. refl) (λ a. refl))
+    (λ e. by-if (λ (g : Fifo). g .control ≡ f .control) (ltb 0 (f .count)) (λ a. refl) (λ a. refl))
+
+-- what of a control word is changed outside Configuration
+abbrev dropped : List Setting
+dropped = UINC := 0 ∷ FRESET := 0 ∷ []
+
+dropped-fit : AllFit dropped
+dropped-fit = (omega arith, (omega arith, tt))
+
+-- after a write of w outside Configuration every field but TXREQ and those frozen reads so
+commanded-off : (g : Field) (frozen w : ℕ) (f : Fifo) → all (apart g) frozenFields ≡ true → apart TXREQ g ≡ true
+    → read g (control frozen (commanded frozen w f)) ≡ read g (settings dropped w)
+unfolding commanded emptied controlled
+commanded-off g frozen w f e d =
+    let P : Fifo → Type 0 = λ x. read g (x .control) ≡ read g (settings dropped w) in
+    let a : Fifo = controlled (settings dropped w) f in
+    let b : P (if flag UINC w then increased frozen a else a) = by-if P (flag UINC w) (λ t. ap (read g) (increased-control frozen a)) (λ t. refl) in
+    control-off g frozen (commanded frozen w f) e ∙ by-if P (flag FRESET w) (λ t. write-other TXREQ g 0 _ (omega arith) d ∙ b) (λ t. b)
+
+pub uinc-reads-0 : UincReads0
+unfolding configured controlled
+uinc-reads-0 frozen w f = (
+  control-off UINC frozen (configured w f) refl ∙ read-write UINC 0 w (omega arith),
+  commanded-off UINC frozen w f refl refl ∙ own dropped w 0 refl dropped-fit (omega arith),
+)
+
+pub freset-reads-0 : FresetReads0
+unfolding controlled
+freset-reads-0 frozen w f = (
+  commanded-off FRESET frozen w f refl refl ∙ own dropped w 1 refl dropped-fit (omega arith),
+  control-off FRESET frozen (turned false f) refl ∙ read-write FRESET 0 (f .control) (omega arith),
+)

@@ -1,0 +1,13 @@
+-- `ring::registers::status` meets its contract.
+-- Assumes nothing.
+use borrow.Author.Needs.{needs}
+use Rattle.ring.specs.Registers.{status}
+use Rattle.ring.proofs.registers.status.Statement.{statement}
+use Rattle.ring.proofs.registers.status.Tie as tie
+
+pub status-spec : {M : Type 1} → statement M
+unfolding status
+status-spec =
+    tie.close
+    (tie.spec (λ c κs. search needs) (λ c κs. search needs) (λ c κs. search needs) (λ c κs. search needs) (λ c κs. search needs) (λ c κs. search needs)
+    (λ c. cc))

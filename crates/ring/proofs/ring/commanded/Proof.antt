@@ -1,0 +1,15 @@
+-- `ring::ring::commanded` meets its contract.
+-- Assumes nothing.
+use mathlib.Core.Path.{sym, _∙_}
+use borrow.Author.Needs.{needs}
+use Rattle.ring.specs.Ring.{commanded}
+use Rattle.ring.proofs.ring.commanded.Statement.{statement}
+use Rattle.ring.proofs.ring.commanded.Tie as tie
+
+pub commanded-spec : {M : Type 1} → statement M
+unfolding commanded
+commanded-spec =
+    tie.close
+    (tie.spec (λ c κs. search needs) (λ c κs. search needs) (λ c κs. search needs) (λ c κs. search needs) (λ c κs. search needs) (λ c κs. search needs)
+    (λ c. simp (sym (c .before .before .freset .ensures) ∙ c .before .if1 .taken) (cc))
+    (λ c. simp (sym (c .before .freset .ensures) ∙ c .if1 .left) (cc)))

@@ -1,0 +1,54 @@
+-- What is proved of the FIFOs' registers and of their slots in RAM, as statements.
+-- Assumes nothing.
+use Prim.Native.Nat.{ℕ, _+_, _≤_, _<_}
+use mathlib.Core.Path.{_≡_}
+use mathlib.Core.Bool.{false}
+use mathlib.Core.List.{List, [], _∷_}
+use lib.ListN.{getD}
+use Rattle.field.specs.Field.{Field, read}
+use Rattle.fifo.specs.Control.{UINC, FRESET}
+use Rattle.ring.specs.declared.ring.Fifo.{Fifo}
+use Rattle.ring.specs.Ring.{depth, configured, commanded, turned}
+use Rattle.ring.specs.Registers.{frozenFields, control}
+use Rattle.ring.specs.Layout.{size, end, slotAt}
+
+-- ---- slots in RAM
+
+-- where slot k of FIFO n ends
+abbrev pub slotEnd : List ℕ → (n k : ℕ) → ℕ
+slotEnd ws n k = slotAt ws n k + size (getD ws n 0)
+
+-- the slots of a FIFO stand in order and share no byte
+abbrev pub SlotsApart : Type 0
+SlotsApart = (ws : List ℕ) (n k l : ℕ) → k < l → slotEnd ws n k ≤ slotAt ws n l
+
+-- every slot of a FIFO stands before every slot of a later one
+abbrev pub FifosApart : Type 0
+FifosApart = (ws : List ℕ) (i j k l : ℕ) → 1 ≤ i → i < j → k < depth (getD ws i 0) → slotEnd ws i k ≤ slotAt ws j l
+
+-- where the slots of FIFO 31 end within 2048 bytes, every slot does
+abbrev pub InRam : Type 0
+InRam = (ws : List ℕ) (n k : ℕ) → end ws 31 ≤ 2048 → 1 ≤ n → n ≤ 31 → k < depth (getD ws n 0) → slotEnd ws n k ≤ 2048
+
+-- ---- the control word as it reads
+
+-- two words hold the same in each of these fields
+abbrev pub Alike : List Field → (v w : ℕ) → Type 0
+Alike [] v w = Unit {0}
+Alike (f ∷ fs) v w = (read f v ≡ read f w) × Alike fs v w
+
+-- the fields that change only in Configuration read as they were last written there
+abbrev pub Frozen : Type 0
+Frozen = (frozen : ℕ) (f : Fifo) → Alike frozenFields (control frozen f) frozen
+
+-- UINC reads 0 after a write of the control word, in Configuration and outside it
+abbrev pub UincReads0 : Type 0
+UincReads0 =
+    (frozen w : ℕ) (f : Fifo)
+    → (read UINC (control frozen (configured w f)) ≡ 0) × (read UINC (control frozen (commanded frozen w f)) ≡ 0)
+
+-- FRESET reads 0 after a write of the control word outside Configuration, and after leaving it
+abbrev pub FresetReads0 : Type 0
+FresetReads0 =
+    (frozen w : ℕ) (f : Fifo)
+    → (read FRESET (control frozen (commanded frozen w f)) ≡ 0) × (read FRESET (control frozen (turned false f)) ≡ 0)

@@ -1,0 +1,4 @@
+pub mod Ring
+pub mod Registers
+pub mod Layout
+pub mod Laws
