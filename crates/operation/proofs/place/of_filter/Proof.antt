@@ -1,0 +1,18 @@
+-- `operation::place::of_filter` meets its contract.
+-- Assumes nothing.
+use mathlib.Core.Path.{_≡_, refl}
+use Prim.Native.Nat.{ℕ, zero, suc}
+use Rattle.operation.specs.Place.{ofFilter}
+use Rattle.operation.specs.declared.place.Register.{Register}
+use Rattle.operation.proofs.place.of_filter.Statement.{statement}
+use Rattle.operation.proofs.place.of_filter.Tie as tie
+
+second : (m word : ℕ) → (word ≡ 0 → ⊥) → Register.Mask m ≡ ofFilter m word
+second m zero h = absurd (h refl)
+second m (suc k) h = refl
+
+pub of-filter-spec : {M : Type 1} → statement M
+of-filter-spec =
+    tie.close
+    (tie.spec (λ c. rw (c .if1 .taken))
+    (λ c. second _ _ (c .if1 .left)))

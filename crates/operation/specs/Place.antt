@@ -1,0 +1,42 @@
+-- The registers that the modelled chip carries, by address.
+-- Assumes nothing.
+use Prim.Native.Nat.{ℕ, zero, suc, _-_, _/_, _%_}
+use lib.Dec.{eqb, ltb}
+use Rattle.laws.specs.If.{if_then_else_}
+use Rattle.operation.specs.declared.place.Register.{Register}
+use Rattle.operation.specs.declared.place.Place.{Place}
+
+-- in FIFO n's 12 bytes: control, status, user address
+abbrev pub ofFifo : (n word : ℕ) → Register
+ofFifo n zero = Register.Control n
+ofFifo n (suc zero) = Register.Status n
+ofFifo n (suc (suc k)) = Register.Address n
+
+-- in filter m's 8 bytes: object, mask
+abbrev pub ofFilter : (m word : ℕ) → Register
+ofFilter m zero = Register.Object m
+ofFilter m (suc k) = Register.Mask m
+
+-- CiCON, CiNBTCFG, CiDBTCFG, CiTDC, CiTSCON, CiINT, OSC, IOCON: those that stand alone
+unfoldable pub single : ℕ → Place
+single a =
+    if eqb a 0x000 then Place.Is Register.Con
+    else if eqb a 0x004 then Place.Is (Register.Plain 0)
+    else if eqb a 0x008 then Place.Is (Register.Plain 1)
+    else if eqb a 0x00C then Place.Is (Register.Plain 2)
+    else if eqb a 0x014 then Place.Is (Register.Plain 3)
+    else if eqb a 0x01C then Place.Is (Register.Plain 4)
+    else if eqb a 0xE00 then Place.Is Register.Osc
+    else if eqb a 0xE04 then Place.Is (Register.Plain 5)
+    else Place.None
+
+-- a register's address is a multiple of 4; FIFO n has 12 bytes at 0x050 + 12n, n from 1 to 31; eight filter controls are at 0x1D0, 32
+-- filters' objects and masks at 0x1F0
+unfoldable pub registerAt : ℕ → Place
+registerAt a =
+    if ltb 0 (a % 4) then Place.None
+    else if ltb a 0x05C then single a
+    else if ltb a 0x1D0 then Place.Is (ofFifo ((a - 0x050) / 12) ((a - 0x050) % 12 / 4))
+    else if ltb a 0x1F0 then Place.Is (Register.Filter ((a - 0x1D0) / 4))
+    else if ltb a 0x2F0 then Place.Is (ofFilter ((a - 0x1F0) / 8) ((a - 0x1F0) % 8 / 4))
+    else single a
