@@ -1,0 +1,19 @@
+-- `bank::writing::granted` meets its contract.
+-- Assumes nothing.
+use mathlib.Core.Path.{sym, _∙_}
+use Rattle.bank.specs.Registers.{granted}
+use borrow.Author.Needs.{needs}
+use Rattle.bank.proofs.writing.granted.Statement.{statement}
+use Rattle.bank.proofs.writing.granted.Tie as tie
+
+pub granted-spec : {M : Type 1} → statement M
+unfolding granted
+granted-spec =
+    tie.close
+    (tie.spec
+    (λ c κs. search needs)
+    (λ c. simp (sym (c .before .txqen .ensures) ∙ c .if1 .taken))
+    (λ c κs. search needs)
+    (λ c. simp (sym (c .before .stef .ensures) ∙ c .if2 .taken, sym (c .before .before .before .txqen .ensures) ∙ c .before .before .if1 .left))
+    (λ c κs. search needs)
+    (λ c. simp (c .end .ensures .0, sym (c .before .before .before .stef .ensures) ∙ c .before .before .if2 .left, sym (c .before .before .before .before .before .txqen .ensures) ∙ c .before .before .before .before .if1 .left)))

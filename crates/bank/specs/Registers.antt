@@ -1,0 +1,126 @@
+-- The modelled chip's registers: how they read, and what writing them does.
+-- Assumes nothing.
+use Prim.Native.Nat.{ℕ}
+use mathlib.Core.Bool.{Bool, true, false, _&&_, not}
+use mathlib.Core.List.{List, map}
+use lib.ListN.{getD, set}
+use lib.Dec.{leb, eqb}
+use Rattle.laws.specs.If.{if_then_else_}
+use Rattle.field.specs.Field.{read, write, flag}
+use Rattle.configuration.specs.CanControl.{STEF, TXQEN, OPMOD, REQOP}
+use Rattle.chip.specs.OscillatorControl.{PLLEN, PLLRDY}
+use Rattle.fifo.specs.Status.{RXOVIF}
+use Rattle.operation.specs.declared.place.Register.{Register}
+use Rattle.ring.specs.Ring.{shown, configured, commanded, turned, overflowed}
+use Rattle.ring.specs.Registers.{control, status}
+use Rattle.ring.specs.Layout.{end, slotAt}
+use Rattle.state.specs.declared.Fixed.{Fixed}
+use Rattle.state.specs.declared.Setup.{Setup}
+use Rattle.state.specs.declared.Model.{Model}
+use Rattle.bank.specs.declared.writing.Written.{Written}
+use Rattle.state.specs.Model.{fifoAt, frozenAt, withFixed, withSetup, withFifo}
+
+-- ---- reading
+
+-- Configuration is mode 4; outside it the mode is the one last asked for
+unfoldable pub modeOf : Fixed → ℕ
+modeOf x = if x .configuring then 4 else read REQOP (x .con)
+
+-- the slot that FIFO n shows
+unfoldable pub shownAt : Model → ℕ → ℕ
+shownAt m n = slotAt (m .fixed .frozen) n (shown (frozenAt m n) (fifoAt m n))
+
+-- OPMOD always shows the mode, PLLRDY follows PLLEN; in Configuration status and user address read 0
+unfoldable pub wordOf : Model → Register → ℕ
+wordOf m Register.Con = write OPMOD (modeOf (m .fixed)) (m .fixed .con)
+wordOf m Register.Osc = write PLLRDY (read PLLEN (m .setup .osc)) (m .setup .osc)
+wordOf m (Register.Plain k) = getD (m .setup .plain) k 0
+wordOf m (Register.Filter k) = getD (m .setup .filter) k 0
+wordOf m (Register.Object k) = getD (m .setup .object) k 0
+wordOf m (Register.Mask k) = getD (m .setup .mask) k 0
+wordOf m (Register.Control n) = control (frozenAt m n) (fifoAt m n)
+wordOf m (Register.Status n) = if m .fixed .configuring then 0 else status (frozenAt m n) (fifoAt m n)
+wordOf m (Register.Address n) = if m .fixed .configuring then 0 else shownAt m n
+
+-- ---- writing CiCON
+
+-- another CiCON, in Configuration or outside it
+abbrev pub conSet : Model → ℕ → Bool → Model
+conSet m w configuring = withFixed m (record { con = w; configuring = configuring; frozen = m .fixed .frozen })
+
+-- leaving is granted: TXQEN and STEF at 0, and all FIFOs within 2,048 bytes
+unfoldable pub granted : Fixed → ℕ → Bool
+granted x w = not (flag TXQEN w) && not (flag STEF w) && leb (end (x .frozen) 31) 2048
+
+-- every FIFO's part of entering Configuration or leaving it
+abbrev pub turnedAll : (entering : Bool) → Model → Model
+turnedAll entering m = record { fixed = m .fixed; setup = m .setup; fifo = map (turned entering) (m .fifo); ram = m .ram }
+
+-- a write that is all done; one that asked to leave and was not granted
+abbrev pub settled : Model → Written
+settled m = record { model = m; granted = true }
+
+abbrev pub denied : Model → Written
+denied m = record { model = m; granted = false }
+
+-- REQOP is taken at once. Asking for the mode one is in changes no FIFO; where leaving is not granted the write is done and the mode
+-- stays
+unfoldable pub conWritten : Model → ℕ → Written
+conWritten m w =
+    if eqb (read REQOP w) 4 then if m .fixed .configuring then settled (conSet m w true) else settled (conSet (turnedAll true m) w true)
+    else if m .fixed .configuring then if granted (m .fixed) w then settled (conSet (turnedAll false m) w false) else denied (conSet m w true)
+    else settled (conSet m w false)
+
+-- ---- writing the others
+
+abbrev pub frozenSet : Model → (n w : ℕ) → Model
+frozenSet m n w = withFixed m (record { con = m .fixed .con; configuring = m .fixed .configuring; frozen = set (m .fixed .frozen) n w })
+
+-- FSIZE, PLSIZE, TXEN and RXTSEN change only in Configuration
+unfoldable pub controlWritten : Model → (n w : ℕ) → Model
+controlWritten m n w =
+    if m .fixed .configuring then withFifo (frozenSet m n w) n (configured w (fifoAt m n))
+    else withFifo m n (commanded (frozenAt m n) w (fifoAt m n))
+
+-- bit 3 is cleared by writing 0 there
+unfoldable pub statusWritten : Model → (n w : ℕ) → Model
+statusWritten m n w = if flag RXOVIF w then m else withFifo m n (overflowed false (fifoAt m n))
+
+-- registers that hold as written
+module _ (m : Model) where
+  abbrev pub oscSet : ℕ → Model
+  oscSet w =
+      let s = m .setup in
+      withSetup m (record { osc = w; plain = s .plain; filter = s .filter; object = s .object; mask = s .mask })
+
+  abbrev pub plainSet : (k w : ℕ) → Model
+  plainSet k w =
+      let s = m .setup in
+      withSetup m (record { osc = s .osc; plain = set (s .plain) k w; filter = s .filter; object = s .object; mask = s .mask })
+
+  abbrev pub filterSet : (k w : ℕ) → Model
+  filterSet k w =
+      let s = m .setup in
+      withSetup m (record { osc = s .osc; plain = s .plain; filter = set (s .filter) k w; object = s .object; mask = s .mask })
+
+  abbrev pub objectSet : (k w : ℕ) → Model
+  objectSet k w =
+      let s = m .setup in
+      withSetup m (record { osc = s .osc; plain = s .plain; filter = s .filter; object = set (s .object) k w; mask = s .mask })
+
+  abbrev pub maskSet : (k w : ℕ) → Model
+  maskSet k w =
+      let s = m .setup in
+      withSetup m (record { osc = s .osc; plain = s .plain; filter = s .filter; object = s .object; mask = set (s .mask) k w })
+
+-- a register written; user address writes do nothing
+unfoldable pub registerWritten : Model → Register → ℕ → Written
+registerWritten m Register.Con w = conWritten m w
+registerWritten m Register.Osc w = settled (oscSet m w)
+registerWritten m (Register.Plain k) w = settled (plainSet m k w)
+registerWritten m (Register.Filter k) w = settled (filterSet m k w)
+registerWritten m (Register.Object k) w = settled (objectSet m k w)
+registerWritten m (Register.Mask k) w = settled (maskSet m k w)
+registerWritten m (Register.Control n) w = settled (controlWritten m n w)
+registerWritten m (Register.Status n) w = settled (statusWritten m n w)
+registerWritten m (Register.Address n) w = settled m
