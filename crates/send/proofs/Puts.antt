@@ -3,15 +3,15 @@
 use Prim.Native.Nat.{ℕ, _+_, _≤_}
 use mathlib.Core.Path.{_≡_, sym, ap, _∙_}
 use mathlib.Core.Bool.{true, _&&_}
-use mathlib.Core.List.{List, _++_, append-assoc}
-use native.Mathlib.Nat.{zero-add}
+use mathlib.Core.List.{List, _++_}
 use native.Mathlib.Omega.{arith}
-use lib.ListN.{length, take, length-append}
-use lib.Seq.{length-take-le, take-append-seam, drop-append-add, drop-drop}
+use lib.ListN.{length, take}
+use lib.Seq.{length-take-le}
 use lib.Dec.{leb}
 use borrow.Author.Tests.{leb-true}
 use Rattle.laws.proofs.Table.{both}
 use Rattle.parts.specs.Parts.{put}
+use Rattle.parts.proofs.Laws.{put-behind}
 use Rattle.words.specs.Words.{beBytes, leBytes}
 use Rattle.spi.specs.declared.ask.Ask.{Ask}
 use Rattle.spi.specs.Instruction.{commandOf}
@@ -26,11 +26,6 @@ head-le (Ask.Body address count) = omega arith
 head-le Ask.Reset = omega arith
 head-le Ask.Wait = omega arith
 head-le Ask.Nothing = omega arith
-
-put-behind : (tx h b : List ℕ) → put (put tx 0 h) (length h) b ≡ put tx 0 (h ++ b)
-unfolding put
-put-behind tx h b =
-    rw (zero-add (length h), zero-add (length (h ++ b)), length-append, take-append-seam, drop-append-add, drop-drop (length b) (length h) tx, append-assoc)
 
 -- what is put behind the first n bytes goes on from them
 pub put-twice : (tx head b : List ℕ) (n : ℕ) → n ≤ length head → put (put tx 0 (take n head)) n b ≡ put tx 0 (take n head ++ b)

@@ -1,0 +1,81 @@
+-- What exchanges change, and what they leave.
+-- Assumes nothing.
+use mathlib.Core.Path.{_≡_, refl, sym, ap, subst, _∙_}
+use mathlib.Core.Bool.{Bool, true, false}
+use mathlib.Core.List.{List, [], _∷_}
+use Prim.Native.Nat.{ℕ}
+use lib.ListN.{getD}
+use Rattle.laws.specs.If.{if_then_else_}
+use Rattle.field.specs.Field.{Field, read}
+use Rattle.operation.specs.declared.operation.Operation.{Operation}
+use Rattle.operation.specs.Operation.{asked}
+use Rattle.ring.specs.Registers.{frozenFields, control}
+use Rattle.ring.specs.Laws.{Alike}
+use Rattle.ring.proofs.Laws.{frozen-kept}
+use Rattle.state.specs.declared.Model.{Model}
+use Rattle.state.specs.Model.{frozenAt, fifoAt}
+use Rattle.bank.specs.Registers.{wordOf, registerWritten}
+use Rattle.bank.proofs.Laws.{frozen-outside}
+use Rattle.model.specs.Exchange.{Reply, failed, received, noLayout, performed, exchange}
+use Rattle.model.specs.Laws.{reads, ReadingKeeps, OthersFail, FailureKeeps, FrozenOutside}
+
+keeps : (o : Operation) (s : List ℕ) (want : ℕ) (m : Model) → reads o ≡ true → performed o s want m .model ≡ m
+unfolding performed
+keeps (Operation.Read r) s want m e = refl
+keeps (Operation.Checked r) s want m e = refl
+keeps (Operation.ReadRam a) s want m e = refl
+keeps (Operation.Write r w) s want m e = cc
+keeps (Operation.WriteRam a) s want m e = cc
+keeps Operation.Reset s want m e = cc
+keeps Operation.None s want m e = refl
+
+pub reading-keeps : ReadingKeeps
+unfolding exchange
+reading-keeps s want m e = keeps (asked s want) s want m e
+
+-- a write that is done is not failed
+wrote-well : (granted : Bool) (o p : Operation) → (if granted then received [] else noLayout) ≡ failed → o ≡ p
+wrote-well true o p e = cc
+wrote-well false o p e = cc
+
+none-fails : (o : Operation) (s : List ℕ) (want : ℕ) (m : Model) → performed o s want m .reply ≡ failed → o ≡ Operation.None
+unfolding performed
+none-fails (Operation.Read r) s want m e = cc
+none-fails (Operation.Checked r) s want m e = cc
+none-fails (Operation.ReadRam a) s want m e = cc
+none-fails (Operation.Write r w) s want m e = wrote-well (registerWritten m r w .granted) (Operation.Write r w) Operation.None e
+none-fails (Operation.WriteRam a) s want m e = cc
+none-fails Operation.Reset s want m e = cc
+none-fails Operation.None s want m e = refl
+
+pub others-fail : OthersFail
+unfolding exchange performed
+others-fail s want m = (λ e. rw e, λ e. none-fails (asked s want) s want m e)
+
+pub failure-keeps : FailureKeeps
+unfolding exchange performed
+failure-keeps s want m e = let n = none-fails (asked s want) s want m e in rw n
+
+-- the control words of Configuration, after an operation outside it
+stays : (o : Operation) (s : List ℕ) (want : ℕ) (m : Model) → m .fixed .configuring ≡ false → (o ≡ Operation.Reset → ⊥) → performed o s want m .model .fixed .frozen ≡ m .fixed .frozen
+unfolding performed
+stays (Operation.Read r) s want m c h = refl
+stays (Operation.Checked r) s want m c h = refl
+stays (Operation.ReadRam a) s want m c h = refl
+stays (Operation.Write r w) s want m c h = frozen-outside m r w c
+stays (Operation.WriteRam a) s want m c h = refl
+stays Operation.Reset s want m c h = absurd (h refl)
+stays Operation.None s want m c h = refl
+
+alike : (fs : List Field) (u v w : ℕ) → Alike fs u w → Alike fs v w → Alike fs u v
+alike [] u v w a b = tt
+alike (f ∷ fs) u v w a b = (a .0 ∙ sym (b .0), alike fs u v w (a .1) (b .1))
+
+pub frozen-outside-all : FrozenOutside
+unfolding exchange wordOf
+frozen-outside-all s want m c h n =
+    let d = exchange s want m .model in
+    let e : frozenAt d n ≡ frozenAt m n = ap (λ (ws : List ℕ). getD ws n 0) (stays (asked s want) s want m c h) in
+    alike frozenFields _ _ (frozenAt m n)
+    (subst (λ (k : ℕ). Alike frozenFields (control (frozenAt d n) (fifoAt d n)) k) e (frozen-kept (frozenAt d n) (fifoAt d n)))
+    (frozen-kept (frozenAt m n) (fifoAt m n))

@@ -1,0 +1,43 @@
+-- What is proved of exchanges, as statements.
+-- Assumes nothing.
+use Prim.Native.Nat.{ℕ}
+use mathlib.Core.Path.{_≡_}
+use mathlib.Core.Bool.{Bool, true, false}
+use mathlib.Core.List.{List}
+use Rattle.operation.specs.declared.place.Register.{Register}
+use Rattle.operation.specs.declared.operation.Operation.{Operation}
+use Rattle.operation.specs.Operation.{asked}
+use Rattle.ring.specs.Registers.{frozenFields}
+use Rattle.ring.specs.Laws.{Alike}
+use Rattle.state.specs.declared.Model.{Model}
+use Rattle.bank.specs.Registers.{wordOf}
+use Rattle.model.specs.Exchange.{failed, exchange}
+
+-- reading a register, plain or checked, and reading RAM
+abbrev pub reads : Operation → Bool
+reads (Operation.Read r) = true
+reads (Operation.Checked r) = true
+reads (Operation.ReadRam a) = true
+reads (Operation.Write r w) = false
+reads (Operation.WriteRam a) = false
+reads Operation.Reset = false
+reads Operation.None = false
+
+-- reading changes nothing
+abbrev pub ReadingKeeps : Type 0
+ReadingKeeps = (s : List ℕ) (want : ℕ) (m : Model) → reads (asked s want) ≡ true → exchange s want m .model ≡ m
+
+-- an exchange that is none of those named comes back failed, and those named don't
+abbrev pub OthersFail : Type 0
+OthersFail =
+    (s : List ℕ) (want : ℕ) (m : Model) → (asked s want ≡ Operation.None → exchange s want m .reply ≡ failed) × (exchange s want m .reply ≡ failed → asked s want ≡ Operation.None)
+
+-- what comes back failed changed nothing
+abbrev pub FailureKeeps : Type 0
+FailureKeeps = (s : List ℕ) (want : ℕ) (m : Model) → exchange s want m .reply ≡ failed → exchange s want m .model ≡ m
+
+-- outside Configuration no exchange but RESET changes what FSIZE, PLSIZE, TXEN and RXTSEN of any FIFO read
+abbrev pub FrozenOutside : Type 0
+FrozenOutside =
+    (s : List ℕ) (want : ℕ) (m : Model) → m .fixed .configuring ≡ false → (asked s want ≡ Operation.Reset → ⊥) → (n : ℕ)
+    → Alike frozenFields (wordOf (exchange s want m .model) (Register.Control n)) (wordOf m (Register.Control n))
