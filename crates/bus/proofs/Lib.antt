@@ -1,0 +1,3 @@
+mod Ram
+mod Answers
+pub mod Laws

@@ -1,0 +1,92 @@
+-- The bus steps: the chip sends from a FIFO, and a frame arrives for one.
+-- Assumes nothing.
+use Prim.Native.Nat.{ℕ}
+use mathlib.Core.Bool.{Bool, true, _&&_}
+use mathlib.Core.List.{List}
+use lib.ListN.{length}
+use lib.Dec.{ltb, leb}
+use Rattle.laws.specs.If.{if_then_else_}
+use Rattle.field.specs.Field.{flag}
+use Rattle.fifo.specs.Control.{TXREQ, payloadOf, isFifo}
+use Rattle.spi.specs.declared.refusal.Refusal.{Refusal}
+use Rattle.header.specs.declared.Header.{Header}
+use Rattle.message.specs.declared.object.Stamp.{Stamp}
+use Rattle.message.specs.Message.{Message, Encoding, encoding, Decoding, holds, bad, short}
+use Rattle.message.specs.Structs.{frameOf, blank}
+use Rattle.ring.specs.Ring.{sending, depth, sent, claimed, overflowed}
+use Rattle.ring.specs.Layout.{stamped}
+use Rattle.state.specs.declared.Model.{Model}
+use Rattle.state.specs.Model.{fifoAt, frozenAt, withFifo, written}
+use Rattle.bus.specs.declared.departure.Sending.{Sending}
+use Rattle.bus.specs.declared.departure.Sent.{Sent}
+use Rattle.bus.specs.declared.arrival.Delivery.{Delivery}
+use Rattle.bus.specs.declared.arrival.Delivered.{Delivered}
+use Rattle.bus.specs.Held.{slotOf, itemAt}
+
+-- ---- send
+
+-- what goes out
+pub data Output : Type 0 where
+  frame : Message → Output
+  noFrame nothing : Output
+  refused : Refusal → Output
+
+-- a slot that does not decode is no frame
+abbrev pub outputOf : Decoding → Output
+outputOf (holds m) = frame m
+outputOf (bad r) = noFrame
+outputOf short = noFrame
+
+-- FIFO n transmits, TXREQ is 1, and one is held
+unfoldable pub sends : Model → ℕ → Bool
+sends m n = sending (frozenAt m n) && flag TXREQ (fifoAt m n .control) && ltb 0 (fifoAt m n .count)
+
+-- what a send from FIFO n answers
+unfoldable pub sendOutput : Model → ℕ → Output
+sendOutput m n =
+    if isFifo n then if sends m n then outputOf (itemAt m n 0) else nothing else refused Refusal.BadNumber
+
+-- the oldest is taken
+unfoldable pub sendModel : Model → ℕ → Model
+sendModel m n = if isFifo n && sends m n then withFifo m n (sent (frozenAt m n) (fifoAt m n)) else m
+
+-- as the code has it: a frame of no content stands beside every answer but a frame
+abbrev pub sentAs : Output → Model → Sent
+sentAs (frame x) m = record { sending = Sending.Frame; frame = frameOf x; model = m }
+sentAs noFrame m = record { sending = Sending.NoFrame; frame = frameOf blank; model = m }
+sentAs nothing m = record { sending = Sending.Nothing; frame = frameOf blank; model = m }
+sentAs (refused r) m = record { sending = Sending.Refused r; frame = frameOf blank; model = m }
+
+-- ---- deliver
+
+-- a frame as FIFO n receives it: no SEQ, and the timestamp that the step brings only if RXTSEN is 1
+unfoldable pub incoming : Model → ℕ → Header → ℕ → List ℕ → Message
+incoming m n header time payload = record {
+  header = header;
+  seq = 0;
+  stamp = if stamped (frozenAt m n) then Stamp.At time else Stamp.None;
+  payload = payload;
+}
+
+abbrev pub delivered : Delivery → Model → Delivered
+delivered answer m = record { delivery = answer; model = m }
+
+-- an object of a payload of so many bytes, for FIFO n: turned down by the first cause, or appended in the slot behind those held
+unfoldable pub appended : Model → ℕ → ℕ → List ℕ → Delivered
+appended m n len object =
+    if m .fixed .configuring then delivered Delivery.Configuration m
+    else if sending (frozenAt m n) then delivered Delivery.NotReceiving m
+    else if ltb (payloadOf (frozenAt m n)) len then delivered Delivery.TooLong m
+    else if leb (depth (frozenAt m n)) (fifoAt m n .count) then delivered Delivery.Full (withFifo m n (overflowed true (fifoAt m n)))
+    else delivered Delivery.Delivered (withFifo (written m (slotOf m n (fifoAt m n .count)) object) n (claimed (fifoAt m n)))
+
+-- 21 and 22 for a frame that no push could carry
+abbrev pub byEncoding : Encoding → Model → (n len : ℕ) → Delivered
+byEncoding (Encoding.refused r) m n len = delivered (Delivery.Refused r) m
+byEncoding (Encoding.object bs) m n len = appended m n len bs
+
+-- a frame arrives for FIFO n
+unfoldable pub deliverOf : Model → ℕ → Header → ℕ → List ℕ → Delivered
+deliverOf m n header time payload =
+    if isFifo n then byEncoding (encoding (incoming m n header time payload)) m n (length payload)
+    else delivered (Delivery.Refused Refusal.BadNumber) m

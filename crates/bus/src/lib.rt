@@ -1,0 +1,13 @@
+// The modelled chip's other side: the bus, and the messages that its FIFOs hold.
+mod arrival;
+mod departure;
+mod held;
+
+pub use arrival::Delivered;
+pub use arrival::Delivery;
+pub use arrival::deliver;
+pub use departure::Sending;
+pub use departure::Sent;
+pub use departure::send;
+pub use held::held_at;
+pub use held::held_len;
