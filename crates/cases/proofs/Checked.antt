@@ -2,6 +2,10 @@
 -- Assumes nothing.
 use mathlib.Core.Path.{refl}
 use Rattle.words.specs.Words as W
+use Rattle.fifo.specs.Control as C
+use Rattle.ring.specs.Ring as N
+use Rattle.ring.specs.Layout as L
+use Rattle.bank.specs.Registers as G
 use Rattle.field.specs.Field as F
 use Rattle.header.specs.Dlc as D
 use Rattle.header.specs.Header as H
@@ -12,5 +16,5 @@ use Rattle.spi.specs.Ram as R
 use Rattle.cases.specs.Cases.{cases, AsSaid}
 
 pub checked : AsSaid
-unfolding cases F.withField W.leBytes W.beBytes I.commandOf R.inRange R.accessOf D.dlcOf H.word0 H.word1 O.padded O.objectBytes M.checkOf M.encoding
+unfolding cases F.withField W.leBytes W.beBytes I.commandOf R.inRange R.accessOf D.dlcOf H.word0 H.word1 O.padded O.objectBytes M.checkOf M.encoding C.payloadOf N.sending N.depth L.stamped L.size L.room L.end G.granted
 checked = refl

@@ -4,10 +4,16 @@ use mathlib.Core.Path.{_≡_}
 use mathlib.Core.Bool.{Bool, true, false}
 use mathlib.Core.List.{List, [], _∷_, _++_, map}
 use Prim.Native.Nat.{ℕ}
+use lib.ListN.{replicate}
 use lib.IntN.{negsuc}
 use Rattle.words.specs.Words.{roundUp}
-use Rattle.fifo.specs.Control.{storedSize}
+use Rattle.laws.specs.If.{if_then_else_}
+use Rattle.field.specs.Settings.{_:=_, settings}
+use Rattle.fifo.specs.Control.{CiFIFOCON, TXEN, FSIZE, PLSIZE, storedSize}
 use Rattle.fifo.specs.UserAddress.{CiFIFOUA}
+use Rattle.ring.specs.Layout.{end}
+use Rattle.state.specs.declared.Fixed.{Fixed}
+use Rattle.bank.specs.Registers.{granted}
 use Rattle.bit_timing.specs.Signed.{sevenOf}
 use Rattle.spi.specs.Instruction.{commandOf}
 use Rattle.spi.specs.Ram.{accessOf}
@@ -45,6 +51,16 @@ bytesIn (object bs) = bs
 abbrev pub written : Message → List ℕ
 written m = bytesIn (encoding m)
 
+-- the control words of FIFO 1, sending, and of the others as after RESET: 16 bytes each
+abbrev pub layoutOf : (depth plsize : ℕ) → List ℕ
+layoutOf depth plsize =
+    0 ∷ settings (TXEN := 1 ∷ FSIZE := storedSize depth ∷ PLSIZE := plsize ∷ []) (CiFIFOCON .reset) ∷ replicate 30 (CiFIFOCON .reset)
+
+-- the bytes that a layout takes, followed by 27 where leaving Configuration is not granted
+abbrev pub leaving : List ℕ → List ℕ
+leaving ws =
+    end ws 31 ∷ (if granted (record { con = 0; configuring = true; frozen = ws }) 0 then [] else numbered Refusal.NoLayout)
+
 unfoldable pub cases : List Case
 cases =
     (commandOf OpCode.Read 0x05C is (0x30 ∷ 0x5C ∷ []))
@@ -60,6 +76,8 @@ cases =
     ∷ ((word0 (classic true 0x18DA00F1) ∷ []) is (0x10078E36 ∷ []))
     ∷ (written (record { header = classic false 0x123; seq = 5; stamp = Stamp.None; payload = 1 ∷ 2 ∷ 3 ∷ [] })
     is (0x23 ∷ 0x01 ∷ 0 ∷ 0 ∷ 0x03 ∷ 0x0A ∷ 0 ∷ 0 ∷ 0x01 ∷ 0x02 ∷ 0x03 ∷ 0 ∷ []))
+    ∷ (leaving (layoutOf 28 6) is (2048 ∷ []))
+    ∷ (leaving (layoutOf 21 7) ++ leaving (layoutOf 22 7) is (1992 ∷ 2064 ∷ 27 ∷ []))
     ∷ []
 
 abbrev pub AsSaid : Type 0
