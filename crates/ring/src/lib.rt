@@ -1,14 +1,14 @@
 // The FIFOs of the modelled chip: what each changes and shows by itself, and where their slots lie in RAM.
 mod layout;
-mod registers;
+mod readings;
 mod ring;
 
 pub use layout::end;
 pub use layout::size;
 pub use layout::slot_at;
 pub use layout::stamped;
-pub use registers::control;
-pub use registers::status;
+pub use readings::control;
+pub use readings::status;
 pub use ring::Fifo;
 pub use ring::claimed;
 pub use ring::commanded;

@@ -1,10 +1,10 @@
--- `ring::registers::ready` meets its contract.
+-- `ring::readings::ready` meets its contract.
 -- Assumes nothing.
 use mathlib.Core.Path.{sym, _∙_}
 use borrow.Author.Needs.{needs}
 use Rattle.ring.specs.Registers.{ready}
-use Rattle.ring.proofs.registers.ready.Statement.{statement}
-use Rattle.ring.proofs.registers.ready.Tie as tie
+use Rattle.ring.proofs.readings.ready.Statement.{statement}
+use Rattle.ring.proofs.readings.ready.Tie as tie
 
 pub ready-spec : {M : Type 1} → statement M
 unfolding ready

@@ -1,9 +1,9 @@
--- `ring::registers::status` meets its contract.
+-- `ring::readings::status` meets its contract.
 -- Assumes nothing.
 use borrow.Author.Needs.{needs}
 use Rattle.ring.specs.Registers.{status}
-use Rattle.ring.proofs.registers.status.Statement.{statement}
-use Rattle.ring.proofs.registers.status.Tie as tie
+use Rattle.ring.proofs.readings.status.Statement.{statement}
+use Rattle.ring.proofs.readings.status.Tie as tie
 
 pub status-spec : {M : Type 1} → statement M
 unfolding status

@@ -1,9 +1,9 @@
--- `ring::registers::over` meets its contract.
+-- `ring::readings::over` meets its contract.
 -- Assumes nothing.
 use mathlib.Core.Path.{sym, _∙_}
 use borrow.Author.Needs.{needs}
-use Rattle.ring.proofs.registers.over.Statement.{statement}
-use Rattle.ring.proofs.registers.over.Tie as tie
+use Rattle.ring.proofs.readings.over.Statement.{statement}
+use Rattle.ring.proofs.readings.over.Tie as tie
 
 pub over-spec : {M : Type 1} → statement M
 over-spec =

@@ -1,10 +1,10 @@
--- `ring::registers::edge` meets its contract.
+-- `ring::readings::edge` meets its contract.
 -- Assumes nothing.
 use mathlib.Core.Path.{sym, _∙_}
 use borrow.Author.Needs.{needs}
 use Rattle.ring.specs.Registers.{edge}
-use Rattle.ring.proofs.registers.edge.Statement.{statement}
-use Rattle.ring.proofs.registers.edge.Tie as tie
+use Rattle.ring.proofs.readings.edge.Statement.{statement}
+use Rattle.ring.proofs.readings.edge.Tie as tie
 
 pub edge-spec : {M : Type 1} → statement M
 unfolding edge

@@ -1,12 +1,12 @@
--- `ring::registers::control` meets its contract.
+-- `ring::readings::control` meets its contract.
 -- Assumes nothing.
 use Prim.Native.Nat.{_/_, _^_}
 use borrow.Author.Needs.{needs}
 use Rattle.ring.specs.Registers.{control}
 use Rattle.ring.proofs.Words.{digit-bit}
 use Rattle.field.proofs.Laws.{field-lt}
-use Rattle.ring.proofs.registers.control.Statement.{statement}
-use Rattle.ring.proofs.registers.control.Tie as tie
+use Rattle.ring.proofs.readings.control.Statement.{statement}
+use Rattle.ring.proofs.readings.control.Tie as tie
 
 pub control-spec : {M : Type 1} → statement M
 unfolding control
