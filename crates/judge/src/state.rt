@@ -1,6 +1,9 @@
 // Where the transcript's reader stands, and what it writes.
 use items::Item;
-use libc::STDOUT_FILENO;
+use output::error;
+use output::number;
+use output::one_more;
+use output::write;
 use spoken::Line;
 
 // No case is open.
@@ -50,10 +53,6 @@ pub fn begin() -> State {
     }
 }
 
-fn one_more(n: u64) -> u64 {
-    if n < u64::MAX { n + 1 } else { n }
-}
-
 pub fn next(s: State) -> State {
     let mut t = s;
     t.number = one_more(s.number);
@@ -66,14 +65,6 @@ fn counted(counts: &mut [u64], k: usize) {
     }
 }
 
-fn write(s: &[u8]) {
-    io::write_all(STDOUT_FILENO, s);
-}
-
-fn number(n: u64) {
-    io::print_decimal(STDOUT_FILENO, n);
-}
-
 fn report(at: u64, start: u64, note: &[u8]) {
     write(b"line ");
     number(at);
@@ -81,12 +72,6 @@ fn report(at: u64, start: u64, note: &[u8]) {
     number(start);
     write(b"\n");
     write(note);
-}
-
-fn error(at: u64) {
-    write(b"error ");
-    number(at);
-    write(b"\n");
 }
 
 // Whether a line ends the case before it.

@@ -4,6 +4,7 @@ ghost use Prim.Native.Nat.{_≤_};
 use call::Found;
 use call::Outcome;
 use header::Header;
+use message::Frame;
 use message::Stamp;
 use spi::Refusal;
 
@@ -111,7 +112,7 @@ fn refused_for(r: Refusal) -> Value {
     }
 }
 
-fn refusal(out: &mut [u8], at: usize, r: Refusal) -> usize {
+pub fn refusal(out: &mut [u8], at: usize, r: Refusal) -> usize {
     let a = put(out, at, b"refused ");
     let b = decimal(out, a, numbers::number(r) as u64);
     tail(out, b, refused_for(r))
@@ -153,13 +154,38 @@ fn header(out: &mut [u8], at: usize, h: Header, v: Value) -> usize {
     tail(out, c, v)
 }
 
-fn message(out: &mut [u8], at: usize, f: Found, buf: &[u8]) -> usize {
+// What it is, its header with what follows, and its payload.
+fn message(out: &mut [u8], at: usize, what: &[u8], h: Header, v: Value, payload: &[u8]) -> usize {
+    let a = put(out, at, what);
+    let b = header(out, a, h, v);
+    let c = byte(out, b, b' ');
+    bytes(out, c, payload)
+}
+
+fn found(out: &mut [u8], at: usize, f: Found, buf: &[u8]) -> usize {
     let h = f.header;
     let s = f.stamp;
-    let a = put(out, at, b"message ");
-    let b = header(out, a, h, time(s));
-    let c = byte(out, b, b' ');
-    bytes(out, c, text::front(buf, f.len as usize))
+    message(
+        out,
+        at,
+        b"message ",
+        h,
+        time(s),
+        text::front(buf, f.len as usize),
+    )
+}
+
+// A message to send, which tells its SEQ, or a received one, which tells its timestamp.
+pub fn frame(out: &mut [u8], at: usize, sending: bool, f: Frame) -> usize {
+    let h = f.header;
+    let s = f.stamp;
+    let p = f.payload;
+    let b = p.bytes;
+    let payload = text::front(&b, p.len);
+    if sending {
+        return message(out, at, b"frame ", h, Value::Decimal(f.seq as u64), payload);
+    }
+    message(out, at, b"message ", h, time(s), payload)
 }
 
 // Which of a list's words an outcome without a message or a refusal is told by.
@@ -195,7 +221,7 @@ fn plain(out: &mut [u8], at: usize, o: Outcome) -> usize {
 // How a call ended. `buf` is what it filled.
 pub fn result(out: &mut [u8], at: usize, o: Outcome, buf: &[u8]) -> usize {
     match o {
-        Outcome::Message(f) => message(out, at, f, buf),
+        Outcome::Message(f) => found(out, at, f, buf),
         Outcome::Refused(r) => refusal(out, at, r),
         _ => plain(out, at, o),
     }

@@ -7,8 +7,9 @@ use spi::Answer;
 use spi::Ask;
 use spoken::Line;
 
-fn count(s: Sent) -> usize {
-    match s {
+// All bytes that the call sends now, put at the front of `tx`: how many. `lent` is what a RAM write sends.
+pub fn sent_bytes(call: Call, lent: &[u8], tx: &mut [u8]) -> usize {
+    match driver::send(call, lent, tx) {
         Sent::Bytes(n) => n,
         Sent::Short => 0,
     }
@@ -50,7 +51,7 @@ pub fn line(
     }
     let mut tx = [0u8; 4200];
     let mut buf = [0u8; 2048];
-    let n = count(driver::send(call, text::front(lent, sent), &mut tx));
+    let n = sent_bytes(call, text::front(lent, sent), &mut tx);
     driver::fill(call, text::front(rx, got), &mut buf);
     shown(
         driver::ask(call),

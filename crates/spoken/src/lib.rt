@@ -73,16 +73,16 @@ fn size_of(shape: &[u8]) -> usize
 fn arguments(line: &[u8], shape: &[u8], numbers: &mut [u64], lent: &mut [u8]) -> Number {
     let n = size_of(shape);
     let words = text::count(line);
-    if words < 2 {
+    if words < 1 {
         return Number::Bad;
     }
-    if words - 2 != n {
+    if words - 1 != n {
         return Number::Bad;
     }
     let mut last: u64 = 0;
     let mut i = 0;
     while i < n {
-        let Number::Is(v) = argument(shape[i], text::word(line, i + 2), lent) else {
+        let Number::Is(v) = argument(shape[i], text::word(line, i + 1), lent) else {
             return Number::Bad;
         };
         put_at(numbers, i, v);
@@ -97,16 +97,16 @@ fn try_row(line: &[u8], table: &[u8], row: usize, numbers: &mut [u64], lent: &mu
     if 100 <= row {
         return Number::Bad;
     }
-    if text::is(line, 1, text::word(table, 2 * row)) {
+    if text::is(line, 0, text::word(table, 2 * row)) {
         return arguments(line, text::word(table, 2 * row + 1), numbers, lent);
     }
     Number::Bad
 }
 
-// The first row of a table that is the line's. A row is a name, the line's word 1, and a letter for each word that follows it there: d
+// The first row of a table that is the line's. A row is a name, the line's first word, and a letter for each word that follows it: d
 // decimal, h hex, i identifier, f flags, b bytes, m std, ext or both, k std or ext, s timestamp; t, r and o are the words tx, rx and
 // off; - is no word.
-fn row_of(line: &[u8], table: &[u8], numbers: &mut [u64], lent: &mut [u8]) -> Line {
+pub fn row_of(line: &[u8], table: &[u8], numbers: &mut [u64], lent: &mut [u8]) -> Line {
     let n = text::count(table) / 2;
     let mut row = 0;
     while row < n {
@@ -125,14 +125,14 @@ fn row_of(line: &[u8], table: &[u8], numbers: &mut [u64], lent: &mut [u8]) -> Li
 pub fn understood(line: &[u8], numbers: &mut [u64], lent: &mut [u8]) -> Line {
     let table =
         b"reset - get_op_mode - read_register h checked_read h write_register hh verify_long - read_ram hd write_ram hb verify - modify_register hhh set_op_mode d configure_osc dd configure_io dddd configure_bit_timing ddddddddd configure dddddddddddddddddddd configure_fifo dddtddddddd configure_fifo dddrddddd configure_filter do configure_filter ddmii request d push difdb transmit difdb has_next d peek d get d";
-    row_of(line, table, numbers, lent)
+    row_of(text::rest(line, 1), table, numbers, lent)
 }
 
 // A result's line, `= RESULT`. What it says goes to the buffers.
 pub fn is_result(line: &[u8], numbers: &mut [u64], lent: &mut [u8]) -> bool {
     let table =
         b"ok - none - yes - no - panic - refused d refused dh refused dd word h mode d bytes b message khfsb";
-    match row_of(line, table, numbers, lent) {
+    match row_of(text::rest(line, 1), table, numbers, lent) {
         Line::Row(_) => true,
         Line::Bad => false,
     }

@@ -14,7 +14,8 @@ fn has(flags: u64, n: u64) -> bool {
     flags & n == n
 }
 
-fn header_of(a: &[u64]) -> Header {
+// The header of a message whose line has its FIFO in front.
+pub fn header_of(a: &[u64]) -> Header {
     let id = number(a, 1);
     let flags = number(a, 2);
     Header {

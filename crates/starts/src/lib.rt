@@ -6,6 +6,10 @@ mod setup;
 mod simple;
 
 use driver::Call;
+pub use fifos::header_of;
+pub use simple::byte;
+pub use simple::number;
+pub use simple::word;
 
 // The buffer that is lent to a RAM read, a peek and a get.
 pub const ROOM: usize = 2048;

@@ -2,18 +2,9 @@
 // then, one a line, what it is answered: `< BYTES`, `!`, `wait 500`. What the program writes is compared with a transcript that was
 // worked out from the scope document apart from the code.
 use items::Item;
-use libc::STDOUT_FILENO;
+use output::write_line;
 use port::Step;
 use spoken::Line;
-
-fn write(s: &[u8]) {
-    io::write_all(STDOUT_FILENO, s);
-}
-
-fn write_line(s: &[u8]) {
-    write(s);
-    write(b"\n");
-}
 
 // What the call does now. A wait is not written here: its line comes with the answers.
 fn show(s: &[u8]) {

@@ -12,14 +12,14 @@ pub use number::flags;
 pub use number::hex;
 pub use number::identifier;
 
-// Where the word that begins at `from` ends.
-fn end_of(line: &[u8], from: usize) -> usize
+// Where the part that begins at `from` ends: at the next `b`, the line's end where there is none.
+pub fn end_of(line: &[u8], b: u8, from: usize) -> usize
     requires { ⌜ from ≤ length (now line) ⌝ }
     ensures { λ r. ⌜ (from ≤ r) × (r ≤ length (now (line .entry))) ⌝ }
 {
     let mut i = from;
     while i < line.len() {
-        if line[i] == b' ' {
+        if line[i] == b {
             return i;
         }
         i += 1;
@@ -27,12 +27,12 @@ fn end_of(line: &[u8], from: usize) -> usize
     i
 }
 
-// Where the word after the one that begins at `from` begins, the line's end where there is none.
-fn next_of(line: &[u8], from: usize) -> usize
+// Where the part after the one that begins at `from` begins, the line's end where there is none. No part is empty.
+pub fn next_of(line: &[u8], b: u8, from: usize) -> usize
     requires { ⌜ from < length (now line) ⌝ }
     ensures { λ r. ⌜ (from < r) × (r ≤ length (now (line .entry))) ⌝ }
 {
-    let end = end_of(line, from + 1);
+    let end = end_of(line, b, from + 1);
     if end < line.len() {
         return end + 1;
     }
@@ -49,7 +49,7 @@ fn start_of(line: &[u8], k: usize) -> usize
         if line.len() <= at {
             return at;
         }
-        at = next_of(line, at);
+        at = next_of(line, b' ', at);
         i += 1;
     }
     at
@@ -58,8 +58,14 @@ fn start_of(line: &[u8], k: usize) -> usize
 // Word k of a line, counted from 0; empty where there is none.
 pub fn word(line: &[u8], k: usize) -> &[u8] {
     let start = start_of(line, k);
-    let end = end_of(line, start);
+    let end = end_of(line, b' ', start);
     &line[start..end]
+}
+
+// A line from word k on.
+pub fn rest(line: &[u8], k: usize) -> &[u8] {
+    let start = start_of(line, k);
+    &line[start..]
 }
 
 // How many words a line has.
@@ -67,7 +73,7 @@ pub fn count(line: &[u8]) -> usize {
     let mut at = 0;
     let mut n = 0;
     while at < line.len() {
-        at = next_of(line, at);
+        at = next_of(line, b' ', at);
         n += 1;
     }
     n

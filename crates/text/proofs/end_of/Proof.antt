@@ -7,10 +7,10 @@ use Rattle.text.proofs.end_of.Statement.{statement}
 use Rattle.text.proofs.end_of.Tie as tie
 
 abbrev Inv-loop : tie.InvT-loop
-Inv-loop line from i₀ i = (from ≤ i) × (i ≤ length line)
+Inv-loop line b from i₀ i = (from ≤ i) × (i ≤ length line)
 
 abbrev μ-loop : tie.MeasureT-loop
-μ-loop line from i₀ i = length line - i
+μ-loop line b from i₀ i = length line - i
 
 pub end-of-spec : {M : Type 1} → statement M
 end-of-spec =

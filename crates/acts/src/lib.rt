@@ -1,0 +1,185 @@
+// What stands between calls: bus steps, raw exchanges, what a FIFO holds, a new chip. Each is done and written.
+use bus::Delivery;
+use bus::Sending;
+use message::Frame;
+use message::Reading;
+use model::Heard;
+use output::write;
+use output::write_line;
+use spi::Refusal;
+use spoken::Spoken;
+use state::Model;
+
+fn sent_answer(sending: Sending, f: Frame, out: &mut [u8]) -> usize {
+    match sending {
+        Sending::Frame => lines::frame(out, 0, true, f),
+        Sending::NoFrame => lines::put(out, 0, b"no frame"),
+        Sending::Nothing => lines::put(out, 0, b"nothing sent"),
+        Sending::Refused(r) => lines::refusal(out, 0, r),
+    }
+}
+
+fn delivered_answer(delivery: Delivery, out: &mut [u8]) -> usize {
+    match delivery {
+        Delivery::Delivered => lines::put(out, 0, b"delivered"),
+        Delivery::Refused(r) => lines::refusal(out, 0, r),
+        Delivery::Configuration => lines::put(out, 0, b"turned down configuration"),
+        Delivery::NotReceiving => lines::put(out, 0, b"turned down not receiving"),
+        Delivery::TooLong => lines::put(out, 0, b"turned down too long"),
+        Delivery::Full => lines::put(out, 0, b"turned down full"),
+    }
+}
+
+fn answered(words: &[u8], answer: &[u8]) {
+    write(b"bus ");
+    write(words);
+    write(b" = ");
+    write_line(answer);
+}
+
+fn sent(m: Model, words: &[u8], numbers: &[u64]) -> Model {
+    let s = bus::send(m, starts::byte(numbers, 0));
+    let sending = s.sending;
+    let f = s.frame;
+    let mut out = [0u8; 256];
+    let n = sent_answer(sending, f, &mut out);
+    answered(words, text::front(&out, n));
+    s.model
+}
+
+fn delivered(m: Model, words: &[u8], numbers: &[u64], payload: &[u8]) -> Model {
+    let d = bus::deliver(
+        m,
+        starts::byte(numbers, 0),
+        starts::header_of(numbers),
+        starts::word(numbers, 3),
+        payload,
+    );
+    let delivery = d.delivery;
+    let mut out = [0u8; 64];
+    let n = delivered_answer(delivery, &mut out);
+    answered(words, text::front(&out, n));
+    d.model
+}
+
+// A bus step, by its words, its row in a script and what they say.
+pub fn bus_step(m: Model, s: Spoken, words: &[u8], numbers: &[u64], lent: &[u8]) -> Model {
+    if s.row == script::SEND {
+        return sent(m, words, numbers);
+    }
+    delivered(m, words, numbers, text::front(lent, s.count))
+}
+
+// What came back from an exchange that was carried out, and 27 where it asked to leave Configuration and was not granted.
+pub fn write_received(heard: Heard, rx: &[u8], out: &mut [u8]) {
+    let a = lines::put(out, 0, b"< ");
+    let b = lines::bytes(out, a, rx);
+    write_line(text::front(out, b));
+    if let Heard::NoLayout = heard {
+        write_line(b"* 27");
+    }
+}
+
+pub fn write_failed() {
+    write_line(b"!");
+}
+
+// How many bytes came back of those that were wanted.
+pub fn received(heard: Heard, want: usize) -> usize {
+    match heard {
+        Heard::Received => want,
+        _ => 0,
+    }
+}
+
+pub fn write_exchange(sent: &[u8], want: usize, out: &mut [u8]) {
+    let n = lines::exchange(out, 0, sent, want);
+    write_line(text::front(out, n));
+}
+
+fn write_raw(heard: Heard, rx: &[u8], out: &mut [u8]) {
+    match heard {
+        Heard::Failed => write_failed(),
+        _ => write_received(heard, rx, out),
+    }
+}
+
+fn raw(m: Model, sent: &[u8], want: usize) -> Model {
+    let mut out = io::large_buffer();
+    let mut rx = [0u8; 2048];
+    write_exchange(sent, want, &mut out);
+    let x = model::exchange(m, sent, want, &mut rx);
+    let heard = x.heard;
+    write_raw(heard, text::front(&rx, received(heard, want)), &mut out);
+    x.model
+}
+
+fn put_item(reading: Reading, sending: bool, f: Frame, out: &mut [u8]) -> usize {
+    let a = lines::put(out, 0, b"+ ");
+    match reading {
+        Reading::Whole => lines::frame(out, a, sending, f),
+        _ => lines::put(out, a, b"no frame"),
+    }
+}
+
+fn item(m: Model, n: u8, k: u8) {
+    let d = bus::held_at(m, n, k);
+    let reading = d.reading;
+    let f = d.frame;
+    let mut out = [0u8; 256];
+    let a = put_item(reading, ring::sending(state::frozen_at(m, n)), f, &mut out);
+    write_line(text::front(&out, a));
+}
+
+fn items(m: Model, n: u8, count: u8) {
+    let mut k: u8 = 0;
+    while k < count {
+        item(m, n, k);
+        k += 1;
+    }
+}
+
+fn put_held(m: Model, n: u8, out: &mut [u8]) -> usize {
+    if fifo::is_fifo(n) {
+        return lines::decimal(out, 0, bus::held_len(m, n) as u64);
+    }
+    lines::refusal(out, 0, Refusal::BadNumber)
+}
+
+// A FIFO that there is not holds nothing.
+fn held(m: Model, n: u8, words: &[u8]) {
+    let mut out = [0u8; 64];
+    let k = put_held(m, n, &mut out);
+    write(words);
+    write(b" ");
+    write_line(text::front(&out, k));
+    items(m, n, bus::held_len(m, n));
+}
+
+pub fn new_chip() -> Model {
+    state::reset([0u8; 2048])
+}
+
+// A line between calls, with the blank line behind it.
+pub fn between(m: Model, s: Spoken, words: &[u8], numbers: &[u64], lent: &[u8]) -> Model {
+    let row = s.row;
+    let next = match row {
+        script::SEND => bus_step(m, s, words, numbers, lent),
+        script::DELIVER => bus_step(m, s, words, numbers, lent),
+        script::RAW => raw(
+            m,
+            text::front(lent, starts::number(numbers, 0) as usize),
+            s.count,
+        ),
+        script::HELD => {
+            held(m, starts::byte(numbers, 0), words);
+            m
+        }
+        _ => {
+            write_line(words);
+            new_chip()
+        }
+    };
+    write(b"\n");
+    next
+}

@@ -1,0 +1,115 @@
+// What a line of a script is.
+use spoken::Line;
+use spoken::Spoken;
+use text::Number;
+
+pub enum Entry {
+    // Blank, or a comment.
+    Blank,
+    // A call that is understood.
+    Call,
+    // An @ line, understood or not: neither ends the call above it.
+    Note,
+    BadNote,
+    // A bus step, or what else stands between calls.
+    Step(Spoken),
+    Bad,
+}
+
+// Rows of the lines between calls, and of @ lines behind their first word: bus steps are the same in both.
+pub const SEND: usize = 0;
+
+pub const DELIVER: usize = 1;
+
+pub const RAW: usize = 2;
+
+pub const HELD: usize = 3;
+
+pub const FAIL: usize = 2;
+
+pub const ANSWER: usize = 3;
+
+// The number of the exchange that an @ line is about.
+pub fn exchange_of(line: &[u8]) -> Number {
+    let w = text::word(line, 0);
+    if w.len() < 2 {
+        return Number::Bad;
+    }
+    let start = 1;
+    text::decimal(&w[start..])
+}
+
+// What an @ line says of its exchange.
+pub fn note_of(line: &[u8], numbers: &mut [u64], lent: &mut [u8]) -> Line {
+    spoken::row_of(
+        text::rest(line, 1),
+        b"send d deliver difhb fail - answer b",
+        numbers,
+        lent,
+    )
+}
+
+fn note(line: &[u8], numbers: &mut [u64], lent: &mut [u8]) -> Entry {
+    let Number::Is(_) = exchange_of(line) else {
+        return Entry::BadNote;
+    };
+    match note_of(line, numbers, lent) {
+        Line::Row(_) => Entry::Note,
+        Line::Bad => Entry::BadNote,
+    }
+}
+
+fn call(line: &[u8], numbers: &mut [u64], lent: &mut [u8]) -> Entry {
+    match spoken::understood(line, numbers, lent) {
+        Line::Row(_) => Entry::Call,
+        Line::Bad => Entry::Bad,
+    }
+}
+
+fn step(line: &[u8], numbers: &mut [u64], lent: &mut [u8]) -> Entry {
+    let table = b"send d deliver difhb raw bd held d new -";
+    match spoken::row_of(line, table, numbers, lent) {
+        Line::Row(s) => Entry::Step(s),
+        Line::Bad => Entry::Bad,
+    }
+}
+
+// Of a line that is too long only the front is there, which is no more than a comment or an error.
+fn long_entry(first: u8) -> Entry {
+    match first {
+        b'#' => Entry::Blank,
+        b'@' => Entry::BadNote,
+        _ => Entry::Bad,
+    }
+}
+
+// A line's numbers and bytes go to the buffers.
+pub fn entry_of(line: &[u8], long: bool, numbers: &mut [u64], lent: &mut [u8]) -> Entry {
+    if line.len() == 0 {
+        return Entry::Blank;
+    }
+    let first = line[0];
+    if long {
+        return long_entry(first);
+    }
+    if first == b'#' {
+        return Entry::Blank;
+    }
+    if first == b'@' {
+        return note(line, numbers, lent);
+    }
+    if text::is(line, 0, b"call") {
+        return call(line, numbers, lent);
+    }
+    step(line, numbers, lent)
+}
+
+// Whether a call that waits for its @ lines is run before this line.
+pub fn ends(entry: Entry) -> bool {
+    match entry {
+        Entry::Blank => false,
+        Entry::Note => false,
+        Entry::BadNote => false,
+        _ => true,
+    }
+}
