@@ -21,7 +21,7 @@ use Rattle.field.proofs.Laws.{field-lt, read-write, write-other, apart-sym}
 use Rattle.field.proofs.Sets.{own}
 use Rattle.fifo.specs.Control.{UINC, TXREQ, FRESET}
 use Rattle.ring.specs.declared.ring.Fifo.{Fifo}
-use Rattle.ring.specs.Ring.{sending, depth, place, claimed, taken, increased, controlled, emptied, configured, commanded, turned}
+use Rattle.ring.specs.Ring.{sending, depth, place, claimed, taken, increased, controlled, emptied, fresh, configured, commanded, turned}
 use Rattle.ring.specs.Registers.{frozenFields, copied, control}
 use Rattle.ring.specs.Layout.{size, room, end, base, slotAt}
 use Rattle.ring.specs.Laws.{slotEnd, SlotsApart, FifosApart, InRam, Alike, Frozen, UincReads0, FresetReads0}
@@ -164,7 +164,7 @@ dropped-fit = (omega arith, (omega arith, tt))
 -- after a write of w outside Configuration every field but TXREQ and those frozen reads so
 commanded-off : (g : Field) (frozen w : ℕ) (f : Fifo) → all (apart g) frozenFields ≡ true → apart TXREQ g ≡ true
     → read g (control frozen (commanded frozen w f)) ≡ read g (settings dropped w)
-unfolding commanded emptied controlled
+unfolding commanded emptied fresh controlled
 commanded-off g frozen w f e d =
     let P : Fifo → Type 0 = λ x. read g (x .control) ≡ read g (settings dropped w) in
     let a : Fifo = controlled (settings dropped w) f in

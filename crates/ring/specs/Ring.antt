@@ -27,6 +27,10 @@ place depth head k = if ltb (head + k) depth then head + k else head + k - depth
 unfoldable pub shown : ℕ → Fifo → ℕ
 shown frozen f = place (depth frozen) (f .head) (if sending frozen then f .count else 0)
 
+-- empty, with the ring at slot 0, as after RESET
+unfoldable pub fresh : ℕ → Fifo
+fresh control = record { control = control; head = 0; count = 0; over = false }
+
 -- ---- changes
 
 -- the slot shown holds one more message
@@ -51,9 +55,9 @@ controlled w f = record { control = w; head = f .head; count = f .count; over = 
 unfoldable pub overflowed : Bool → Fifo → Fifo
 overflowed over f = record { control = f .control; head = f .head; count = f .count; over = over }
 
--- emptied: TXREQ and status bit 3 are cleared, the ring is at slot 0
+-- emptied: TXREQ and status bit 3 are cleared
 unfoldable pub emptied : Fifo → Fifo
-emptied f = record { control = write TXREQ 0 (f .control); head = 0; count = 0; over = false }
+emptied f = fresh (write TXREQ 0 (f .control))
 
 -- the oldest is sent; TXREQ is cleared when none is left
 unfoldable pub sent : ℕ → Fifo → Fifo
@@ -79,7 +83,3 @@ commanded frozen w f =
 abbrev pub turned : (entering : Bool) → Fifo → Fifo
 turned true f = emptied f
 turned false f = controlled (write FRESET 0 (f .control)) f
-
--- after RESET
-unfoldable pub fresh : ℕ → Fifo
-fresh control = record { control = control; head = 0; count = 0; over = false }

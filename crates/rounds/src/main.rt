@@ -1,7 +1,6 @@
 // A benchmark: in each round a message is pushed, requested and sent, and another one is delivered and got, through the driver and the
 // modelled chip. Standard input has the number of rounds, on a line. What is written is the number of exchanges, with those that set
 // the chip up, and of messages that came out as they went in.
-use bus::Delivery;
 use bus::Sending;
 use call::Outcome;
 use driver::Call;
@@ -17,41 +16,41 @@ use spoken::Line;
 use state::Model;
 use text::Number;
 
+// The chip, the call, and how many exchanges there were and messages that came out as they went in.
 struct Stand {
     model: Model,
     call: Call,
     exchanges: u64,
+    good: u64,
 }
 
-fn count(n: u64, more: u64) -> u64 {
-    if n < 1000000000000 {
-        if more < 1000000000000 {
-            return n + more;
+fn count(n: u64, more: bool) -> u64 {
+    if more {
+        if n < u64::MAX {
+            return n + 1;
         }
     }
     n
 }
 
-fn stepped(r: Stand, answer: Answer, rx: &[u8], exchanges: u64) -> Stand {
-    let m = r.model;
-    let c = r.call;
-    Stand {
-        model: m,
-        call: driver::step(c, answer, rx),
-        exchanges: count(r.exchanges, exchanges),
+fn is_wait(q: Ask) -> bool {
+    match q {
+        Ask::Wait => true,
+        _ => false,
     }
 }
 
-fn moved(r: Stand, m: Model) -> Stand {
-    let c = r.call;
-    Stand {
-        model: m,
-        call: c,
-        exchanges: r.exchanges,
+fn is_over(c: Call) -> bool {
+    match driver::ask(c) {
+        Ask::Nothing => true,
+        _ => false,
     }
 }
 
-fn answer_of(heard: Heard) -> Answer {
+fn answer_of(wait: bool, heard: Heard) -> Answer {
+    if wait {
+        return Answer::Waited;
+    }
     match heard {
         Heard::Failed => Answer::Failed,
         _ => Answer::Exchanged,
@@ -65,48 +64,41 @@ fn length(s: Sent) -> usize {
     }
 }
 
-fn exchanged(r: Stand, want: usize) -> Stand {
+// What the call asks for now, and its answer. A wait sends nothing, and the chip takes it for no exchange.
+fn turned(r: Stand) -> Stand {
     let none = [0u8; 1];
     let mut tx = [0u8; 160];
     let mut rx = [0u8; 160];
     let c = r.call;
     let m = r.model;
+    let q = driver::ask(c);
+    let wait = is_wait(q);
+    let want = spi::exchange_of(q).want;
     let n = length(driver::send(c, text::front(&none, 0), &mut tx));
     let x = model::exchange(m, text::front(&tx, n), want, &mut rx);
     let next = x.model;
     let heard = x.heard;
-    stepped(moved(r, next), answer_of(heard), text::front(&rx, want), 1)
-}
-
-// Whether the call is over, and what it did otherwise.
-fn turned(r: Stand) -> Stand {
-    let c = r.call;
-    let q = driver::ask(c);
-    match q {
-        Ask::Nothing => r,
-        Ask::Wait => {
-            let none = [0u8; 1];
-            stepped(r, Answer::Waited, text::front(&none, 0), 0)
-        }
-        _ => exchanged(r, spi::exchange_of(q).want),
+    Stand {
+        model: next,
+        call: driver::step(c, answer_of(wait, heard), text::front(&rx, want)),
+        exchanges: count(r.exchanges, !wait),
+        good: r.good,
     }
 }
 
-fn is_over(c: Call) -> bool {
-    match driver::ask(c) {
-        Ask::Nothing => true,
-        _ => false,
+fn begun(r: Stand, call: Call) -> Stand {
+    let m = r.model;
+    Stand {
+        model: m,
+        call: call,
+        exchanges: r.exchanges,
+        good: r.good,
     }
 }
 
 // A call, run to its end: none has so many exchanges and waits that the turns run out.
 fn run(r: Stand, call: Call) -> Stand {
-    let m = r.model;
-    let mut now = Stand {
-        model: m,
-        call: call,
-        exchanges: r.exchanges,
-    };
+    let mut now = begun(r, call);
     let mut turns: u32 = 1000;
     while 0 < turns {
         turns -= 1;
@@ -135,6 +127,7 @@ fn prepared() -> Stand {
         model: state::reset([0u8; 2048]),
         call: call_of(b"call reset"),
         exchanges: 0,
+        good: 0,
     };
     let a = run(
         first,
@@ -170,10 +163,15 @@ fn is_ours(h: Header, payload: &[u8], i: u32) -> bool {
     check::same(payload, &p)
 }
 
-// How a round's half ended: as it should, or not.
-struct Half {
-    run: Stand,
-    good: bool,
+// The chip after a bus step, and whether a message came out as it went in.
+fn moved(r: Stand, m: Model, good: bool) -> Stand {
+    let c = r.call;
+    Stand {
+        model: m,
+        call: c,
+        exchanges: r.exchanges,
+        good: count(r.good, good),
+    }
 }
 
 fn is_sent(sending: Sending, frame: Frame, i: u32) -> bool {
@@ -188,7 +186,7 @@ fn is_sent(sending: Sending, frame: Frame, i: u32) -> bool {
 }
 
 // Pushed, requested, sent.
-fn outgoing(r: Stand, i: u32) -> Half {
+fn outgoing(r: Stand, i: u32) -> Stand {
     let p = payload_of(i);
     let push = tx_fifo::push_start(1, header_of(i), i % 0x80_0000, &p);
     let a = run(r, driver::of_push(push));
@@ -198,11 +196,7 @@ fn outgoing(r: Stand, i: u32) -> Half {
     let next = s.model;
     let frame = s.frame;
     let sending = s.sending;
-    let good = is_sent(sending, frame, i);
-    Half {
-        run: moved(b, next),
-        good: good,
-    }
+    moved(b, next, is_sent(sending, frame, i))
 }
 
 fn is_got(c: Call, i: u32) -> bool {
@@ -215,28 +209,17 @@ fn is_got(c: Call, i: u32) -> bool {
     }
 }
 
-fn is_delivered(d: Delivery) -> bool {
-    match d {
-        Delivery::Delivered => true,
-        _ => false,
-    }
-}
-
-// Delivered, got.
-fn incoming(r: Stand, i: u32) -> Half {
+// Delivered, got: a frame that was not delivered is not got either.
+fn incoming(r: Stand, i: u32) -> Stand {
     let p = payload_of(i);
     let m = r.model;
     let d = bus::deliver(m, 2, header_of(i), i, &p);
     let next = d.model;
-    let delivery = d.delivery;
-    let g = run(moved(r, next), driver::of_fetch(rx_fifo::get_start(2, 64)));
+    let get = rx_fifo::get_start(2, 64);
+    let g = run(moved(r, next, false), driver::of_fetch(get));
+    let after = g.model;
     let c = g.call;
-    let good = is_delivered(delivery) && is_got(c, i);
-    Half { run: g, good: good }
-}
-
-fn one(good: bool) -> u64 {
-    if good { 1 } else { 0 }
+    moved(g, after, is_got(c, i))
 }
 
 fn tell(n: u64, what: &[u8]) {
@@ -246,18 +229,14 @@ fn tell(n: u64, what: &[u8]) {
 
 fn play(n: u32) {
     let mut r = prepared();
-    let mut good = 0;
     let mut i = 0;
     while i < n {
-        let a = outgoing(r, i);
-        let b = incoming(a.run, i);
-        good = count(count(good, one(a.good)), one(b.good));
-        r = b.run;
+        r = incoming(outgoing(r, i), i);
         i += 1;
     }
     tell(n as u64, b" rounds, ");
     tell(r.exchanges, b" exchanges, ");
-    tell(good, b" messages\n");
+    tell(r.good, b" messages\n");
 }
 
 fn rounds_of(s: &[u8]) -> u32 {

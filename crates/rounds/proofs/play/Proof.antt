@@ -6,10 +6,10 @@ use Rattle.rounds.proofs.play.Statement.{statement}
 use Rattle.rounds.proofs.play.Tie as tie
 
 abbrev Inv-loop : tie.InvT-loop
-Inv-loop n r₀ good₀ i₀ t7 t8 t9 r good i = Unit {0}
+Inv-loop n r₀ i₀ t4 t5 t6 r i = Unit {0}
 
 abbrev μ-loop : tie.MeasureT-loop
-μ-loop n r₀ good₀ i₀ t7 t8 t9 r good i = n - i
+μ-loop n r₀ i₀ t4 t5 t6 r i = n - i
 
 pub play-spec : {M : Type 1} → statement M
 play-spec =
@@ -21,10 +21,6 @@ play-spec =
     (λ c. tt)
     (λ c κs. search needs)
     (λ c κs. search needs)
-    (λ c κs. search needs)
-    (λ c κs. search needs)
-    (λ c. search needs)
-    (λ c. search needs)
     (λ c. search needs)
     (λ c. search needs)
     (λ c. tt)

@@ -1,12 +1,12 @@
 -- `ring::ring::emptied` meets its contract.
 -- Assumes nothing.
 use borrow.Author.Needs.{needs}
-use Rattle.ring.specs.Ring.{emptied, fresh}
+use Rattle.ring.specs.Ring.{emptied}
 use Rattle.ring.proofs.ring.emptied.Statement.{statement}
 use Rattle.ring.proofs.ring.emptied.Tie as tie
 
 pub emptied-spec : {M : Type 1} → statement M
-unfolding emptied fresh
+unfolding emptied
 emptied-spec =
     tie.close
     (tie.spec (λ c κs. search needs) (λ c κs. search needs)
