@@ -1,0 +1,175 @@
+-- What the modelled chip answers to what the driver asks.
+-- Assumes nothing.
+use mathlib.Core.Path.{_≡_, refl, ap, _∙_}
+use mathlib.Core.Bool.{true, false}
+use mathlib.Core.List.{List, [], _∷_, _++_, append-nil}
+use Prim.Native.Nat.{ℕ, _+_, _-_, _*_, _%_, _^_, _≤_, _<_}
+use native.Mathlib.Nat.{mod-lt}
+use native.Mathlib.Omega.{arith}
+use borrow.Author.Tests.{leb-true, le-leb, lt-leb, eq-eqb}
+use lib.Dec.{leb, eqb}
+use lib.Pow.{pow-pos}
+use lib.ListN.{length, take, drop}
+use Rattle.laws.proofs.Choice.{by-if}
+use Rattle.laws.proofs.Table.{both}
+use Rattle.words.specs.Words.{leBytes, beBytes}
+use Rattle.parts.specs.Parts.{part}
+use Rattle.fifo.specs.Control.{CiFIFOCON, isFifo}
+use Rattle.fifo.specs.Status.{CiFIFOSTA}
+use Rattle.fifo.specs.UserAddress.{CiFIFOUA}
+use Rattle.spi.specs.declared.instruction.OpCode.{OpCode}
+use Rattle.spi.specs.declared.ask.Ask.{Ask}
+use Rattle.spi.specs.declared.ask.Answer.{Answer}
+use Rattle.spi.specs.Ask.{headOf, bodyOf, wanted, sent}
+use Rattle.spi.specs.Instruction.{codeOf, commandOf}
+use Rattle.spi.specs.Ram.{inRange}
+use Rattle.operation.specs.declared.place.Register.{Register}
+use Rattle.operation.specs.declared.place.Place.{Place}
+use Rattle.operation.specs.declared.operation.Operation.{Operation}
+use Rattle.operation.specs.Place.{registerAt}
+use Rattle.operation.specs.Operation.{inRam, at, readAt, asked}
+use Rattle.operation.proofs.Laws.{all-carried, asks-read, asks-checked, asks-word, writes-word, asks-body}
+use Rattle.state.specs.declared.Model.{Model}
+use Rattle.state.specs.Model.{written}
+use Rattle.bank.specs.Registers.{wordOf, controlWritten, registerWritten}
+use Rattle.model.specs.Exchange.{doneWriting, performed, exchange}
+use Rattle.history.proofs.Line.{hearing, spoken}
+use Rattle.history.proofs.Kept.{heard-chip}
+use Rattle.history.specs.History.{Heard, hears}
+
+-- ---- numbers and places
+
+pub fifo-told : (n : ℕ) → isFifo n ≡ true → (1 ≤ n) × (n ≤ 31)
+unfolding isFifo
+fifo-told n e = let (l, h) = both (leb 1 n) (leb n 31) e in (leb-true 1 n l, leb-true n 31 h)
+
+-- below RAM there is none
+pub ram-low : (a k : ℕ) → a < 0x400 → inRam a k ≡ false
+unfolding inRam inRange
+ram-low a k h = rw (lt-leb 0x400 a h)
+
+-- k bytes from offset x on
+pub range-in : (x k : ℕ) → x + k ≤ 2048 → inRange (x + 0x400) k ≡ true
+unfolding inRange
+range-in x k h = rw (le-leb 0x400 (x + 0x400) (omega arith), le-leb (x + 0x400 + k) 0xC00 (omega arith))
+
+pub ram-in : (x k : ℕ) → x + k ≤ 2048 → k % 4 ≡ 0 → inRam (x + 0x400) k ≡ true
+unfolding inRam
+ram-in x k h e = rw (range-in x k h, eq-eqb (k % 4) 0 e)
+
+-- ---- what an ask is carried out as
+
+-- without a body the head is all that is sent
+sent-head : (q : Ask) (b : List ℕ) → bodyOf q ≡ 0 → sent q b ≡ headOf q
+unfolding sent
+sent-head q b e = rw e (append-nil (headOf q))
+
+pub does : (q : Ask) (b : List ℕ) (c : Model) (o : Operation) → asked (sent q b) (wanted q) ≡ o → spoken q b c ≡ hearing (performed o (sent q b) (wanted q) c)
+unfolding exchange
+does q b c o e = ap (λ (x : Operation). hearing (performed x (sent q b) (wanted q) c)) e
+
+module _ (b : List ℕ) (c : Model) where
+  module _ (a : ℕ) (r : Register) (is : registerAt a ≡ Place.Is r) (off : inRam a 4 ≡ false) (h : a < 2 ^ 12) where
+    -- a register's word is read
+    pub hear-register : spoken (Ask.Read a 4) b c ≡ hears Answer.Exchanged (leBytes (wordOf c r)) c
+    unfolding readAt performed
+    hear-register =
+        let e : readAt a 4 ≡ Operation.Read r = rw (off, is) in
+        does (Ask.Read a 4) b c (Operation.Read r) (ap (λ (s : List ℕ). asked s 4) (sent-head (Ask.Read a 4) b refl) ∙ asks-read a 4 h ∙ e)
+
+    -- a register's word is written
+    pub tell-register : (w : ℕ) → w < 2 ^ 32 → spoken (Ask.Word a w) b c ≡ hearing (doneWriting (registerWritten c r w))
+    unfolding performed
+    tell-register w l =
+        does (Ask.Word a w) b c (Operation.Write r w)
+        (ap (λ (s : List ℕ). asked s 0) (sent-head (Ask.Word a w) b refl) ∙ asks-word a w h ∙ writes-word a w off l
+        ∙ ap (λ (p : Place). at p (λ x. Operation.Write x w)) is)
+
+  module _ (n : ℕ) (f : isFifo n ≡ true) where
+    -- FIFO n's registers lie below RAM
+    pub hear-control : spoken (Ask.Read (CiFIFOCON .address n) 4) b c ≡ hears Answer.Exchanged (leBytes (wordOf c (Register.Control n))) c
+    hear-control =
+        let (l, h) = fifo-told n f in
+        hear-register (CiFIFOCON .address n) (Register.Control n) (all-carried .control n l h) (ram-low (CiFIFOCON .address n) 4 (omega arith)) (omega arith)
+
+    pub hear-status : spoken (Ask.Read (CiFIFOSTA .address n) 4) b c ≡ hears Answer.Exchanged (leBytes (wordOf c (Register.Status n))) c
+    hear-status =
+        let (l, h) = fifo-told n f in
+        hear-register (CiFIFOSTA .address n) (Register.Status n) (all-carried .status n l h) (ram-low (CiFIFOSTA .address n) 4 (omega arith)) (omega arith)
+
+    pub hear-address : spoken (Ask.Read (CiFIFOUA .address n) 4) b c ≡ hears Answer.Exchanged (leBytes (wordOf c (Register.Address n))) c
+    hear-address =
+        let (l, h) = fifo-told n f in
+        hear-register (CiFIFOUA .address n) (Register.Address n) (all-carried .userAddress n l h) (ram-low (CiFIFOUA .address n) 4 (omega arith)) (omega arith)
+
+    pub tell-control : (w : ℕ) → w < 2 ^ 32 → spoken (Ask.Word (CiFIFOCON .address n) w) b c ≡ hears Answer.Exchanged [] (controlWritten c n w)
+    unfolding registerWritten
+    tell-control =
+        let (l, h) = fifo-told n f in
+        tell-register (CiFIFOCON .address n) (Register.Control n) (all-carried .control n l h) (ram-low (CiFIFOCON .address n) 4 (omega arith)) (omega arith)
+
+  module _ (x k : ℕ) (h : x + k ≤ 2048) (four : k % 4 ≡ 0) where
+    pub hear-ram : spoken (Ask.Read (x + 0x400) k) b c ≡ hears Answer.Exchanged (part (c .ram) x k) c
+    unfolding readAt performed
+    hear-ram =
+        let z : x + 0x400 - 0x400 ≡ x = omega arith in
+        let e : readAt (x + 0x400) k ≡ Operation.ReadRam x = rw (ram-in x k h four, z) in
+        does (Ask.Read (x + 0x400) k) b c (Operation.ReadRam x)
+        (ap (λ (s : List ℕ). asked s k) (sent-head (Ask.Read (x + 0x400) k) b refl) ∙ asks-read (x + 0x400) k (omega arith) ∙ e)
+
+    -- what follows the command is the body's front
+    body-front : drop 2 (sent (Ask.Body (x + 0x400) k) b) ≡ take k b
+    unfolding sent commandOf beBytes
+    body-front = refl
+
+    pub tell-ram : k ≤ length b → spoken (Ask.Body (x + 0x400) k) b c ≡ hears Answer.Exchanged [] (written c x (take k b))
+    unfolding performed
+    tell-ram l =
+        let z : x + 0x400 - 0x400 ≡ x = omega arith in
+        does (Ask.Body (x + 0x400) k) b c (Operation.WriteRam x) (asks-body (x + 0x400) k b (ram-in x k h four) l ∙ ap Operation.WriteRam z)
+        ∙ ap (λ (bs : List ℕ). hears Answer.Exchanged [] (written c x bs)) body-front
+
+-- ---- reading leaves the chip as it is
+
+-- an address's upper bits are not sent
+low-address : (op : OpCode) (a : ℕ) → commandOf op a ≡ commandOf op (a % 2 ^ 12)
+unfolding commandOf
+low-address op a = let e : a % 2 ^ 12 ≡ a % 2 ^ 12 % 2 ^ 12 = omega arith in ap (λ (x : ℕ). beBytes (codeOf op * 2 ^ 12 + x)) e
+
+at-keeps : (s : List ℕ) (want : ℕ) (c : Model) (p : Place) (f : Register → Operation) → ((r : Register) → performed (f r) s want c .model ≡ c)
+    → performed (at p f) s want c .model ≡ c
+unfolding performed
+at-keeps s want c (Place.Is r) f h = h r
+at-keeps s want c Place.None f h = refl
+
+read-keeps : (s : List ℕ) (a k : ℕ) (c : Model) → performed (readAt a k) s k c .model ≡ c
+unfolding readAt performed
+read-keeps s a k c =
+    let P : Operation → Type 0 = λ o. performed o s k c .model ≡ c in
+    by-if P (inRam a k) (λ e. refl) (λ e. by-if P (eqb k 4) (λ f. at-keeps s k c (registerAt a) Operation.Read (λ r. refl)) (λ f. refl))
+
+checked-keeps : (s : List ℕ) (a : ℕ) (c : Model) → performed (at (registerAt a) Operation.Checked) s 6 c .model ≡ c
+unfolding performed
+checked-keeps s a c = at-keeps s 6 c (registerAt a) Operation.Checked (λ r. refl)
+
+spoken-keeps : (q : Ask) (b : List ℕ) (c : Model) (o : Operation) → bodyOf q ≡ 0 → asked (headOf q) (wanted q) ≡ o
+    → performed o (sent q b) (wanted q) c .model ≡ c → spoken q b c .chip ≡ c
+spoken-keeps q b c o z e k =
+    ap (λ (x : Heard). x .chip) (does q b c o (ap (λ (s : List ℕ). asked s (wanted q)) (sent-head q b z) ∙ e))
+    ∙ heard-chip (performed o (sent q b) (wanted q) c .reply) _ ∙ k
+
+module _ (b : List ℕ) (c : Model) (a : ℕ) where
+  -- whatever is read, and from wherever
+  pub hear-keeps : (k : ℕ) → spoken (Ask.Read a k) b c .chip ≡ c
+  hear-keeps k =
+      let x : ℕ = a % 2 ^ 12 in
+      spoken-keeps (Ask.Read a k) b c (readAt x k) refl
+      (ap (λ (s : List ℕ). asked s k) (low-address OpCode.Read a) ∙ asks-read x k (mod-lt a (pow-pos 12)))
+      (read-keeps (sent (Ask.Read a k) b) x k c)
+
+  pub check-keeps : spoken (Ask.Checked a) b c .chip ≡ c
+  check-keeps =
+      let x : ℕ = a % 2 ^ 12 in
+      spoken-keeps (Ask.Checked a) b c (at (registerAt x) Operation.Checked) refl
+      (ap (λ (s : List ℕ). asked (s ++ (4 ∷ [])) 6) (low-address OpCode.ReadCrc a) ∙ asks-checked x (mod-lt a (pow-pos 12)))
+      (checked-keeps (sent (Ask.Checked a) b) x c)

@@ -1,0 +1,167 @@
+-- Two chips that are the same but for the bytes of one place in RAM: a bus step keeps them so, since no step looks at a byte of RAM.
+-- Assumes nothing.
+use Prim.Native.Nat.{ℕ, _+_, _-_, _%_, _^_, _≤_, _<_, min}
+use mathlib.Core.Path.{_≡_, refl, sym, ap, _∙_, subst}
+use mathlib.Core.Bool.{Bool, true, false, _&&_}
+use mathlib.Core.List.{List, [], _∷_}
+use native.Mathlib.Omega.{arith}
+use lib.ListN.{length, getD, take, length-take}
+use lib.Dec.{ltb, leb}
+use Rattle.laws.specs.If.{if_then_else_}
+use Rattle.fifo.specs.Control.{payloadOf, isFifo}
+use Rattle.parts.specs.Parts.{put}
+use Rattle.header.specs.declared.Header.{Header}
+use Rattle.message.specs.Message.{Encoding, encoding}
+use Rattle.ring.specs.declared.ring.Fifo.{Fifo}
+use Rattle.ring.specs.Ring.{sending, depth, overflowed, sent}
+use Rattle.state.specs.declared.Model.{Model}
+use Rattle.state.specs.Model.{fifoAt, frozenAt, withFifo, written}
+use Rattle.state.proofs.Store.{put-front, put-behind}
+use Rattle.bus.specs.declared.arrival.Delivered.{Delivered}
+use Rattle.bus.specs.Held.{slotOf}
+use Rattle.bus.specs.Bus.{sends, sendModel, incoming, appended, byEncoding, deliverOf}
+use Rattle.reach.specs.Bus.{Bus, Send, Deliver, stepped}
+use Rattle.history.specs.Demand.{buses, ButFor}
+use Rattle.history.proofs.Bytes.{length-put, put-inside, byte-before, byte-within, byte-behind}
+use Rattle.history.proofs.Slots.{split}
+
+-- the same choice on both sides
+by-both : {A : Type 0} (P : A → A → Type 0) (b : Bool) {x y x′ y′ : A} → P x x′ → P y y′ → P (if b then x else y) (if b then x′ else y′)
+by-both P true f g = f
+by-both P false f g = g
+
+module _ (a n : ℕ) where
+  pub but-same : (c : Model) → ButFor a n c c
+  but-same c = record { fixed = refl; setup = refl; fifo = refl; long = refl; below = λ x h. refl; above = λ x h. refl }
+
+  pub but-trans : (c d e : Model) → ButFor a n c d → ButFor a n d e → ButFor a n c e
+  but-trans c d e x y = record {
+    fixed = y .fixed ∙ x .fixed;
+    setup = y .setup ∙ x .setup;
+    fifo = y .fifo ∙ x .fifo;
+    long = y .long ∙ x .long;
+    below = λ i h. y .below i h ∙ x .below i h;
+    above = λ i h. y .above i h ∙ x .above i h;
+  }
+
+  -- bytes written into the place
+  pub but-written : (c : Model) (p : ℕ) (bs : List ℕ) → a ≤ p → p + length bs ≤ a + n → a + n ≤ length (c .ram) → ButFor a n c (written c p bs)
+  but-written c p bs lo hi inside =
+      let f : p + length bs ≤ length (c .ram) = omega arith in
+      let e = put-inside (c .ram) p bs f in
+      record {
+        fixed = refl;
+        setup = refl;
+        fifo = refl;
+        long = ap length e ∙ length-put (c .ram) p bs f;
+        below = λ x h. ap (λ (l : List ℕ). getD l x 0) e ∙ byte-before (c .ram) p bs f x (omega arith);
+        above = λ x h. ap (λ (l : List ℕ). getD l x 0) e ∙ byte-behind (c .ram) p bs f x (omega arith);
+      }
+
+  -- ---- RAM alone
+
+  -- the same but for the bytes from place a to place a + n
+  record Near (l m : List ℕ) : Type 0 where
+    long : length m ≡ length l
+    at : (x : ℕ) → (a ≤ x → x < a + n → ⊥) → getD m x 0 ≡ getD l x 0
+
+  -- the same bytes put at the same place, inside
+  put-near : (l m : List ℕ) → Near l m → (p : ℕ) (bs : List ℕ) → p + length bs ≤ length l → Near (put l p bs) (put m p bs)
+  put-near l m s p bs f =
+      let g : p + length bs ≤ length m = omega (arith, s .long) in
+      record {
+        long = length-put m p bs g ∙ s .long ∙ sym (length-put l p bs f);
+        at = λ x o.
+            split x p (λ lo. byte-before m p bs g x lo ∙ s .at x o ∙ sym (byte-before l p bs f x lo))
+            (λ ge. split x (p + length bs)
+            (λ lo. byte-within m p bs g x ge lo ∙ sym (byte-within l p bs f x ge lo))
+            (λ hi. byte-behind m p bs g x hi ∙ s .at x o ∙ sym (byte-behind l p bs f x hi)));
+      }
+
+  -- anywhere: what would lie behind the end is lost in both
+  stored-near : (l m : List ℕ) → Near l m → (p : ℕ) (bs : List ℕ) → Near (take (length l) (put l p bs)) (take (length m) (put m p bs))
+  stored-near l m s p bs =
+      split p (length l)
+      (λ lo.
+      let bs′ : List ℕ = take (min (length bs) (length l - p)) bs in
+      let i : p + length bs′ ≤ length l = omega (arith, length-take (min (length bs) (length l - p)) bs) in
+      let e : put l p bs′ ≡ take (length l) (put l p bs) = put-front l bs p (omega arith) in
+      let e′ : put m p bs′ ≡ take (length m) (put m p bs)
+      = ap (λ (x : ℕ). put m p (take (min (length bs) (x - p)) bs)) (sym (s .long)) ∙ put-front m bs p (omega (arith, s .long)) in
+      subst (λ (x : List ℕ). Near x (take (length m) (put m p bs))) e (subst (λ (x : List ℕ). Near (put l p bs′) x) e′ (put-near l m s p bs′ i)))
+      (λ hi. rw (put-behind l bs p hi, put-behind m bs p (omega (arith, s .long))) s)
+
+  ram-near : (c d : Model) → ButFor a n c d → Near (c .ram) (d .ram)
+  ram-near c d b = record {
+    long = b .long;
+    at = λ x o. split x a (b .below x) (λ ge. split x (a + n) (λ lo. absurd (o ge lo)) (b .above x));
+  }
+
+  -- the rest the same
+  near-but : (c d : Model) → d .fixed ≡ c .fixed → d .setup ≡ c .setup → d .fifo ≡ c .fifo → Near (c .ram) (d .ram) → ButFor a n c d
+  near-but c d ex es ef b = record {
+    fixed = ex;
+    setup = es;
+    fifo = ef;
+    long = b .long;
+    below = λ x h. b .at x (λ lo hi. omega arith);
+    above = λ x h. b .at x (λ lo hi. omega arith);
+  }
+
+  -- ---- a bus step in two chips that differ in RAM alone
+
+  module _ (c : Model) (r : List ℕ) (s : Near (c .ram) r) where
+    abbrev other : Model
+    other = record { fixed = c .fixed; setup = c .setup; fifo = c .fifo; ram = r }
+
+    -- answers of the two chips
+    abbrev Told : (x y : Delivered) → Type 0
+    Told x y = ButFor a n (x .model) (y .model)
+
+    -- the same change of a FIFO
+    fifo-but : (j : ℕ) (g : Fifo) → ButFor a n (withFifo c j g) (withFifo other j g)
+    fifo-but j g = near-but (withFifo c j g) (withFifo other j g) refl refl refl s
+
+    same-but : ButFor a n c other
+    same-but = near-but c other refl refl refl s
+
+    sends-same : (j : ℕ) → sends other j ≡ sends c j
+    unfolding sends
+    sends-same j = refl
+
+    send-but : (j : ℕ) → ButFor a n (sendModel c j) (sendModel other j)
+    unfolding sendModel
+    send-but j = rw (sends-same j) (by-both (ButFor a n) (isFifo j && sends c j) (fifo-but j (sent (frozenAt c j) (fifoAt c j))) same-but)
+
+    appended-but : (j len : ℕ) (bs : List ℕ) → ButFor a n (appended c j len bs .model) (appended other j len bs .model)
+    unfolding appended slotOf
+    appended-but j len bs =
+        by-both Told (c .fixed .configuring) same-but
+        (by-both Told (sending (frozenAt c j)) same-but
+        (by-both Told (ltb (payloadOf (frozenAt c j)) len) same-but
+        (by-both Told (leb (depth (frozenAt c j)) (fifoAt c j .count)) (fifo-but j (overflowed true (fifoAt c j)))
+        (near-but _ _ refl refl refl (stored-near (c .ram) r s (slotOf c j (fifoAt c j .count)) bs)))))
+
+    encoded-but : (x : Encoding) (j len : ℕ) → ButFor a n (byEncoding x c j len .model) (byEncoding x other j len .model)
+    encoded-but (Encoding.refused e) j len = same-but
+    encoded-but (Encoding.object bs) j len = appended-but j len bs
+
+    deliver-but : (j : ℕ) (header : Header) (time : ℕ) (payload : List ℕ)
+        → ButFor a n (deliverOf c j header time payload .model) (deliverOf other j header time payload .model)
+    unfolding deliverOf incoming
+    deliver-but j header time payload = by-both Told (isFifo j) (encoded-but (encoding (incoming c j header time payload)) j (length payload)) same-but
+
+    step-near : (b : Bus) → ButFor a n (stepped b c) (stepped b other)
+    unfolding stepped
+    step-near (Send j) = send-but j
+    step-near (Deliver j header time payload) = deliver-but j header (time % 2 ^ 32) payload
+
+  pub but-step : (c d : Model) → ButFor a n c d → (b : Bus) → ButFor a n (stepped b c) (stepped b d)
+  but-step c d x b =
+      let e : other c (d .ram) (ram-near c d x) ≡ d = λ i. record { fixed = sym (x .fixed) i; setup = sym (x .setup) i; fifo = sym (x .fifo) i; ram = d .ram } in
+      subst (λ (y : Model). ButFor a n (stepped b c) (stepped b y)) e (step-near c (d .ram) (ram-near c d x) b)
+
+  pub but-buses : (bs : List Bus) (c d : Model) → ButFor a n c d → ButFor a n (buses bs c) (buses bs d)
+  unfolding buses
+  but-buses [] c d x = x
+  but-buses (b ∷ bs) c d x = but-buses bs (stepped b c) (stepped b d) (but-step c d x b)

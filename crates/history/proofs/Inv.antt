@@ -1,0 +1,144 @@
+-- What is true of the world after every event of a history.
+-- Assumes nothing.
+use Prim.Native.Nat.{ℕ, _≤_}
+use mathlib.Core.Path.{_≡_, refl, sym, ap, _∙_}
+use mathlib.Core.Bool.{Bool, true, false}
+use mathlib.Core.List.{List, [], _∷_, _++_, map, append-nil}
+use lib.Dec.{eqb}
+use lib.ListN.{length}
+use Rattle.laws.specs.If.{if_then_else_}
+use Rattle.fifo.specs.Control.{isFifo}
+use Rattle.spi.specs.declared.refusal.Refusal.{Refusal}
+use Rattle.header.specs.declared.Header.{Header}
+use Rattle.message.specs.Message.{Message, Encoding, encoding, holds}
+use Rattle.call.specs.declared.Outcome.{Outcome}
+use Rattle.plan.specs.declared.plan.Plan.{Plan}
+use Rattle.plan.specs.Step as plan
+use Rattle.tx_fifo.specs.declared.push.Push.{Push as Pushes}
+use Rattle.tx_fifo.specs.declared.push.PushAt.{PushAt}
+use Rattle.tx_fifo.specs.Step.{toSend}
+use Rattle.transmit.specs.Transmit.{requestStart}
+use Rattle.register.specs.declared.RegisterCall.{RegisterCall}
+use Rattle.ram.specs.declared.RamCall.{RamCall}
+use Rattle.fetch.specs.declared.Want.{Want}
+use Rattle.fetch.specs.declared.FetchAt.{FetchAt}
+use Rattle.rx_fifo.specs.declared.Fetch.{Fetch}
+use Rattle.driver.specs.declared.calls.CallAt.{CallAt}
+use Rattle.driver.specs.declared.calls.Call.{Call}
+use Rattle.state.specs.declared.Model.{Model}
+use Rattle.bus.specs.Held.{held}
+use Rattle.history.specs.Command.{Command, Push, Transmit, Request, HasNext, Peek, Get, Reading, Configuring, Look, Setting}
+use Rattle.history.specs.History.{Said, called, Doing, idle, busy, World, isOver}
+use Rattle.history.specs.Lists.{only, doneWith, foundIn, acceptedIn, handedOutIn}
+use Rattle.history.specs.Demand.{Each, TellsWell, Told}
+use Rattle.history.proofs.Sound.{Sound}
+use Rattle.history.proofs.Bus.{Listed, Moves, lists-snoc, Later}
+use Rattle.history.proofs.Harmless.{Harmless}
+use Rattle.history.proofs.Requests.{Requests}
+use Rattle.history.proofs.Looks.{LooksAt}
+use Rattle.history.proofs.Pushing.{commanded, pushing}
+use Rattle.history.proofs.Fetchings.{fetched, fetching}
+use Rattle.history.proofs.Planning.{planned, Ready}
+use Rattle.history.proofs.Mid.{PushMid, FetchMid, push-later, fetch-later}
+
+-- ---- a call under way
+
+-- the buffer that peek and get were lent
+abbrev pub Lent : Want → List ℕ → Type 0
+Lent Want.HasNext buf = Unit {0}
+Lent Want.Peek buf = 64 ≤ length buf
+Lent Want.Get buf = 64 ≤ length buf
+
+-- the call k, at which the driver stands at s
+pub data Mid (c : Model) (k : Command) (s : Call) : Type 0 where
+  pushes :
+      (also : Bool) (n : ℕ) (header : Header) (seq : ℕ) (payload bs : List ℕ) (at : PushAt) (p : Plan) (f : Fetch)
+      → isFifo n ≡ true → encoding (toSend header seq payload) ≡ Encoding.object bs → (also ≡ true → p ≡ requestStart n)
+      → PushMid c n (toSend header seq payload) bs at
+      → k ≡ commanded also n header seq payload → s ≡ pushing also n (length payload) bs at p f → Mid c k s
+  fetches :
+      (want : Want) (n : ℕ) (buf held : List ℕ) (at : FetchAt) (p : Plan) (u : Pushes)
+      → isFifo n ≡ true → Lent want buf → length held ≡ 64 → FetchMid c want n held at
+      → k ≡ fetched want n buf → s ≡ fetching want n held at p u → Mid c k s
+  requests :
+      (also : Bool) (n : ℕ) (p : Plan) (u : Pushes) (f : Fetch) → Ready u f also → Requests n p → Harmless p
+      → isOver (plan.outcomeOf p) ≡ false → k ≡ Request n → s ≡ planned also p u f → Mid c k s
+  configures : (x : Setting) (p : Plan) (u : Pushes) (f : Fetch) → Harmless p → k ≡ Configuring x → s ≡ planned false p u f → Mid c k s
+  looks : (x : Look) → LooksAt (s .at) → k ≡ Reading x → Mid c k s
+
+abbrev pub Doings : Model → Doing → Type 0
+Doings c idle = Unit {0}
+Doings c (busy k s) = Mid c k s
+
+pub doings-later : (c d : Model) → Later c d → (g : Doing) → Doings c g → Doings d g
+doings-later c d l idle i = tt
+doings-later c d l (busy k s) (pushes also n header seq payload bs at p f i e r g ek es) =
+    pushes also n header seq payload bs at p f i e r (push-later c d l n i _ bs at g) ek es
+doings-later c d l (busy k s) (fetches want n buf held at p u i b h g ek es) =
+    fetches want n buf held at p u i b h (fetch-later c d l n i want held at g) ek es
+doings-later c d l (busy k s) (requests also n p u f a r h b ek es) = requests also n p u f a r h b ek es
+doings-later c d l (busy k s) (configures x p u f h ek es) = configures x p u f h ek es
+doings-later c d l (busy k s) (looks x h ek) = looks x h ek
+
+-- ---- the invariant
+
+pub record Inv (v : World) : Type 0 where
+  pub sound : Sound (v .chip)
+  pub lists : Listed (v .chip) (v .said)
+  pub tells : Each TellsWell (v .said)
+  pub doing : Doings (v .chip) (v .doing)
+
+pub each-snoc : (P : Said → Type 0) (t : List Said) (x : Said) → Each P t → P x → Each P (t ++ (x ∷ []))
+each-snoc P [] x e p = (p, tt)
+each-snoc P (y ∷ t) x e p = (e .0, each-snoc P t x (e .1) p)
+
+-- ---- what moves no message
+
+only-none : (j k : ℕ) → only j k [] ≡ []
+only-none j k = go (eqb k j)
+  where
+    go : (b : Bool) → _≡_ {A = List Message} (if b then [] else []) []
+    go true = refl
+    go false = refl
+
+silent-in : (j : ℕ) (k : Command) (o : Outcome) (buf : List ℕ) → ((m : Message) → doneWith o m ≡ []) → acceptedIn j (called k o buf) ≡ []
+silent-in j (Push n header seq payload) o buf h = rw (h (toSend header seq payload)) (only-none j n)
+silent-in j (Transmit n header seq payload) o buf h = refl
+silent-in j (Request n) o buf h = refl
+silent-in j (HasNext n) o buf h = refl
+silent-in j (Peek n b) o buf h = refl
+silent-in j (Get n b) o buf h = refl
+silent-in j (Reading x) o buf h = refl
+silent-in j (Configuring x) o buf h = refl
+
+silent-out : (j : ℕ) (k : Command) (o : Outcome) (buf : List ℕ) → foundIn o buf ≡ [] → handedOutIn j (called k o buf) ≡ []
+silent-out j (Push n header seq payload) o buf h = refl
+silent-out j (Transmit n header seq payload) o buf h = refl
+silent-out j (Request n) o buf h = refl
+silent-out j (HasNext n) o buf h = refl
+silent-out j (Peek n b) o buf h = refl
+silent-out j (Get n b) o buf h = rw h (only-none j n)
+silent-out j (Reading x) o buf h = refl
+silent-out j (Configuring x) o buf h = refl
+
+-- what is said moves no message, and nothing held changed
+pub quiet : (c d : Model) (x : Said) → ((j : ℕ) → acceptedIn j x ≡ []) → ((j : ℕ) → handedOutIn j x ≡ []) → ((j : ℕ) → held d j ≡ held c j) → Moves c x d
+quiet c d x a b h j i = rw (a j, b j, h j) (append-nil (held c j))
+
+-- a refusal
+pub quiet-refusal : (c : Model) (k : Command) (r : Refusal) (buf : List ℕ) → Moves c (called k (Outcome.Refused r) buf) c
+quiet-refusal c k r buf =
+    quiet c c (called k (Outcome.Refused r) buf) (λ j. silent-in j k (Outcome.Refused r) buf (λ m. refl)) (λ j. silent-out j k (Outcome.Refused r) buf refl) (λ j. refl)
+
+-- ---- worlds that keep it
+
+module _ (c : Model) (t : List Said) (l : Listed c t) (e : Each TellsWell t) where
+  -- a call goes on: the chip changed in nothing that is held
+  pub goes-on : (d : Model) (k : Command) (s : Call) → Sound d → ((j : ℕ) → held d j ≡ held c j) → Mid d k s
+      → Inv (record { chip = d; doing = busy k s; said = t })
+  goes-on d k s o h m = record { sound = o; lists = λ j i. rw (h j) (l j i); tells = e; doing = m }
+
+  -- something is said
+  pub says-more : (d : Model) (g : Doing) (x : Said) → Sound d → Moves c x d → TellsWell x → Doings d g
+      → Inv (record { chip = d; doing = g; said = t ++ (x ∷ []) })
+  says-more d g x o m w i = record { sound = o; lists = lists-snoc c d t x l m; tells = each-snoc TellsWell t x e w; doing = i }

@@ -1,0 +1,175 @@
+-- The calls that only read: they stay such calls, and leave the chip as it is.
+-- Assumes nothing.
+use Prim.Native.Nat.{ℕ, _^_}
+use mathlib.Core.Path.{_≡_}
+use mathlib.Core.List.{List}
+use lib.Dec.{eqb, ltb}
+use lib.ListN.{length}
+use Rattle.laws.proofs.Choice.{by-if}
+use Rattle.configuration.specs.CanControl.{CiCON}
+use Rattle.spi.specs.declared.refusal.Refusal.{Refusal}
+use Rattle.spi.specs.declared.refusal.Done.{Done}
+use Rattle.spi.specs.declared.ask.Answer.{Answer}
+use Rattle.spi.specs.declared.reply.OneWord.{OneWord}
+use Rattle.spi.specs.declared.reply.CheckedWord.{CheckedWord}
+use Rattle.spi.specs.Ram.{accessOf}
+use Rattle.spi.specs.Reply.{wordReply, doneReply, crcReply}
+use Rattle.spi.specs.Talk.{onWord, onDone, onChecked}
+use Rattle.register.specs.declared.RegisterCall.{RegisterCall}
+use Rattle.register.specs.Step as register
+use Rattle.ram.specs.declared.RamCall.{RamCall}
+use Rattle.ram.specs.Step as ram
+use Rattle.state.specs.declared.Model.{Model}
+use Rattle.driver.specs.declared.calls.CallAt.{CallAt}
+use Rattle.driver.specs.declared.calls.Call.{Call}
+use Rattle.driver.specs.Step.{askAt, askOf, stepAt, stepOf}
+use Rattle.driver.specs.Start.{ofRegister, ofRam}
+use Rattle.history.specs.Command.{Look, looks}
+use Rattle.history.proofs.Line.{spoken}
+use Rattle.history.proofs.Asks.{hear-keeps, check-keeps}
+use Rattle.history.proofs.PlanAsks.{nothing-keeps}
+
+-- ---- registers
+
+abbrev pub Looks : RegisterCall → Type 0
+Looks RegisterCall.Reset = ⊥
+Looks (RegisterCall.Read a) = Unit {0}
+Looks (RegisterCall.Write a w) = ⊥
+Looks (RegisterCall.Checked a left) = Unit {0}
+Looks RegisterCall.Mode = Unit {0}
+Looks RegisterCall.Done = Unit {0}
+Looks (RegisterCall.Word w) = Unit {0}
+Looks (RegisterCall.OpMode m) = Unit {0}
+Looks (RegisterCall.Refused r) = Unit {0}
+
+-- where a look starts
+addressed-looks : (a : ℕ) (s : RegisterCall) → Looks s → Looks (register.addressed a s)
+unfolding register.addressed
+addressed-looks a s h = by-if Looks (ltb a (2 ^ 12)) (λ e. h) (λ e. tt)
+
+pub read-looks : (a : ℕ) → Looks (register.readStart a)
+read-looks a = addressed-looks a (RegisterCall.Read a) tt
+
+pub checked-looks : (a : ℕ) → Looks (register.checkedStart a)
+checked-looks a = addressed-looks a (RegisterCall.Checked a 2) tt
+
+-- steps
+word-looks : (x : OneWord) (k : ℕ → RegisterCall) → ((w : ℕ) → Looks (k w)) → Looks (onWord RegisterCall.Refused x k)
+word-looks (OneWord.Word w) k h = h w
+word-looks (OneWord.Bad r) k h = tt
+
+again-looks : (x : CheckedWord) (s : RegisterCall) → Looks s → Looks (onChecked RegisterCall.Refused x s RegisterCall.Word)
+again-looks (CheckedWord.Word w) s h = tt
+again-looks CheckedWord.Mismatch s h = h
+again-looks (CheckedWord.Bad r) s h = tt
+
+mismatch-looks : (a left : ℕ) → Looks (register.afterMismatch a left)
+unfolding register.afterMismatch
+mismatch-looks a left = by-if Looks (eqb left 0) (λ e. tt) (λ e. tt)
+
+pub step-looks : (s : RegisterCall) (a : Answer) (rx : List ℕ) → Looks s → Looks (register.stepOf s a rx)
+unfolding register.stepOf
+step-looks RegisterCall.Reset a rx h = absurd h
+step-looks (RegisterCall.Read x) a rx h = word-looks (wordReply Refusal.SpiRead a rx) RegisterCall.Word (λ w. tt)
+step-looks (RegisterCall.Write x w) a rx h = absurd h
+step-looks (RegisterCall.Checked x left) a rx h = again-looks (crcReply Refusal.SpiRead x a rx) (register.afterMismatch x left) (mismatch-looks x left)
+step-looks RegisterCall.Mode a rx h = word-looks (wordReply Refusal.SpiRead a rx) register.afterMode (λ w. tt)
+step-looks RegisterCall.Done a rx h = tt
+step-looks (RegisterCall.Word w) a rx h = tt
+step-looks (RegisterCall.OpMode m) a rx h = tt
+step-looks (RegisterCall.Refused r) a rx h = tt
+
+-- the chip
+pub looks-keeps : (s : RegisterCall) (b : List ℕ) (c : Model) → Looks s → spoken (register.askOf s) b c .chip ≡ c
+unfolding register.askOf
+looks-keeps RegisterCall.Reset b c h = absurd h
+looks-keeps (RegisterCall.Read a) b c h = hear-keeps b c a 4
+looks-keeps (RegisterCall.Write a w) b c h = absurd h
+looks-keeps (RegisterCall.Checked a left) b c h = check-keeps b c a
+looks-keeps RegisterCall.Mode b c h = hear-keeps b c (CiCON .address 0) 4
+looks-keeps RegisterCall.Done b c h = nothing-keeps b c
+looks-keeps (RegisterCall.Word w) b c h = nothing-keeps b c
+looks-keeps (RegisterCall.OpMode m) b c h = nothing-keeps b c
+looks-keeps (RegisterCall.Refused r) b c h = nothing-keeps b c
+
+-- ---- RAM
+
+abbrev pub LooksRam : RamCall → Type 0
+LooksRam (RamCall.Read a place count) = Unit {0}
+LooksRam (RamCall.Received place count) = Unit {0}
+LooksRam (RamCall.Write a count) = ⊥
+LooksRam RamCall.EchoWrite = ⊥
+LooksRam RamCall.EchoRead = ⊥
+LooksRam RamCall.Done = Unit {0}
+LooksRam (RamCall.Refused r) = Unit {0}
+
+done-looks : (x : Done) (s : RamCall) → LooksRam s → LooksRam (onDone RamCall.Refused x s)
+done-looks Done.Good s h = h
+done-looks (Done.Bad r) s h = tt
+
+pub ram-looks : (a room place count : ℕ) → LooksRam (ram.readStart a room place count)
+unfolding ram.readStart
+ram-looks a room place count =
+    by-if LooksRam (ram.inside place count room)
+    (λ e. done-looks (accessOf a count (Refusal.InvalidReadLength count)) (RamCall.Read a place count) tt) (λ e. tt)
+
+pub step-looks-ram : (s : RamCall) (a : Answer) (rx : List ℕ) → LooksRam s → LooksRam (ram.stepOf s a rx)
+unfolding ram.stepOf
+step-looks-ram (RamCall.Read x place count) a rx h = done-looks (doneReply Refusal.SpiRead a (length rx) count) (RamCall.Received place count) tt
+step-looks-ram (RamCall.Received place count) a rx h = tt
+step-looks-ram (RamCall.Write x count) a rx h = absurd h
+step-looks-ram RamCall.EchoWrite a rx h = absurd h
+step-looks-ram RamCall.EchoRead a rx h = absurd h
+step-looks-ram RamCall.Done a rx h = tt
+step-looks-ram (RamCall.Refused r) a rx h = tt
+
+pub looks-keeps-ram : (s : RamCall) (b : List ℕ) (c : Model) → LooksRam s → spoken (ram.askOf s) b c .chip ≡ c
+unfolding ram.askOf
+looks-keeps-ram (RamCall.Read a place count) b c h = hear-keeps b c a count
+looks-keeps-ram (RamCall.Received place count) b c h = nothing-keeps b c
+looks-keeps-ram (RamCall.Write a count) b c h = absurd h
+looks-keeps-ram RamCall.EchoWrite b c h = absurd h
+looks-keeps-ram RamCall.EchoRead b c h = absurd h
+looks-keeps-ram RamCall.Done b c h = nothing-keeps b c
+looks-keeps-ram (RamCall.Refused r) b c h = nothing-keeps b c
+
+-- ---- the same of the driver
+
+abbrev pub LooksAt : CallAt → Type 0
+LooksAt (CallAt.Register r) = Looks r
+LooksAt (CallAt.Ram r) = LooksRam r
+LooksAt CallAt.Plan = ⊥
+LooksAt CallAt.Push = ⊥
+LooksAt CallAt.Transmit = ⊥
+LooksAt CallAt.Fetch = ⊥
+
+pub look-starts : (x : Look) → LooksAt (looks x .at)
+unfolding ofRegister ofRam
+look-starts (Look.Register a) = read-looks a
+look-starts (Look.Checked a) = checked-looks a
+look-starts Look.OpMode = tt
+look-starts (Look.Ram a place count buf) = ram-looks a (length buf) place count
+
+at-steps : (at : CallAt) (s : Call) (a : Answer) (rx : List ℕ) → LooksAt at → LooksAt (stepAt at s a rx .at)
+at-steps (CallAt.Register r) s a rx h = step-looks r a rx h
+at-steps (CallAt.Ram r) s a rx h = step-looks-ram r a rx h
+at-steps CallAt.Plan s a rx h = absurd h
+at-steps CallAt.Push s a rx h = absurd h
+at-steps CallAt.Transmit s a rx h = absurd h
+at-steps CallAt.Fetch s a rx h = absurd h
+
+pub look-steps : (s : Call) (a : Answer) (rx : List ℕ) → LooksAt (s .at) → LooksAt (stepOf s a rx .at)
+unfolding stepOf
+look-steps s a rx h = at-steps (s .at) s a rx h
+
+at-keeps : (at : CallAt) (s : Call) (b : List ℕ) (c : Model) → LooksAt at → spoken (askAt at s) b c .chip ≡ c
+at-keeps (CallAt.Register r) s b c h = looks-keeps r b c h
+at-keeps (CallAt.Ram r) s b c h = looks-keeps-ram r b c h
+at-keeps CallAt.Plan s b c h = absurd h
+at-keeps CallAt.Push s b c h = absurd h
+at-keeps CallAt.Transmit s b c h = absurd h
+at-keeps CallAt.Fetch s b c h = absurd h
+
+pub look-keeps : (s : Call) (b : List ℕ) (c : Model) → LooksAt (s .at) → spoken (askOf s) b c .chip ≡ c
+unfolding askOf
+look-keeps s b c h = at-keeps (s .at) s b c h

@@ -1,0 +1,176 @@
+-- The calls of a history that are plans do no harm: request, and every call that sets a part of the chip up.
+-- Assumes nothing.
+use Prim.Native.Nat.{ℕ, _/_, _<_}
+use mathlib.Core.Path.{_≡_, refl, _∙_}
+use mathlib.Core.Bool.{Bool, true, false, _&&_}
+use mathlib.Core.List.{List, [], _∷_}
+use native.Mathlib.Omega.{arith}
+use borrow.Author.Tests.{ltb-true, lt-leb}
+use Rattle.laws.specs.All.{all}
+use Rattle.laws.proofs.Choice.{by-if}
+use Rattle.field.specs.Field.{place, digit, Fits, apart, within}
+use Rattle.field.specs.Settings.{Setting as FieldSetting, _:=_, fieldsOf, settings, AllFit}
+use Rattle.field.proofs.Sets.{off, settings-lt}
+use Rattle.fifo.specs.Control.{CiFIFOCON, UINC, FRESET, TXREQ, FSIZE, PLSIZE, storedSize, isFifo}
+use Rattle.chip.specs.OscillatorControl.{OSC}
+use Rattle.chip.specs.IoControl.{IOCON}
+use Rattle.bit_timing.specs.Nominal.{CiNBTCFG}
+use Rattle.bit_timing.specs.Data.{CiDBTCFG}
+use Rattle.bit_timing.specs.Delay.{CiTDC}
+use Rattle.filter.specs.Control.{CiFLTCON}
+use Rattle.filter.specs.Object.{CiFLTOBJ}
+use Rattle.filter.specs.Mask.{CiMASK}
+use Rattle.operation.specs.declared.place.Register.{Register}
+use Rattle.operation.specs.declared.place.Place.{Place}
+use Rattle.operation.specs.Place.{registerAt}
+use Rattle.operation.specs.Operation.{inRam}
+use Rattle.operation.proofs.Laws.{all-carried}
+use Rattle.spi.specs.Ram.{inRange}
+use Rattle.spi.specs.Talk.{onDone}
+use Rattle.spi.specs.declared.refusal.Refusal.{Refusal}
+use Rattle.spi.specs.declared.refusal.Done.{Done}
+use Rattle.plan.specs.declared.change.Change.{Change}
+use Rattle.plan.specs.declared.item.Item.{Item}
+use Rattle.plan.specs.Change.{modified, setting, settingAll, changeOf}
+use Rattle.plan.specs.Prepared.{Prepared, ready, turnedDown, planFor}
+use Rattle.plan.proofs.Changes.{change-sets}
+use Rattle.changes.specs.Changes.{ioChange, timingFits}
+use Rattle.changes.specs.declared.settings.BitTimeConfiguration.{BitTimeConfiguration}
+use Rattle.changes.specs.declared.settings.OscillatorConfiguration.{OscillatorConfiguration}
+use Rattle.areas.specs.declared.settings.FifoMode.{FifoMode}
+use Rattle.areas.specs.declared.settings.FifoConfiguration.{FifoConfiguration}
+use Rattle.areas.specs.declared.settings.FilterConfiguration.{FilterConfiguration}
+use Rattle.areas.specs.Areas.{directionSettings, fifoSettings, fifoChange, directionFits, fifoFits, offChange, isIdentifier, isFilter, filterCheck}
+use Rattle.areas.proofs.Tests.{transmit-told, fifo-told}
+use Rattle.adjust.specs.Calls.{failed, oscillatorItems, timingItems, filterItems, configureOsc, configureBitTiming, configureFifo, disableFilter, configureFilter}
+use Rattle.transmit.specs.Transmit.{requestChange, requestStart}
+use Rattle.history.specs.Command.{Setting, Fifo, Filter, FilterOff, Osc, Io, BitTiming, sets}
+use Rattle.history.proofs.Harmless.{Setup, Aside, Gentle, aside, control, HarmlessChange, HarmlessItem, Harmless, plan-harmless, refused-harmless}
+
+-- ---- control words: fields other than UINC and FRESET are set
+
+module _ (ss : List FieldSetting) where
+  pub record Spared : Type 0 where
+    pub fit : AllFit ss
+    pub inside : all (within 32) (fieldsOf ss) ≡ true
+    pub uinc : all (apart UINC) (fieldsOf ss) ≡ true
+    pub freset : all (apart FRESET) (fieldsOf ss) ≡ true
+
+  pub gentle-change : Spared → (a w : ℕ) → Gentle w → Gentle (modified (changeOf a ss) w)
+  gentle-change h a w g =
+      let e : modified (changeOf a ss) w ≡ settings ss w = change-sets a ss w (g .small) (h .fit) in
+      record {
+        small = rw e (settings-lt 32 ss w (h .inside) (h .fit) (g .small));
+        uinc = rw e (off UINC ss w (h .uinc) (h .fit) ∙ g .uinc);
+        freset = rw e (off FRESET ss w (h .freset) (h .fit) ∙ g .freset);
+      }
+
+-- setting fields leaves the address
+address-of : (ss : List FieldSetting) (c : Change) → settingAll ss c .address ≡ c .address
+address-of [] c = refl
+address-of (place p k := v ∷ ss) c = address-of ss (setting (place p k := v) c)
+
+pub control-harmless : (n : ℕ) (ss : List FieldSetting) → isFifo n ≡ true → Spared ss → HarmlessChange (changeOf (CiFIFOCON .address n) ss)
+control-harmless n ss i h = control n i (address-of ss _) (gentle-change ss h (CiFIFOCON .address n))
+
+flag-fits : (b : Bool) → digit b < 2
+flag-fits true = omega arith
+flag-fits false = omega arith
+
+fifo-spared : (c : FifoConfiguration) → fifoFits c ≡ true → Spared (fifoSettings c)
+fifo-spared c e = go (fifo-told c e .1) (c .mode) (fifo-told c e .2)
+  where
+    go : Fits PLSIZE (c .plsize) → (m : FifoMode) → directionFits m ≡ true → Spared (FSIZE := storedSize (c .size) ∷ PLSIZE := c .plsize ∷ directionSettings m)
+    go f (FifoMode.Transmit t) d =
+        let h = transmit-told t d in
+        record { fit = search (flag-fits, arith) depth 12; inside = refl; uinc = refl; freset = refl }
+    go f (FifoMode.Receive r) d = record { fit = search (flag-fits, arith) depth 12; inside = refl; uinc = refl; freset = refl }
+
+-- ---- registers that hold as written
+
+-- below the RAM
+low-aside : (a : ℕ) (r : Register) → registerAt a ≡ Place.Is r → Setup r → a < 0x400 → Aside a
+unfolding inRam inRange
+low-aside a r e s h = record { register = r; is = e; setup = s; outside = simp (lt-leb 0x400 a h); small = omega arith }
+
+-- above it
+osc-aside : Aside (OSC .address 0)
+unfolding inRam inRange
+osc-aside = record { register = Register.Osc; is = all-carried .osc; setup = tt; outside = refl; small = omega arith }
+
+pins-aside : Aside (IOCON .address 0)
+unfolding inRam inRange
+pins-aside = record { register = Register.Plain 5; is = all-carried .pins; setup = tt; outside = refl; small = omega arith }
+
+filter-aside : (f : ℕ) → f < 32 → Aside (CiFLTCON .address (f / 4))
+filter-aside f h = low-aside (CiFLTCON .address (f / 4)) (Register.Filter (f / 4)) (all-carried .filter (f / 4) (omega arith) (omega arith)) tt (omega arith)
+
+object-aside : (f : ℕ) → f < 32 → Aside (CiFLTOBJ .address f)
+object-aside f h = low-aside (CiFLTOBJ .address f) (Register.Object f) (all-carried .object f (omega arith) (omega arith)) tt (omega arith)
+
+mask-aside : (f : ℕ) → f < 32 → Aside (CiMASK .address f)
+mask-aside f h = low-aside (CiMASK .address f) (Register.Mask f) (all-carried .mask f (omega arith) (omega arith)) tt (omega arith)
+
+-- ---- the calls
+
+abbrev Spare : Prepared → Type 0
+Spare p = Harmless (planFor p)
+
+fifo-harmless : (n : ℕ) (c : FifoConfiguration) → Spare (configureFifo n c)
+unfolding configureFifo
+fifo-harmless n c =
+    by-if Spare (isFifo n)
+    (λ i. by-if Spare (fifoFits c)
+    (λ e. plan-harmless Refusal.SpiRead (Item.Change (fifoChange n c) ∷ []) (control-harmless n (fifoSettings c) i (fifo-spared c e), tt))
+    (λ e. refused-harmless Refusal.BadSetting))
+    (λ i. refused-harmless Refusal.BadNumber)
+
+filter-harmless : (f : ℕ) (c : FilterConfiguration) → Spare (configureFilter f c)
+unfolding configureFilter filterCheck
+filter-harmless f c =
+    let P : Done → Type 0 = λ d. Spare (onDone turnedDown d (ready Refusal.SpiRead (filterItems f c))) in
+    by-if P (isFilter f)
+    (λ e. by-if P (isFifo (c .fifo))
+    (λ i. by-if P (isIdentifier (c .object) && isIdentifier (c .mask))
+    (λ j. let h = ltb-true f 32 e in
+    plan-harmless Refusal.SpiRead (filterItems f c) (aside (filter-aside f h), (aside (object-aside f h), (aside (mask-aside f h), (aside (filter-aside f h), tt)))))
+    (λ j. refused-harmless Refusal.BadIdentifier))
+    (λ i. refused-harmless Refusal.BadNumber))
+    (λ e. refused-harmless Refusal.BadNumber)
+
+off-harmless : (f : ℕ) → Spare (disableFilter f)
+unfolding disableFilter
+off-harmless f =
+    by-if Spare (isFilter f)
+    (λ e. plan-harmless Refusal.SpiRead (Item.Change (offChange f) ∷ []) (aside (filter-aside f (ltb-true f 32 e)), tt))
+    (λ e. refused-harmless Refusal.BadNumber)
+
+osc-harmless : (o : OscillatorConfiguration) → Spare (configureOsc o)
+osc-harmless o =
+    plan-harmless failed (oscillatorItems o) (aside osc-aside, (by-if HarmlessItem (o .pll) (λ e. tt) (λ e. tt), tt))
+
+timing-harmless : (b : BitTimeConfiguration) → Spare (configureBitTiming b)
+unfolding configureBitTiming
+timing-harmless b =
+    by-if Spare (timingFits b)
+    (λ e. plan-harmless failed (timingItems b)
+    (aside (low-aside (CiNBTCFG .address 0) (Register.Plain 0) (all-carried .nominal) tt (omega arith)),
+    (aside (low-aside (CiDBTCFG .address 0) (Register.Plain 1) (all-carried .data-phase) tt (omega arith)),
+    (aside (low-aside (CiTDC .address 0) (Register.Plain 2) (all-carried .delay) tt (omega arith)), tt))))
+    (λ e. refused-harmless Refusal.BadSetting)
+
+pub set-harmless : (x : Setting) → Harmless (planFor (sets x))
+set-harmless (Fifo n c) = fifo-harmless n c
+set-harmless (Filter f c) = filter-harmless f c
+set-harmless (FilterOff f) = off-harmless f
+set-harmless (Osc o) = osc-harmless o
+set-harmless (Io c) = plan-harmless failed (Item.Change (ioChange c) ∷ []) (aside pins-aside, tt)
+set-harmless (BitTiming b) = timing-harmless b
+
+pub request-harmless : (n : ℕ) → Harmless (requestStart n)
+unfolding requestStart
+request-harmless n =
+    by-if Harmless (isFifo n)
+    (λ i. plan-harmless Refusal.SpiRead (Item.Change (requestChange n) ∷ [])
+    (control-harmless n (TXREQ := 1 ∷ []) i (record { fit = (omega arith, tt); inside = refl; uinc = refl; freset = refl }), tt))
+    (λ i. refused-harmless Refusal.BadNumber)

@@ -1,0 +1,290 @@
+-- Each exchange of a push, alone or in a transmit, keeps what is true of the world.
+-- Assumes nothing.
+use Prim.Native.Nat.{ℕ, _+_, _-_, _%_, _^_, _≤_, _<_}
+use native.Mathlib.Omega.{arith}
+use borrow.Author.Tests.{ltb-true, ltb-false, lt-ltb}
+use mathlib.Core.Path.{_≡_, refl, sym, ap, _∙_}
+use mathlib.Core.Bool.{Bool, true, false}
+use mathlib.Core.List.{List, [], _∷_, _++_, map}
+use lib.ListN.{length-append}
+use lib.Dec.{ltb, leb, eqb}
+use lib.ListN.{length, take, replicate}
+use lib.Seq.{take-append-seam}
+use Rattle.laws.specs.If.{if_then_else_}
+use Rattle.laws.proofs.Choice.{by-if}
+use Rattle.field.specs.Field.{mark}
+use Rattle.fifo.specs.Control.{CiFIFOCON, UINC, payloadOf, isFifo}
+use Rattle.parts.specs.Parts.{zeroed}
+use Rattle.words.specs.Words.{leBytes, roundUp}
+use Rattle.spi.specs.declared.refusal.Refusal.{Refusal}
+use Rattle.spi.specs.declared.ask.Ask.{Ask}
+use Rattle.spi.specs.declared.ask.Answer.{Answer}
+use Rattle.header.specs.declared.Header.{Header}
+use Rattle.header.specs.declared.dlc.Dlc.{Dlc}
+use Rattle.header.specs.Dlc.{dlcOf}
+use Rattle.header.specs.Header.{topId}
+use Rattle.message.specs.declared.tx.Checked.{Checked}
+use Rattle.message.specs.Structs.{encodedAs}
+use Rattle.message.specs.Message.{Message, byDlc, checkOf, Encoding, coded, encoding, holds}
+use Rattle.message.specs.Laws.{Suits}
+use Rattle.message.proofs.Round.{lengths-hold}
+use Rattle.operation.specs.declared.place.Register.{Register}
+use Rattle.call.specs.declared.Outcome.{Outcome}
+use Rattle.plan.specs.declared.plan.Plan.{Plan}
+use Rattle.plan.specs.Step as plan
+use Rattle.tx_fifo.specs.declared.push.PushAt.{PushAt}
+use Rattle.tx_fifo.specs.Step as push
+use Rattle.transmit.specs.Transmit.{requestStart, transmitStart}
+use Rattle.driver.specs.Start.{idlePlan, idleFetch, ofPush, ofTransmit}
+use Rattle.rx_fifo.specs.declared.Fetch.{Fetch}
+use Rattle.driver.specs.declared.calls.Call.{Call}
+use Rattle.ring.specs.declared.ring.Fifo.{Fifo}
+use Rattle.ring.specs.Ring.{sending, depth, claimed, increased}
+use Rattle.ring.specs.Layout.{stamped, size}
+use Rattle.state.specs.declared.Model.{Model}
+use Rattle.state.specs.Model.{fifoAt, frozenAt, withFifo, written}
+use Rattle.bank.specs.Registers.{wordOf}
+use Rattle.bus.specs.Held.{slotOf}
+use Rattle.history.specs.Command.{Command, Push, Transmit, Request, started}
+use Rattle.history.specs.History.{Said, called, Doing, idle, busy, World, hears, heard, settled, goesOn}
+use Rattle.history.specs.Lists.{only}
+use Rattle.history.specs.Demand.{Each, TellsWell, NotCaused}
+use Rattle.history.proofs.Sound.{Sound}
+use Rattle.history.proofs.Bus.{Listed, Moves, payload-whole}
+use Rattle.history.proofs.Line.{spoken}
+use Rattle.history.proofs.Kept.{spoken-sound}
+use Rattle.history.proofs.Slots.{slot-inside, filled-held, filled-item, filled-sound, more-held}
+use Rattle.history.proofs.Asks.{hear-control, hear-status, hear-address, tell-ram, tell-control}
+use Rattle.history.proofs.Replies.{next-control, next-status, next-address, uinc-written, mark-small}
+use Rattle.history.proofs.Plans.{request-harmless}
+use Rattle.history.proofs.Requests.{request-begins, request-starts}
+use Rattle.history.proofs.Pushing.{commanded, placed, pushAt, pushing, turned, failed, still, refused, done, half}
+use Rattle.history.proofs.Mid.{sent-gentle, Free, PushMid}
+use Rattle.history.proofs.Inv.{Mid, pushes, requests, Inv, goes-on, says-more, quiet-refusal}
+
+-- a payload that is not longer than PLSIZE means fits a slot with its header
+pub object-fits : (c : Model) (n : ℕ) (header : Header) (seq : ℕ) (payload bs : List ℕ) → encoding (push.toSend header seq payload) ≡ Encoding.object bs
+    → sending (frozenAt c n) ≡ true → length payload ≤ payloadOf (frozenAt c n) → length bs ≤ size (frozenAt c n)
+unfolding size stamped
+object-fits c n header seq payload bs e x y =
+    let long : length bs ≡ 8 + 0 + roundUp (length payload) = lengths-hold (push.toSend header seq payload) bs e in
+    rw x (omega (arith, long, payload-whole (frozenAt c n), y))
+
+-- an object to send has no timestamp
+not-stamped : (w : ℕ) → sending w ≡ true → stamped w ≡ false
+unfolding stamped
+not-stamped w e = rw e
+
+-- UINC of a transmit FIFO that has room
+raised : (w : ℕ) (f : Fifo) → sending w ≡ true → f .count < depth w → increased w f ≡ claimed f
+unfolding increased
+raised w f x y = rw (x, lt-ltb _ _ y)
+
+-- the list of one message, decoded
+only-held : (j n : ℕ) (m : Message) → map holds (only j n (m ∷ [])) ≡ (if eqb n j then holds m ∷ [] else [])
+only-held j n m = go (eqb n j)
+  where
+    go : (b : Bool) → map holds (if b then m ∷ [] else []) ≡ (if b then holds m ∷ [] else [])
+    go true = refl
+    go false = refl
+
+-- ---- the object and its slot
+
+module _ (c : Model) (o : Sound c) (n : ℕ) (i : isFifo n ≡ true) (header : Header) (seq : ℕ) (payload bs : List ℕ)
+    (coded : encoding (push.toSend header seq payload) ≡ Encoding.object bs) (fits : length bs ≤ size (frozenAt c n)) where
+  abbrev free : ℕ
+  free = slotOf c n (fifoAt c n .count)
+
+  -- the free slot is in RAM, and so is the object in it
+  pub object-inside : free + length bs ≤ 2048
+  object-inside = omega (arith, slot-inside c o n (fifoAt c n .count) i (o .valid .fifo n .count), fits)
+
+  -- all of the object is sent
+  body-whole : take (length bs) (zeroed 76 bs) ≡ bs
+  unfolding zeroed
+  body-whole = take-append-seam bs (replicate (76 - length bs) 0)
+
+  body-long : length bs ≤ length (zeroed 76 bs)
+  unfolding zeroed
+  body-long = rw length-append (omega arith)
+
+  -- it is whole words
+  body-words : length bs % 4 ≡ 0
+  body-words =
+      let long : length bs ≡ 8 + 0 + roundUp (length payload) = lengths-hold (push.toSend header seq payload) bs coded in
+      omega (arith, long)
+
+  -- it is written into the free slot
+  pub object-told : spoken (Ask.Body (free + 0x400) (length bs)) (zeroed 76 bs) c ≡ hears Answer.Exchanged [] (written c free bs)
+  object-told = tell-ram (zeroed 76 bs) c free (length bs) object-inside body-words body-long ∙ rw body-whole
+
+module _ (c : Model) (o : Sound c) (t : List Said) (l : Listed c t) (e : Each TellsWell t)
+    (also : Bool) (n : ℕ) (header : Header) (seq : ℕ) (payload bs : List ℕ) (p : Plan) (f : Fetch)
+    (i : isFifo n ≡ true) (coded : encoding (push.toSend header seq payload) ≡ Encoding.object bs) (r : also ≡ true → p ≡ requestStart n) where
+  abbrev k : Command
+  k = commanded also n header seq payload
+
+  abbrev at : PushAt → Call
+  at a = pushing also n (length payload) bs a p f
+
+  abbrev m : Message
+  m = push.toSend header seq payload
+
+  abbrev After : Model → PushAt → List ℕ → Type 0
+  After d a rx = Inv (settled d t k (at a) rx)
+
+  -- it still asks for something, and nothing of the chip changed
+  stays : (rx : List ℕ) (a : PushAt) → push.doneAt a ≡ false → push.outcomeAt a ≡ Outcome.Running → PushMid c n m bs a → After c a rx
+  stays rx a x y g =
+      rw (still n (length payload) bs p f header seq payload t c rx also a x y)
+      (goes-on c t l e c k (at a) o (λ j. refl) (pushes also n header seq payload bs a p f i coded r g refl refl))
+
+  -- it is refused
+  ends : (rx : List ℕ) (x : Refusal) → NotCaused x → After c (PushAt.Refused x) rx
+  ends rx x w =
+      rw (refused n (length payload) bs p f header seq payload t c rx also x)
+      (says-more c t l e c idle _ o (quiet-refusal c (Push n header seq payload) x []) w tt)
+
+  abbrev Exchanged : PushAt → Type 0
+  Exchanged a = Inv (goesOn t k (at a) (heard true (at a) c))
+
+  reads-control : Exchanged PushAt.Control
+  reads-control =
+      let rx : List ℕ = leBytes (wordOf c (Register.Control n)) in
+      let P : PushAt → Type 0 = λ a. After c a rx in
+      let w = sent-gentle c n o in
+      rw (turned n (length payload) bs p f also PushAt.Control refl t k c _ _ _ (hear-control _ c n i) (next-control c n (length payload) (length bs)))
+      (by-if P (sending (frozenAt c n))
+      (λ x. by-if P (ltb (payloadOf (frozenAt c n)) (length payload))
+      (λ y. ends rx Refusal.FifoTooSmall tt)
+      (λ y. stays rx (PushAt.Status _) refl refl (record { word = w; tx = x; fits = object-fits c n header seq payload bs coded x (ltb-false _ _ y) })))
+      (λ x. ends rx Refusal.FifoNotTx tt))
+
+  reads-status : (w : ℕ) → PushMid c n m bs (PushAt.Status w) → Exchanged (PushAt.Status w)
+  reads-status w g =
+      let rx : List ℕ = leBytes (wordOf c (Register.Status n)) in
+      rw (turned n (length payload) bs p f also (PushAt.Status w) refl t k c _ _ _ (hear-status _ c n i) (next-status c n (length payload) (length bs) o (g .tx) w))
+      (by-if (λ a. After c a rx) (ltb (fifoAt c n .count) (depth (frozenAt c n)))
+      (λ x. stays rx (PushAt.Address w) refl refl (g, ltb-true _ _ x))
+      (λ x. ends rx Refusal.FifoFull tt))
+
+  reads-address : (w : ℕ) → PushMid c n m bs (PushAt.Address w) → Exchanged (PushAt.Address w)
+  reads-address w g =
+      rw (turned n (length payload) bs p f also (PushAt.Address w) refl t k c _ _ _ (hear-address _ c n i)
+      (next-address c n (length payload) (length bs) o (g .0 .tx) w (object-inside c o n i header seq payload bs coded (g .0 .fits))))
+      (stays _ (PushAt.Write w _) refl refl (g .0, g .1, refl))
+
+  writes-object : (w a : ℕ) → PushMid c n m bs (PushAt.Write w a) → Exchanged (PushAt.Write w a)
+  writes-object w a g =
+      let x = g .0 in
+      let d : Model = written c (slotOf c n (fifoAt c n .count)) bs in
+      let told : spoken (Ask.Body a (length bs)) (zeroed 76 bs) c ≡ hears Answer.Exchanged [] d =
+      rw (g .2) (object-told c o n i header seq payload bs coded (x .fits)) in
+      let suits : Suits (sending (frozenAt c n)) (stamped (frozenAt c n)) m = rw (x .tx, not-stamped (frozenAt c n) (x .tx)) (record { seq = refl; stamp = tt }) in
+      let mid : PushMid d n m bs (PushAt.Commit w) = (record { word = x .word; tx = x .tx; fits = x .fits }, g .1, filled-item c o n i (g .1) bs (x .fits) m coded suits) in
+      rw (turned n (length payload) bs p f also (PushAt.Write w a) refl t k c [] d (PushAt.Commit w) told refl,
+      still n (length payload) bs p f header seq payload t d [] also (PushAt.Commit w) refl refl)
+      (goes-on c t l e d k (at (PushAt.Commit w)) (filled-sound c o n i (g .1) bs (x .fits)) (filled-held c o n i (g .1) bs (x .fits))
+      (pushes also n header seq payload bs (PushAt.Commit w) p f i coded r mid refl refl))
+
+  -- the message is in the FIFO; the request of a transmit comes next
+  ended : (d : Model) → Sound d → Moves c (called (Push n header seq payload) Outcome.Done []) d → (b : Bool) → (b ≡ true → p ≡ requestStart n)
+      → Inv (settled d t (commanded b n header seq payload) (pushing b n (length payload) bs PushAt.Done p f) [])
+  ended d s v false q = rw (done n (length payload) bs p f header seq payload t d []) (says-more c t l e d idle _ s v tt tt)
+  ended d s v true q =
+      rw (half n (length payload) bs p f header seq payload t d [] (rw (q refl, request-begins n i)))
+      (says-more c t l e d _ _ s v tt
+      (requests true n p (pushAt n (length payload) bs PushAt.Done) f (λ x. refl) (rw (q refl) (request-starts n)) (rw (q refl) (request-harmless n)) (rw (q refl, request-begins n i)) refl refl))
+
+  writes-control : (w : ℕ) → PushMid c n m bs (PushAt.Commit w) → Exchanged (PushAt.Commit w)
+  unfolding claimed
+  writes-control w g =
+      let x = g .0 in
+      let (v, is, vh, vc) = uinc-written c n o w (x .word .small) (x .word .freset) in
+      let d : Model = withFifo c n (claimed v) in
+      let told : spoken (Ask.Word (CiFIFOCON .address n) (mark UINC true w)) (zeroed 76 bs) c ≡ hears Answer.Exchanged [] d =
+      tell-control (zeroed 76 bs) c n i (mark UINC true w) (mark-small w (x .word .small)) ∙ rw (is, raised (frozenAt c n) v (x .tx) (rw vc (g .1))) in
+      let s : Sound d = spoken-sound _ _ c o _ told refl in
+      let said : Said = called (Push n header seq payload) Outcome.Done [] in
+      let moved : Moves c said d = λ j h. rw (only-held j n m) (rw (g .2) at (more-held c o n i (claimed v) vh (ap (λ (y : ℕ). y + 1) vc) j)) in
+      rw (turned n (length payload) bs p f also (PushAt.Commit w) refl t k c [] d PushAt.Done told refl)
+      (ended d s moved also r)
+
+  pub push-exchanged : (a : PushAt) → PushMid c n m bs a → Exchanged a
+  push-exchanged PushAt.Control g = reads-control
+  push-exchanged (PushAt.Status w) g = reads-status w g
+  push-exchanged (PushAt.Address w) g = reads-address w g
+  push-exchanged (PushAt.Write w a) g = writes-object w a g
+  push-exchanged (PushAt.Commit w) g = writes-control w g
+  push-exchanged PushAt.Done g = absurd g
+  push-exchanged (PushAt.Refused x) g = absurd g
+
+  -- an exchange that fails is 2 at the RAM write, 1 elsewhere
+  pub push-failed : (a : PushAt) → PushMid c n m bs a → Inv (goesOn t k (at a) (heard false (at a) c))
+  push-failed PushAt.Control g = rw (failed n (length payload) bs p f also PushAt.Control refl t k c) (ends [] Refusal.SpiRead tt)
+  push-failed (PushAt.Status w) g = rw (failed n (length payload) bs p f also (PushAt.Status w) refl t k c) (ends [] Refusal.SpiRead tt)
+  push-failed (PushAt.Address w) g = rw (failed n (length payload) bs p f also (PushAt.Address w) refl t k c) (ends [] Refusal.SpiRead tt)
+  push-failed (PushAt.Write w a) g = rw (failed n (length payload) bs p f also (PushAt.Write w a) refl t k c) (ends [] Refusal.SpiWrite tt)
+  push-failed (PushAt.Commit w) g = rw (failed n (length payload) bs p f also (PushAt.Commit w) refl t k c) (ends [] Refusal.SpiRead tt)
+  push-failed PushAt.Done g = absurd g
+  push-failed (PushAt.Refused x) g = absurd g
+
+-- ---- the beginning
+
+-- what a message is refused for before any exchange
+abbrev NotBad : Checked → Type 0
+NotBad (Checked.Dlc d) = Unit {0}
+NotBad (Checked.Bad r) = NotCaused r
+
+abbrev NotRefused : Encoding → Type 0
+NotRefused (Encoding.refused r) = NotCaused r
+NotRefused (Encoding.object bs) = Unit {0}
+
+dlc-caused : (d : Dlc) → NotBad (byDlc d)
+dlc-caused (Dlc.Is n) = tt
+dlc-caused Dlc.Bad = tt
+
+check-caused : (h : Header) (seq n : ℕ) → NotBad (checkOf h seq n)
+unfolding checkOf
+check-caused h seq n =
+    by-if NotBad (ltb (topId (h .extended)) (h .id)) (λ x. tt) (λ x. by-if NotBad (leb (2 ^ 23) seq) (λ y. tt) (λ y. dlc-caused (dlcOf (h .fdf) n)))
+
+coded-caused : (m : Message) (x : Checked) → NotBad x → NotRefused (coded x m)
+coded-caused m (Checked.Dlc d) h = tt
+coded-caused m (Checked.Bad r) h = h
+
+encoding-caused : (n : ℕ) (header : Header) (seq : ℕ) (payload : List ℕ) → NotRefused (push.encodingFor n header seq payload)
+unfolding push.encodingFor encoding
+encoding-caused n header seq payload =
+    by-if NotRefused (isFifo n) (λ x. coded-caused (push.toSend header seq payload) (checkOf header seq (length payload)) (check-caused header seq (length payload))) (λ x. tt)
+
+pub encoded-for : (n : ℕ) (header : Header) (seq : ℕ) (payload bs : List ℕ) → push.encodingFor n header seq payload ≡ Encoding.object bs
+    → (isFifo n ≡ true) × (encoding (push.toSend header seq payload) ≡ Encoding.object bs)
+unfolding push.encodingFor
+encoded-for n header seq payload bs =
+    by-if (λ (x : Encoding). x ≡ Encoding.object bs → (isFifo n ≡ true) × (encoding (push.toSend header seq payload) ≡ Encoding.object bs)) (isFifo n)
+    (λ i e. (i, e)) (λ i e. let z : _≡_ {A = ℕ} 0 1 = cc in absurd (omega (arith, z)))
+
+module _ (c : Model) (o : Sound c) (t : List Said) (l : Listed c t) (e : Each TellsWell t) (also : Bool) (n : ℕ) (header : Header) (seq : ℕ) (payload : List ℕ) where
+  -- the driver with a push of what the message is encoded as
+  abbrev starting : Encoding → Plan → Call
+  starting x p = record { at = placed also; plan = p; push = push.begun n (length payload) (encodedAs x); fetch = idleFetch }
+
+  begins-as : (x : Encoding) (p : Plan) → (also ≡ true → p ≡ requestStart n) → push.encodingFor n header seq payload ≡ x → NotRefused x
+      → Inv (settled c t (commanded also n header seq payload) (starting x p) [])
+  begins-as (Encoding.refused x) p q g h =
+      rw (refused n (length payload) [] p idleFetch header seq payload t c [] also x)
+      (says-more c t l e c idle _ o (quiet-refusal c (Push n header seq payload) x []) h tt)
+  begins-as (Encoding.object bs) p q g h =
+      let (i, coded) = encoded-for n header seq payload bs g in
+      rw (still n (length payload) bs p idleFetch header seq payload t c [] also PushAt.Control refl refl)
+      (goes-on c t l e c _ _ o (λ j. refl) (pushes also n header seq payload bs PushAt.Control p idleFetch i coded q tt refl refl))
+
+pub push-begins : (c : Model) → Sound c → (t : List Said) → Listed c t → Each TellsWell t → (also : Bool) (n : ℕ) (header : Header) (seq : ℕ) (payload : List ℕ)
+    → Inv (settled c t (commanded also n header seq payload) (started (commanded also n header seq payload)) [])
+unfolding ofPush ofTransmit push.startOf transmitStart
+push-begins c o t l e false n header seq payload =
+    begins-as c o t l e false n header seq payload (push.encodingFor n header seq payload) idlePlan
+    (λ x. let z : _≡_ {A = ℕ} 0 1 = cc in absurd (omega (arith, z))) refl (encoding-caused n header seq payload)
+push-begins c o t l e true n header seq payload =
+    begins-as c o t l e true n header seq payload (push.encodingFor n header seq payload) (requestStart n) (λ x. refl) refl (encoding-caused n header seq payload)

@@ -1,0 +1,119 @@
+-- What is true after every event, so after every history.
+-- Assumes nothing.
+use Prim.Native.Nat.{ℕ}
+use mathlib.Core.Path.{_≡_, refl, sym, ap, _∙_}
+use mathlib.Core.Bool.{Bool, true, false}
+use mathlib.Core.List.{List, [], _∷_, _++_}
+use Rattle.laws.proofs.Choice.{by-if}
+use Rattle.fifo.specs.Control.{isFifo}
+use Rattle.driver.specs.declared.calls.Call.{Call}
+use Rattle.fetch.specs.declared.Want.{Want}
+use Rattle.state.specs.declared.Model.{Model}
+use Rattle.state.specs.Model.{fifoAt}
+use Rattle.bank.specs.Registers.{conWritten}
+use Rattle.bus.specs.Held.{itemAt, row, held}
+use Rattle.message.specs.Message.{Decoding}
+use Rattle.reach.specs.Bus.{Bus, Send, Deliver, stepped}
+use Rattle.reach.proofs.Kept.{always-valid, leaving-valid}
+use Rattle.reach.proofs.Told.{leaving-outside, leaving-empty}
+use Rattle.history.specs.Command.{Command, Push, Transmit, Request, HasNext, Peek, Get, Reading, Configuring, started}
+use Rattle.history.specs.History.{Event, Begin, Exchange, Fail, On, Said, left, arrived, Doing, idle, busy, World, says, heard, settled, goesOn, event, after}
+use Rattle.history.specs.Lists.{accepted, handedOut}
+use Rattle.history.specs.Demand.{Leaves, start, world, Each, TellsWell, Lists, NeverCaused, PushExactly, GetExactly, PeekExactly, PeekKeeps, PushFails, RequestFails}
+use Rattle.history.proofs.Sound.{Sound}
+use Rattle.history.proofs.Bus.{Listed, lists-snoc, bus-good}
+use Rattle.history.proofs.Calm.{Fit, step-fit, step-later}
+use Rattle.history.proofs.Inv.{Mid, pushes, fetches, requests, configures, looks, Doings, doings-later, Inv, each-snoc}
+use Rattle.history.proofs.PushSteps.{push-exchanged, push-failed, push-begins}
+use Rattle.history.proofs.FetchSteps.{fetch-exchanged, fetch-failed, fetch-begins}
+use Rattle.history.proofs.PlanSteps.{request-heard, request-starts-well, configure-heard, configure-starts-well, look-heard, look-starts-well}
+use Rattle.history.proofs.PushFails.{push-fails}
+
+-- a bus step is no call
+bus-tells : (b : Bus) (c : Model) → TellsWell (says b c)
+bus-tells (Send n) c = tt
+bus-tells (Deliver n header time payload) c = tt
+
+-- ---- each event
+
+module _ (c : Model) (o : Sound c) (t : List Said) (l : Listed c t) (e : Each TellsWell t) where
+  -- a call begins
+  begins : (k : Command) → Inv (settled c t k (started k) [])
+  begins (Push n header seq payload) = push-begins c o t l e false n header seq payload
+  begins (Transmit n header seq payload) = push-begins c o t l e true n header seq payload
+  begins (Request n) = request-starts-well c o t l e n
+  begins (HasNext n) = fetch-begins c o t l e Want.HasNext n []
+  begins (Peek n buf) = fetch-begins c o t l e Want.Peek n buf
+  begins (Get n buf) = fetch-begins c o t l e Want.Get n buf
+  begins (Reading x) = look-starts-well c o t l e x
+  begins (Configuring x) = configure-starts-well c o t l e x
+
+  -- the call under way has its next exchange, which is carried out or not
+  goes : (b : Bool) (k : Command) (s : Call) → Mid c k s → Inv (goesOn t k s (heard b s c))
+  goes true k s (pushes also n header seq payload bs at p f i x r g ek es) = rw (ek, es) (push-exchanged c o t l e also n header seq payload bs p f i x r at g)
+  goes false k s (pushes also n header seq payload bs at p f i x r g ek es) = rw (ek, es) (push-failed c o t l e also n header seq payload bs p f i x r at g)
+  goes true k s (fetches want n buf held at p u i b h g ek es) = rw (ek, es) (fetch-exchanged c o t l e want n buf p u i b held h at g)
+  goes false k s (fetches want n buf held at p u i b h g ek es) = rw (ek, es) (fetch-failed c o t l e want n buf p u i b held h at g)
+  goes b k s (requests also n p u f a r h z ek es) = rw (ek, es) (request-heard c o t l e also u f a b n p r h z)
+  goes b k s (configures x p u f h ek es) = rw (ek, es) (configure-heard c o t l e b x p u f h)
+  goes b k s (looks x h ek) = rw ek (look-heard c o t l e b x s h)
+
+pub event-keeps : (x : Event) (d : Doing) (c : Model) (t : List Said) → Inv (record { chip = c; doing = d; said = t }) → Inv (event x d c t)
+unfolding event
+event-keeps (Begin k) idle c t i = begins c (i .sound) t (i .lists) (i .tells) k
+event-keeps (Begin k) (busy j s) c t i = i
+event-keeps Exchange idle c t i = i
+event-keeps Exchange (busy k s) c t i = goes c (i .sound) t (i .lists) (i .tells) true k s (i .doing)
+event-keeps Fail idle c t i = i
+event-keeps Fail (busy k s) c t i = goes c (i .sound) t (i .lists) (i .tells) false k s (i .doing)
+event-keeps (On b) d c t i =
+    let f : Fit c t = record { sound = i .sound; lists = i .lists } in
+    let g = step-fit c t f b in
+    record { sound = g .sound; lists = g .lists; tells = each-snoc TellsWell t (says b c) (i .tells) (bus-tells b c); doing = doings-later c (stepped b c) (step-later c t f b) d (i .doing) }
+
+pub run-keeps : (es : List Event) (v : World) → Inv v → Inv (after es v)
+unfolding after
+run-keeps [] v i = i
+run-keeps (x ∷ es) v i = run-keeps es _ (event-keeps x (v .doing) (v .chip) (v .said) i)
+
+-- ---- where a history begins
+
+module _ (c : Model) (w : ℕ) (g : Leaves c w) where
+  abbrev d : Model
+  d = conWritten c w .model
+
+  -- nothing is held
+  begins-empty : (n : ℕ) → held d n ≡ []
+  unfolding held row
+  begins-empty n =
+      by-if (λ (x : List Decoding). x ≡ []) (isFifo n)
+      (λ i. ap (row (λ k. itemAt d n k) 0) (leaving-empty c w (g .configuring) (g .asks) (g .granted) (always-valid c (g .reached)) n)) (λ i. refl)
+
+  pub begins-well : Inv (start c w)
+  unfolding accepted handedOut
+  begins-well = record {
+    sound = record { valid = leaving-valid c w (always-valid c (g .reached)); out = leaving-outside c w (g .configuring) (g .asks) (g .granted) };
+    lists = λ j i. sym (begins-empty j);
+    tells = tt;
+    doing = tt;
+  }
+
+pub holds-always : (c : Model) (w : ℕ) → Leaves c w → (es : List Event) → Inv (world c w es)
+holds-always c w g es = run-keeps es (start c w) (begins-well c w g)
+
+fits : (c : Model) (w : ℕ) → Leaves c w → (es : List Event) → Fit (world c w es .chip) (world c w es .said)
+fits c w g es = let i = holds-always c w g es in record { sound = i .sound; lists = i .lists }
+
+-- ---- the theorems
+
+-- 1. accepted is handed out, followed by what is held
+pub lists : Lists
+lists c w g es = holds-always c w g es .lists
+
+-- 4. a push in which an exchange failed
+pub push-fails-always : PushFails
+push-fails-always c w g es e = push-fails (world c w es) (fits c w g es) e
+
+-- 6. what is never answered
+pub never-caused : NeverCaused
+never-caused c w g es = holds-always c w g es .tells

@@ -1,0 +1,4 @@
+pub mod Command
+pub mod History
+pub mod Lists
+pub mod Demand

@@ -1,0 +1,264 @@
+-- Whatever happens to a chip that is in order leaves it in order.
+-- Assumes nothing.
+use Prim.Native.Nat.{ℕ, zero, suc, _%_, _^_, _≤_, _<_}
+use mathlib.Core.Path.{_≡_, refl, sym, ap, subst, _∙_}
+use mathlib.Core.Bool.{Bool, true, false, _&&_, not, false≢true}
+use mathlib.Core.List.{List, [], _∷_, map}
+use native.Mathlib.Omega.{arith}
+use borrow.Author.Tests.{leb-true, leb-false}
+use lib.Dec.{eqb, leb, ltb}
+use lib.ListN.{length, getD, set, take, drop, replicate, length-set, length-map, length-take, length-append, length-drop, List·getD-map}
+use Rattle.laws.proofs.Choice.{by-if}
+use Rattle.laws.proofs.Table.{both}
+use Rattle.field.specs.Field.{withField, read, flag}
+use Rattle.parts.specs.Parts.{put}
+use Rattle.configuration.specs.CanControl.{REQOP, TXQEN, STEF}
+use Rattle.fifo.specs.Control.{payloadOf, isFifo, CiFIFOCON}
+use Rattle.fifo.specs.Status.{RXOVIF}
+use Rattle.header.specs.declared.Header.{Header}
+use Rattle.message.specs.Message.{Encoding, encoding}
+use Rattle.operation.specs.declared.place.Register.{Register}
+use Rattle.operation.specs.declared.operation.Operation.{Operation}
+use Rattle.operation.specs.Operation.{asked}
+use Rattle.ring.specs.declared.ring.Fifo.{Fifo}
+use Rattle.ring.specs.Ring.{sending, depth, fresh, emptied, controlled, overflowed, turned}
+use Rattle.ring.specs.Layout.{end}
+use Rattle.state.specs.declared.Fixed.{Fixed}
+use Rattle.state.specs.declared.Setup.{Setup}
+use Rattle.state.specs.declared.Model.{Model}
+use Rattle.state.specs.Model.{areas, blank, reset, fifoAt, frozenAt, withFifo, withSetup, written}
+use Rattle.bank.specs.declared.writing.Written.{Written}
+use Rattle.bank.specs.Registers.{granted, conSet, turnedAll, conWritten, frozenSet, controlWritten, statusWritten, registerWritten}
+use Rattle.model.specs.Exchange.{performed, exchange}
+use Rattle.bus.specs.declared.arrival.Delivered.{Delivered}
+use Rattle.bus.specs.Held.{slotOf}
+use Rattle.bus.specs.Bus.{sends, sendModel, incoming, appended, byEncoding, deliverOf}
+use Rattle.bus.proofs.Laws.{sends-one}
+use Rattle.reach.specs.Bus.{Bus, Send, Deliver, stepped}
+use Rattle.reach.specs.Reach.{Happening, Exchange, On, happens, lived, InOrder, Valid, AlwaysValid}
+use Rattle.reach.proofs.Order.{quiet-inside, fresh-order, overflowed-order, claimed-order, sent-order, commanded-order, any-size, configured-order, entered-order, left-order}
+
+-- ---- lists
+
+-- what holds of the entry set and of the others; beyond the end nothing is set
+pub at-set : {A : Type 0} (P : ℕ → A → Type 0) (l : List A) (n : ℕ) (x d : A) → P n x → ((i : ℕ) → P i (getD l i d)) → (i : ℕ) → P i (getD (set l n x) i d)
+at-set P [] n x d p f i = f i
+at-set P (y ∷ l) zero x d p f zero = p
+at-set P (y ∷ l) zero x d p f (suc i) = f (suc i)
+at-set P (y ∷ l) (suc n) x d p f zero = f zero
+at-set P (y ∷ l) (suc n) x d p f (suc i) = at-set (λ k. P (suc k)) l n x d p (λ k. f (suc k)) i
+
+-- a list of one thing, and what stands beyond it
+at-replicate : {A : Type 0} (P : A → Type 0) (k : ℕ) (x d : A) → P x → P d → (i : ℕ) → P (getD (replicate k x) i d)
+at-replicate P zero x d p q i = q
+at-replicate P (suc k) x d p q zero = p
+at-replicate P (suc k) x d p q (suc i) = at-replicate P k x d p q i
+
+-- bytes stored leave the RAM's length
+written-length : (l bs : List ℕ) (a : ℕ) → length (take (length l) (put l a bs)) ≡ length l
+unfolding put
+written-length l bs a = rw (length-take (length l) (put l a bs)) (simp (length-append, length-take, length-drop) (omega arith))
+
+-- ---- the parts of a chip
+
+-- what stands for a FIFO beyond the list is not changed by a turn
+turned-blank : (b : Bool) → turned b blank ≡ blank
+unfolding emptied controlled fresh withField
+turned-blank true = refl
+turned-blank false = refl
+
+pub turned-at : (b : Bool) (m : Model) (n : ℕ) → fifoAt (turnedAll b m) n ≡ turned b (fifoAt m n)
+turned-at b m n = ap (getD (map (turned b) (m .fifo)) n) (sym (turned-blank b)) ∙ List·getD-map (turned b) (m .fifo) n blank
+
+module _ (m : Model) (v : Valid m) where
+  -- a FIFO in a mode that is known
+  in-mode : (b : Bool) → m .fixed .configuring ≡ b → (n : ℕ) → InOrder b (frozenAt m n) (fifoAt m n)
+  in-mode b e n = subst (λ (c : Bool). InOrder c (frozenAt m n) (fifoAt m n)) e (v .fifo n)
+
+  -- another FIFO n
+  with-fifo : (b : Bool) → m .fixed .configuring ≡ b → (n : ℕ) (f : Fifo) → InOrder b (frozenAt m n) f → Valid (withFifo m n f)
+  with-fifo b e n f o = record {
+    frozens = v .frozens;
+    fifos = length-set (m .fifo) n f ∙ v .fifos;
+    ram = v .ram;
+    fifo = at-set (λ i x. InOrder (m .fixed .configuring) (frozenAt m i) x) (m .fifo) n f blank (subst (λ (c : Bool). InOrder c (frozenAt m n) f) (sym e) o) (v .fifo);
+    layout = v .layout;
+  }
+
+  -- status bit 3
+  with-over : (n : ℕ) (over : Bool) → Valid (withFifo m n (overflowed over (fifoAt m n)))
+  with-over n over = with-fifo (m .fixed .configuring) refl n _ (overflowed-order _ _ (fifoAt m n) (v .fifo n) over)
+
+  -- in Configuration the ring fits any size
+  with-frozen : m .fixed .configuring ≡ true → (n w : ℕ) → Valid (frozenSet m n w)
+  with-frozen c n w =
+      let k : Model = frozenSet m n w in
+      record {
+        frozens = length-set (m .fixed .frozen) n w ∙ v .frozens;
+        fifos = v .fifos;
+        ram = v .ram;
+        fifo = λ i. subst (λ (b : Bool). InOrder b (frozenAt k i) (fifoAt m i)) (sym c) (any-size (frozenAt m i) (frozenAt k i) (fifoAt m i) (in-mode true c i));
+        layout = λ e. absurd (false≢true (sym e ∙ c));
+      }
+
+  -- other bytes in RAM
+  with-bytes : (a : ℕ) (bs : List ℕ) → Valid (written m a bs)
+  with-bytes a bs = record { frozens = v .frozens; fifos = v .fifos; ram = written-length (m .ram) bs a ∙ v .ram; fifo = v .fifo; layout = v .layout }
+
+  -- other registers that only hold
+  with-setup : (s : Setup) → Valid (withSetup m s)
+  with-setup s = record { frozens = v .frozens; fifos = v .fifos; ram = v .ram; fifo = v .fifo; layout = v .layout }
+
+  -- another CiCON in the same mode
+  with-con : (b : Bool) → m .fixed .configuring ≡ b → (w : ℕ) → Valid (conSet m w b)
+  with-con b e w = record { frozens = v .frozens; fifos = v .fifos; ram = v .ram; fifo = in-mode b e; layout = λ c. v .layout (e ∙ c) }
+
+  -- and in the other, every FIFO turned
+  with-turned : (b : Bool) (w : ℕ) → ((n : ℕ) → InOrder b (frozenAt m n) (turned b (fifoAt m n)))
+      → (b ≡ false → end (m .fixed .frozen) 31 ≤ 2048) → Valid (conSet (turnedAll b m) w b)
+  with-turned b w f fits = record {
+    frozens = v .frozens;
+    fifos = length-map (m .fifo) (turned b) ∙ v .fifos;
+    ram = v .ram;
+    fifo = λ n. subst (InOrder b (frozenAt m n)) (sym (turned-at b m n)) (f n);
+    layout = fits;
+  }
+
+-- ---- registers written
+
+-- what a grant tells
+granted-fits : (x : Fixed) (w : ℕ) → granted x w ≡ true → end (x .frozen) 31 ≤ 2048
+unfolding granted
+granted-fits x w e =
+    leb-true (end (x .frozen) 31) 2048 (both (not (flag TXQEN w) && not (flag STEF w)) (leb (end (x .frozen) 31) 2048) e .1)
+
+pub leaving-valid : (m : Model) (w : ℕ) → Valid m → Valid (conWritten m w .model)
+unfolding conWritten
+leaving-valid m w v =
+    let P : Written → Type 0 = λ x. Valid (x .model) in
+    by-if P (eqb (read REQOP w) 4)
+    (λ e. by-if P (m .fixed .configuring) (λ c. with-con m v true c w)
+    (λ c. with-turned m v true w (λ n. entered-order _ (fifoAt m n) (in-mode m v false c n)) (λ z. absurd (false≢true (sym z)))))
+    (λ e. by-if P (m .fixed .configuring)
+    (λ c. by-if P (granted (m .fixed) w)
+    (λ g. with-turned m v false w (λ n. left-order _ (fifoAt m n) (in-mode m v true c n)) (λ z. granted-fits (m .fixed) w g))
+    (λ g. with-con m v true c w))
+    (λ c. with-con m v false c w))
+
+module _ (m : Model) (v : Valid m) where
+  control-valid : (n w : ℕ) → Valid (controlWritten m n w)
+  unfolding controlWritten
+  control-valid n w =
+      by-if Valid (m .fixed .configuring)
+      (λ c. let u = with-frozen m v c n w in with-fifo _ u true c n _ (configured-order _ w (fifoAt m n) (in-mode _ u true c n)))
+      (λ c. with-fifo m v false c n _ (commanded-order _ w (fifoAt m n) (in-mode m v false c n)))
+
+  status-valid : (n w : ℕ) → Valid (statusWritten m n w)
+  unfolding statusWritten
+  status-valid n w = by-if Valid (flag RXOVIF w) (λ e. v) (λ e. with-over m v n false)
+
+  register-valid : (r : Register) (w : ℕ) → Valid (registerWritten m r w .model)
+  unfolding registerWritten
+  register-valid Register.Con w = leaving-valid m w v
+  register-valid Register.Osc w = with-setup m v _
+  register-valid (Register.Plain k) w = with-setup m v _
+  register-valid (Register.Filter k) w = with-setup m v _
+  register-valid (Register.Object k) w = with-setup m v _
+  register-valid (Register.Mask k) w = with-setup m v _
+  register-valid (Register.Control n) w = control-valid n w
+  register-valid (Register.Status n) w = status-valid n w
+  register-valid (Register.Address n) w = v
+
+-- ---- RESET
+
+reset-order : (v n : ℕ) → InOrder true v (getD (replicate areas (fresh (CiFIFOCON .reset))) n blank)
+reset-order v =
+    at-replicate (InOrder true v) areas (fresh (CiFIFOCON .reset)) blank
+    (fresh-order true v _ (quiet-inside (CiFIFOCON .reset) refl)) (fresh-order true v _ (quiet-inside 0 refl))
+
+pub reset-valid : (ram : List ℕ) → length ram ≡ 2048 → Valid (reset ram)
+unfolding reset
+reset-valid ram e = record {
+  frozens = refl;
+  fifos = refl;
+  ram = e;
+  fifo = λ n. reset-order (frozenAt (reset ram) n) n;
+  layout = λ c. absurd (false≢true (sym c));
+}
+
+-- ---- exchanges
+
+performed-valid : (o : Operation) (s : List ℕ) (want : ℕ) (m : Model) → Valid m → Valid (performed o s want m .model)
+unfolding performed
+performed-valid Operation.Reset s want m v = reset-valid (m .ram) (v .ram)
+performed-valid (Operation.Read r) s want m v = v
+performed-valid (Operation.Checked r) s want m v = v
+performed-valid (Operation.Write r w) s want m v = register-valid m v r w
+performed-valid (Operation.ReadRam a) s want m v = v
+performed-valid (Operation.WriteRam a) s want m v = with-bytes m v a (drop 2 s)
+performed-valid Operation.None s want m v = v
+
+pub exchange-valid : (s : List ℕ) (want : ℕ) (m : Model) → Valid m → Valid (exchange s want m .model)
+unfolding exchange
+exchange-valid s want m v = performed-valid (asked s want) s want m v
+
+-- ---- the bus
+
+module _ (m : Model) (v : Valid m) (n : ℕ) where
+  -- a FIFO that holds one is not in Configuration
+  holds-outside : 0 < fifoAt m n .count → m .fixed .configuring ≡ false
+  holds-outside h = go (m .fixed .configuring) refl
+    where
+      go : (b : Bool) → m .fixed .configuring ≡ b → m .fixed .configuring ≡ false
+      go true e = absurd (omega (arith, v .fifo n .empty e))
+      go false e = e
+
+  send-valid : Valid (sendModel m n)
+  unfolding sendModel
+  send-valid =
+      by-if Valid (isFifo n && sends m n)
+      (λ e.
+      let c = holds-outside (sends-one m n (both (isFifo n) (sends m n) e .1)) in
+      with-fifo m v false c n _ (sent-order _ (fifoAt m n) (in-mode m v false c n)))
+      (λ e. v)
+
+  append-valid : (len : ℕ) (bs : List ℕ) → Valid (appended m n len bs .model)
+  unfolding appended
+  append-valid len bs =
+      let P : Delivered → Type 0 = λ d. Valid (d .model) in
+      by-if P (m .fixed .configuring) (λ e. v)
+      (λ c. by-if P (sending (frozenAt m n)) (λ e. v)
+      (λ e. by-if P (ltb (payloadOf (frozenAt m n)) len) (λ e. v)
+      (λ e. by-if P (leb (depth (frozenAt m n)) (fifoAt m n .count))
+      (λ e. with-over m v n true)
+      (λ e.
+      let free : fifoAt m n .count < depth (frozenAt m n) = leb-false (depth (frozenAt m n)) (fifoAt m n .count) e in
+      with-fifo _ (with-bytes m v (slotOf m n (fifoAt m n .count)) bs) false c n _ (claimed-order _ (fifoAt m n) (in-mode m v false c n) free)))))
+
+  encoded-valid : (x : Encoding) (len : ℕ) → Valid (byEncoding x m n len .model)
+  encoded-valid (Encoding.refused r) len = v
+  encoded-valid (Encoding.object bs) len = append-valid len bs
+
+  deliver-valid : (header : Header) (time : ℕ) (payload : List ℕ) → Valid (deliverOf m n header time payload .model)
+  unfolding deliverOf
+  deliver-valid header time payload =
+      by-if (λ (d : Delivered). Valid (d .model)) (isFifo n) (λ e. encoded-valid (encoding (incoming m n header time payload)) (length payload)) (λ e. v)
+
+pub bus-valid : (b : Bus) (m : Model) → Valid m → Valid (stepped b m)
+unfolding stepped
+bus-valid (Send n) m v = send-valid m v n
+bus-valid (Deliver n header time payload) m v = deliver-valid m v n header (time % 2 ^ 32) payload
+
+-- ---- one after the other
+
+happens-valid : (x : Happening) (m : Model) → Valid m → Valid (happens x m)
+happens-valid (Exchange s want) m v = exchange-valid s want m v
+happens-valid (On b) m v = bus-valid b m v
+
+lived-valid : (xs : List Happening) (m : Model) → Valid m → Valid (lived xs m)
+unfolding lived
+lived-valid [] m v = v
+lived-valid (x ∷ xs) m v = lived-valid xs (happens x m) (happens-valid x m v)
+
+pub always-valid : AlwaysValid
+always-valid m r = subst Valid (sym (r .is)) (lived-valid (r .since) (reset (r .ram)) (reset-valid (r .ram) (r .size)))

@@ -1,0 +1,17 @@
+-- A step of the bus as one thing, and what it does to the chip.
+-- Assumes nothing.
+use Prim.Native.Nat.{ℕ, _%_, _^_}
+use mathlib.Core.List.{List}
+use Rattle.header.specs.declared.Header.{Header}
+use Rattle.state.specs.declared.Model.{Model}
+use Rattle.bus.specs.Bus.{sendModel, deliverOf}
+
+-- the chip sends from a FIFO; a frame arrives for a FIFO, with a timestamp
+pub data Bus : Type 0 where
+  Send : ℕ → Bus
+  Deliver : ℕ → Header → (time : ℕ) → List ℕ → Bus
+
+-- a timestamp has 32 bits
+unfoldable pub stepped : Bus → Model → Model
+stepped (Send n) m = sendModel m n
+stepped (Deliver n header time payload) m = deliverOf m n header (time % 2 ^ 32) payload .model

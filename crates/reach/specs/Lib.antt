@@ -1,0 +1,2 @@
+pub mod Bus
+pub mod Reach
