@@ -241,10 +241,10 @@ pub record Step (c : Model) (x : Said) (d : Model) : Type 0 where
 abbrev pub Good : Model → Bus → Type 0
 Good c b = Step c (says b c) (stepped b c)
 
-only-none : (j n : ℕ) → only j n [] ≡ []
+pub only-none : (j n : ℕ) → only j n [] ≡ []
 only-none j n = by-if (λ (l : List Message). l ≡ []) (eqb n j) (λ e. refl) (λ e. refl)
 
-map-only : (j n : ℕ) (m : Message) → map holds (only j n (m ∷ [])) ≡ (if eqb n j then holds m ∷ [] else [])
+pub map-only : (j n : ℕ) (m : Message) → map holds (only j n (m ∷ [])) ≡ (if eqb n j then holds m ∷ [] else [])
 map-only j n m = go (eqb n j)
   where
     go : (b : Bool) → map holds (if b then m ∷ [] else []) ≡ (if b then holds m ∷ [] else [])

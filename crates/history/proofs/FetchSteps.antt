@@ -44,7 +44,7 @@ use Rattle.history.specs.Lists.{only, foundIn, acceptedIn, handedOutIn}
 use Rattle.history.specs.Demand.{Each, TellsWell, NotCaused, Ordinary, Told}
 use Rattle.history.proofs.Sound.{Sound}
 use Rattle.history.proofs.Line.{spoken}
-use Rattle.history.proofs.Bus.{Listed, Moves, oldest}
+use Rattle.history.proofs.Bus.{Listed, Moves, oldest, only-none, map-only}
 use Rattle.history.proofs.Slots.{ram-long, slot-inside, less-held}
 use Rattle.history.proofs.Asks.{hear-control, hear-status, hear-address, hear-ram, tell-control}
 use Rattle.history.proofs.Replies.{mark-small, fetch-control, fetch-status, fetch-address, fetch-next, fetch-commit, control-stamp, uinc-written}
@@ -72,9 +72,6 @@ accepts-none Want.Get n buf o b j = refl
 -- nothing is handed out
 abbrev GivesNone : Want → ℕ → List ℕ → Outcome → Type 0
 GivesNone want n buf o = (b : List ℕ) (j : ℕ) → handedOutIn j (called (fetched want n buf) o b) ≡ []
-
-only-none : (j n : ℕ) → only j n [] ≡ []
-only-none j n = by-if (λ (l : List Message). l ≡ []) (eqb n j) (λ e. refl) (λ e. refl)
 
 -- by an outcome without a message
 without-message : (want : Want) (n : ℕ) (buf : List ℕ) (o : Outcome) → ((b : List ℕ) → foundIn o b ≡ []) → GivesNone want n buf o
@@ -108,13 +105,6 @@ get-lent Want.Get n buf e b = b
 get-gives : (want : Want) (n : ℕ) (buf : List ℕ) → want ≡ Want.Get → (o : Outcome) (b : List ℕ) (j : ℕ)
     → handedOutIn j (called (fetched want n buf) o b) ≡ only j n (foundIn o b)
 get-gives want n buf e o b j = rw e
-
-map-only : (j n : ℕ) (m : Message) → map holds (only j n (m ∷ [])) ≡ (if eqb n j then holds m ∷ [] else [])
-map-only j n m = go (eqb n j)
-  where
-    go : (b : Bool) → map holds (if b then m ∷ [] else []) ≡ (if b then holds m ∷ [] else [])
-    go true = refl
-    go false = refl
 
 -- UINC takes the oldest of a FIFO that receives and holds one
 increased-taken : (frozen : ℕ) (g : Fifo) → sending frozen ≡ false → 0 < g .count → increased frozen g ≡ taken frozen g

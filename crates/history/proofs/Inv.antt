@@ -32,7 +32,7 @@ use Rattle.history.specs.History.{Said, called, Doing, idle, busy, World
 use Rattle.history.specs.Lists.{only, doneWith, foundIn, acceptedIn, handedOutIn}
 use Rattle.history.specs.Demand.{Each, TellsWell, Told}
 use Rattle.history.proofs.Sound.{Sound}
-use Rattle.history.proofs.Bus.{Listed, Moves, lists-snoc, Later}
+use Rattle.history.proofs.Bus.{Listed, Moves, lists-snoc, Later, only-none}
 use Rattle.history.proofs.Harmless.{Harmless}
 use Rattle.history.proofs.Requests.{Requests}
 use Rattle.history.proofs.Looks.{LooksAt}
@@ -93,13 +93,6 @@ each-snoc P [] x e p = (p, tt)
 each-snoc P (y ∷ t) x e p = (e .0, each-snoc P t x (e .1) p)
 
 -- ---- what moves no message
-
-only-none : (j k : ℕ) → only j k [] ≡ []
-only-none j k = go (eqb k j)
-  where
-    go : (b : Bool) → _≡_ {A = List Message} (if b then [] else []) []
-    go true = refl
-    go false = refl
 
 silent-in : (j : ℕ) (k : Command) (o : Outcome) (buf : List ℕ) → ((m : Message) → doneWith o m ≡ []) → acceptedIn j (called k o buf) ≡ []
 silent-in j (Push n header seq payload) o buf h = rw (h (toSend header seq payload)) (only-none j n)

@@ -22,5 +22,9 @@ pub mod PushSteps
 pub mod FetchSteps
 pub mod PlanSteps
 pub mod Calm
+pub mod PushExactly
+pub mod FetchExactly
+pub mod GotIff
+pub mod PeekKeeps
 pub mod PushFails
 pub mod Theorem

@@ -40,7 +40,7 @@ use Rattle.history.proofs.Asks.{hear-control, hear-status, hear-address
 use Rattle.history.proofs.Replies.{next-control, next-status, next-address}
 use Rattle.history.proofs.Pushing.{pushing, turned, still, refused}
 use Rattle.history.proofs.Mid.{sent-gentle, PushMid}
-use Rattle.history.proofs.PushSteps.{object-fits, object-inside, object-told, encoded-for}
+use Rattle.history.proofs.PushSteps.{object-fits, inside, object-told, encoded-for}
 use Rattle.history.proofs.Calm.{world, spokenOf, after-append, after-buses, after-calm, Fit, buses-fit, buses-fixed, buses-push, buses-append}
 
 -- ---- what leaves the chip as it is
@@ -178,15 +178,15 @@ module _ (n : ℕ) (header : Header) (seq : ℕ) (payload bytes : List ℕ) (i :
     unfolding event
     reads-address w l g =
         rw (turned n (length payload) bytes idlePlan idleFetch false (PushAt.Address w) refl t k c _ _ _ (hear-address _ c n i)
-        (next-address c n (length payload) (length bytes) (f .sound) (g .0 .tx) w (object-inside c (f .sound) n i header seq payload bytes coded (g .0 .fits))))
+        (next-address c n (length payload) (length bytes) (f .sound) (g .0 .tx) w (inside c (f .sound) n header seq payload bytes i coded w (g .0))))
         (stays _ (PushAt.Write w _) refl refl (omega arith) (g .0, g .1, refl))
 
     writes-object : (w a : ℕ) → Exchanged (PushAt.Write w a)
     unfolding event
     writes-object w a l g =
         let d : Model = written c (slotOf c n (fifoAt c n .count)) bytes in
-        let told = object-told c (f .sound) n i header seq payload bytes coded (g .0 .fits) in
-        rw (turned n (length payload) bytes idlePlan idleFetch false (PushAt.Write w a) refl t k c [] d (PushAt.Commit w) (rw (g .2) told) refl)
+        let told = object-told c (f .sound) n header seq payload bytes i coded w a g in
+        rw (turned n (length payload) bytes idlePlan idleFetch false (PushAt.Write w a) refl t k c [] d (PushAt.Commit w) told refl)
         (wrote c t f w a g _ (settled-chip d t k (at (PushAt.Commit w)) []) bs l)
 
     exchanged : (a : PushAt) → Exchanged a

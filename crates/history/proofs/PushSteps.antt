@@ -50,7 +50,7 @@ use Rattle.history.specs.History.{Said, called, Doing, idle, busy, World
 use Rattle.history.specs.Lists.{only}
 use Rattle.history.specs.Demand.{Each, TellsWell, NotCaused}
 use Rattle.history.proofs.Sound.{Sound}
-use Rattle.history.proofs.Bus.{Listed, Moves, payload-whole}
+use Rattle.history.proofs.Bus.{Listed, Moves, payload-whole, map-only}
 use Rattle.history.proofs.Line.{spoken}
 use Rattle.history.proofs.Kept.{spoken-sound}
 use Rattle.history.proofs.Slots.{slot-inside, filled-held, filled-item, filled-sound, more-held}
@@ -59,7 +59,7 @@ use Rattle.history.proofs.Replies.{next-control, next-status, next-addr
 use Rattle.history.proofs.Plans.{request-harmless}
 use Rattle.history.proofs.Requests.{request-begins, request-starts}
 use Rattle.history.proofs.Pushing.{commanded, placed, pushAt, pushing, turned, failed, still, refused, done, half}
-use Rattle.history.proofs.Mid.{sent-gentle, Free, PushMid}
+use Rattle.history.proofs.Mid.{sent-gentle, Tx, Free, PushMid}
 use Rattle.history.proofs.Inv.{Mid, pushes, requests, Inv, goes-on, says-more, quiet-refusal}
 
 -- a payload that is not longer than PLSIZE means fits a slot with its header
@@ -80,24 +80,19 @@ raised : (w : ℕ) (f : Fifo) → sending w ≡ true → f .count < depth w → 
 unfolding increased
 raised w f x y = rw (x, lt-ltb _ _ y)
 
--- the list of one message, decoded
-only-held : (j n : ℕ) (m : Message) → map holds (only j n (m ∷ [])) ≡ (if eqb n j then holds m ∷ [] else [])
-only-held j n m = go (eqb n j)
-  where
-    go : (b : Bool) → map holds (if b then m ∷ [] else []) ≡ (if b then holds m ∷ [] else [])
-    go true = refl
-    go false = refl
+-- the object is in the free slot
+abbrev pub filled : Model → ℕ → List ℕ → Model
+filled c n bs = written c (slotOf c n (fifoAt c n .count)) bs
 
--- ---- the object and its slot
-
-module _ (c : Model) (o : Sound c) (n : ℕ) (i : isFifo n ≡ true) (header : Header) (seq : ℕ) (payload bs : List ℕ)
-    (coded : encoding (push.toSend header seq payload) ≡ Encoding.object bs) (fits : length bs ≤ size (frozenAt c n)) where
-  abbrev free : ℕ
-  free = slotOf c n (fifoAt c n .count)
+-- what the chip answers to the object and to UINC, and what a push then knows
+module _ (c : Model) (o : Sound c) (n : ℕ) (header : Header) (seq : ℕ) (payload bs : List ℕ)
+    (i : isFifo n ≡ true) (coded : encoding (push.toSend header seq payload) ≡ Encoding.object bs) where
+  abbrev sent : Message
+  sent = push.toSend header seq payload
 
   -- the free slot is in RAM, and so is the object in it
-  pub object-inside : free + length bs ≤ 2048
-  object-inside = omega (arith, slot-inside c o n (fifoAt c n .count) i (o .valid .fifo n .count), fits)
+  pub inside : (w : ℕ) → Tx c n bs w → slotOf c n (fifoAt c n .count) + length bs ≤ 2048
+  inside w x = omega (arith, slot-inside c o n (fifoAt c n .count) i (o .valid .fifo n .count), x .fits)
 
   -- all of the object is sent
   body-whole : take (length bs) (zeroed 76 bs) ≡ bs
@@ -111,12 +106,28 @@ module _ (c : Model) (o : Sound c) (n : ℕ) (i : isFifo n ≡ true) (header : H
   -- it is whole words
   body-words : length bs % 4 ≡ 0
   body-words =
-      let long : length bs ≡ 8 + 0 + roundUp (length payload) = lengths-hold (push.toSend header seq payload) bs coded in
+      let long : length bs ≡ 8 + 0 + roundUp (length payload) = lengths-hold sent bs coded in
       omega (arith, long)
 
-  -- it is written into the free slot
-  pub object-told : spoken (Ask.Body (free + 0x400) (length bs)) (zeroed 76 bs) c ≡ hears Answer.Exchanged [] (written c free bs)
-  object-told = tell-ram (zeroed 76 bs) c free (length bs) object-inside body-words body-long ∙ rw body-whole
+  pub object-told : (w a : ℕ) → PushMid c n sent bs (PushAt.Write w a) → spoken (Ask.Body a (length bs)) (zeroed 76 bs) c ≡ hears Answer.Exchanged [] (filled c n bs)
+  object-told w a g =
+      rw (g .2) (tell-ram (zeroed 76 bs) c (slotOf c n (fifoAt c n .count)) (length bs) (inside w (g .0)) body-words body-long ∙ rw body-whole)
+
+  pub object-mid : (w a : ℕ) → PushMid c n sent bs (PushAt.Write w a) → PushMid (filled c n bs) n sent bs (PushAt.Commit w)
+  object-mid w a g =
+      let x = g .0 in
+      let suits : Suits (sending (frozenAt c n)) (stamped (frozenAt c n)) sent
+      = rw (x .tx, not-stamped (frozenAt c n) (x .tx)) (record { seq = refl; stamp = tt }) in
+      (record { word = x .word; tx = x .tx; fits = x .fits }, g .1, filled-item c o n i (g .1) bs (x .fits) sent coded suits)
+
+  -- v is the FIFO with its new control word
+  pub uinc-told : (w : ℕ) → PushMid c n sent bs (PushAt.Commit w)
+      → (v : Fifo) × (spoken (Ask.Word (CiFIFOCON .address n) (mark UINC true w)) (zeroed 76 bs) c ≡ hears Answer.Exchanged [] (withFifo c n (claimed v)))
+      × (v .head ≡ fifoAt c n .head) × (v .count ≡ fifoAt c n .count)
+  uinc-told w g =
+      let x = g .0 in
+      let (v, is, vh, vc) = uinc-written c n o w (x .word .small) (x .word .freset) in
+      (v, tell-control (zeroed 76 bs) c n i (mark UINC true w) (mark-small w (x .word .small)) ∙ rw (is, raised (frozenAt c n) v (x .tx) (rw vc (g .1))), vh, vc)
 
 module _ (c : Model) (o : Sound c) (t : List Said) (l : Listed c t) (e : Each TellsWell t)
     (also : Bool) (n : ℕ) (header : Header) (seq : ℕ) (payload bs : List ℕ) (p : Plan) (f : Fetch)
@@ -171,21 +182,17 @@ module _ (c : Model) (o : Sound c) (t : List Said) (l : Listed c t) (e : Each Te
   reads-address : (w : ℕ) → PushMid c n m bs (PushAt.Address w) → Exchanged (PushAt.Address w)
   reads-address w g =
       rw (turned n (length payload) bs p f also (PushAt.Address w) refl t k c _ _ _ (hear-address _ c n i)
-      (next-address c n (length payload) (length bs) o (g .0 .tx) w (object-inside c o n i header seq payload bs coded (g .0 .fits))))
+      (next-address c n (length payload) (length bs) o (g .0 .tx) w (inside c o n header seq payload bs i coded w (g .0))))
       (stays _ (PushAt.Write w _) refl refl (g .0, g .1, refl))
 
   writes-object : (w a : ℕ) → PushMid c n m bs (PushAt.Write w a) → Exchanged (PushAt.Write w a)
   writes-object w a g =
       let x = g .0 in
-      let d : Model = written c (slotOf c n (fifoAt c n .count)) bs in
-      let told : spoken (Ask.Body a (length bs)) (zeroed 76 bs) c ≡ hears Answer.Exchanged [] d =
-      rw (g .2) (object-told c o n i header seq payload bs coded (x .fits)) in
-      let suits : Suits (sending (frozenAt c n)) (stamped (frozenAt c n)) m = rw (x .tx, not-stamped (frozenAt c n) (x .tx)) (record { seq = refl; stamp = tt }) in
-      let mid : PushMid d n m bs (PushAt.Commit w) = (record { word = x .word; tx = x .tx; fits = x .fits }, g .1, filled-item c o n i (g .1) bs (x .fits) m coded suits) in
-      rw (turned n (length payload) bs p f also (PushAt.Write w a) refl t k c [] d (PushAt.Commit w) told refl,
+      let d : Model = filled c n bs in
+      rw (turned n (length payload) bs p f also (PushAt.Write w a) refl t k c [] d (PushAt.Commit w) (object-told c o n header seq payload bs i coded w a g) refl,
       still n (length payload) bs p f header seq payload t d [] also (PushAt.Commit w) refl refl)
       (goes-on c t l e d k (at (PushAt.Commit w)) (filled-sound c o n i (g .1) bs (x .fits)) (filled-held c o n i (g .1) bs (x .fits))
-      (pushes also n header seq payload bs (PushAt.Commit w) p f i coded r mid refl refl))
+      (pushes also n header seq payload bs (PushAt.Commit w) p f i coded r (object-mid c o n header seq payload bs i coded w a g) refl refl))
 
   -- the message is in the FIFO; the request of a transmit comes next
   ended : (d : Model) → Sound d → Moves c (called (Push n header seq payload) Outcome.Done []) d → (b : Bool) → (b ≡ true → p ≡ requestStart n)
@@ -194,19 +201,17 @@ module _ (c : Model) (o : Sound c) (t : List Said) (l : Listed c t) (e : Each Te
   ended d s v true q =
       rw (half n (length payload) bs p f header seq payload t d [] (rw (q refl, request-begins n i)))
       (says-more c t l e d _ _ s v tt
-      (requests true n p (pushAt n (length payload) bs PushAt.Done) f (λ x. refl) (rw (q refl) (request-starts n)) (rw (q refl) (request-harmless n)) (rw (q refl, request-begins n i)) refl refl))
+      (requests true n p (pushAt n (length payload) bs PushAt.Done) f (λ x. refl) (rw (q refl) (request-starts n)) (rw (q refl) (request-harmless n))
+      (rw (q refl, request-begins n i)) refl refl))
 
   writes-control : (w : ℕ) → PushMid c n m bs (PushAt.Commit w) → Exchanged (PushAt.Commit w)
   unfolding claimed
   writes-control w g =
-      let x = g .0 in
-      let (v, is, vh, vc) = uinc-written c n o w (x .word .small) (x .word .freset) in
+      let (v, told, vh, vc) = uinc-told c o n header seq payload bs i coded w g in
       let d : Model = withFifo c n (claimed v) in
-      let told : spoken (Ask.Word (CiFIFOCON .address n) (mark UINC true w)) (zeroed 76 bs) c ≡ hears Answer.Exchanged [] d =
-      tell-control (zeroed 76 bs) c n i (mark UINC true w) (mark-small w (x .word .small)) ∙ rw (is, raised (frozenAt c n) v (x .tx) (rw vc (g .1))) in
       let s : Sound d = spoken-sound _ _ c o _ told refl in
       let said : Said = called (Push n header seq payload) Outcome.Done [] in
-      let moved : Moves c said d = λ j h. rw (only-held j n m) (rw (g .2) at (more-held c o n i (claimed v) vh (ap (λ (y : ℕ). y + 1) vc) j)) in
+      let moved : Moves c said d = λ j h. rw (map-only j n m) (rw (g .2) at (more-held c o n i (claimed v) vh (ap (λ (y : ℕ). y + 1) vc) j)) in
       rw (turned n (length payload) bs p f also (PushAt.Commit w) refl t k c [] d PushAt.Done told refl)
       (ended d s moved also r)
 
@@ -265,13 +270,13 @@ encoded-for n header seq payload bs =
     by-if (λ (x : Encoding). x ≡ Encoding.object bs → (isFifo n ≡ true) × (encoding (push.toSend header seq payload) ≡ Encoding.object bs)) (isFifo n)
     (λ i e. (i, e)) (λ i e. let z : _≡_ {A = ℕ} 0 1 = cc in absurd (omega (arith, z)))
 
-module _ (c : Model) (o : Sound c) (t : List Said) (l : Listed c t) (e : Each TellsWell t) (also : Bool) (n : ℕ) (header : Header) (seq : ℕ) (payload : List ℕ) where
-  -- the driver with a push of what the message is encoded as
-  abbrev starting : Encoding → Plan → Call
-  starting x p = record { at = placed also; plan = p; push = push.begun n (length payload) (encodedAs x); fetch = idleFetch }
+-- the driver with a push of what a message of this many bytes is encoded as
+abbrev pub starting : Bool → (n size : ℕ) → Encoding → Plan → Call
+starting also n size x p = record { at = placed also; plan = p; push = push.begun n size (encodedAs x); fetch = idleFetch }
 
+module _ (c : Model) (o : Sound c) (t : List Said) (l : Listed c t) (e : Each TellsWell t) (also : Bool) (n : ℕ) (header : Header) (seq : ℕ) (payload : List ℕ) where
   begins-as : (x : Encoding) (p : Plan) → (also ≡ true → p ≡ requestStart n) → push.encodingFor n header seq payload ≡ x → NotRefused x
-      → Inv (settled c t (commanded also n header seq payload) (starting x p) [])
+      → Inv (settled c t (commanded also n header seq payload) (starting also n (length payload) x p) [])
   begins-as (Encoding.refused x) p q g h =
       rw (refused n (length payload) [] p idleFetch header seq payload t c [] also x)
       (says-more c t l e c idle _ o (quiet-refusal c (Push n header seq payload) x []) h tt)

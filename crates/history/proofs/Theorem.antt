@@ -27,6 +27,9 @@ use Rattle.history.proofs.Inv.{Mid, pushes, fetches, requests, configur
 use Rattle.history.proofs.PushSteps.{push-exchanged, push-failed, push-begins}
 use Rattle.history.proofs.FetchSteps.{fetch-exchanged, fetch-failed, fetch-begins}
 use Rattle.history.proofs.PlanSteps.{request-heard, request-starts-well, configure-heard, configure-starts-well, look-heard, look-starts-well}
+use Rattle.history.proofs.PushExactly.{push-exactly, request-fails}
+use Rattle.history.proofs.FetchExactly.{get-exactly, peek-exactly}
+use Rattle.history.proofs.PeekKeeps.{peek-keeps}
 use Rattle.history.proofs.PushFails.{push-fails}
 
 -- a bus step is no call
@@ -110,9 +113,27 @@ fits c w g es = let i = holds-always c w g es in record { sound = i .sound; list
 pub lists : Lists
 lists c w g es = holds-always c w g es .lists
 
+-- 2. what a push answers
+pub push-exactly-always : PushExactly
+push-exactly-always c w g es e = push-exactly (world c w es) (fits c w g es) e
+
+-- 3. what a get and a peek answer
+pub get-exactly-always : GetExactly
+get-exactly-always c w g es e = get-exactly (world c w es) (fits c w g es) e
+
+pub peek-exactly-always : PeekExactly
+peek-exactly-always c w g es e = peek-exactly (world c w es) (fits c w g es) e
+
+pub peek-keeps-always : PeekKeeps
+peek-keeps-always c w g es e = peek-keeps (world c w es) e
+
 -- 4. a push in which an exchange failed
 pub push-fails-always : PushFails
 push-fails-always c w g es e = push-fails (world c w es) (fits c w g es) e
+
+-- 5. a transmit whose request failed
+pub request-fails-always : RequestFails
+request-fails-always c w g es e = request-fails (world c w es) (fits c w g es) e
 
 -- 6. what is never answered
 pub never-caused : NeverCaused

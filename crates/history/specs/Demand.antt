@@ -135,7 +135,7 @@ GetExactly =
 -- it hands out the oldest exactly if its FIFO receives and held one at the status read
 abbrev pub GotIff : Type 0
 GotIff =
-    (c d : Model) (n : ℕ) (buf : List ℕ) (m : Message) → 64 ≤ length buf
+    (c d : Model) → d .fixed ≡ c .fixed → (n : ℕ) (buf : List ℕ) (m : Message) → 64 ≤ length buf
     → (handedOutIn n (fetchSaid (Get n buf) c d n buf) ≡ m ∷ [])
     ↔ ((sending (frozenAt c n) ≡ false) × (0 < fifoAt d n .count) × (itemAt d n 0 ≡ holds m))
 
