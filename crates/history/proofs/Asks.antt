@@ -6,12 +6,11 @@ use mathlib.Core.List.{List, [], _∷_, _++_, append-nil}
 use Prim.Native.Nat.{ℕ, _+_, _-_, _*_, _%_, _^_, _≤_, _<_}
 use native.Mathlib.Nat.{mod-lt}
 use native.Mathlib.Omega.{arith}
-use borrow.Author.Tests.{leb-true, le-leb, lt-leb, eq-eqb}
-use lib.Dec.{leb, eqb}
+use borrow.Author.Tests.{le-leb, lt-leb, eq-eqb}
+use lib.Dec.{eqb}
 use lib.Pow.{pow-pos}
 use lib.ListN.{length, take, drop}
 use Rattle.laws.proofs.Choice.{by-if}
-use Rattle.laws.proofs.Table.{both}
 use Rattle.words.specs.Words.{leBytes, beBytes}
 use Rattle.parts.specs.Parts.{part}
 use Rattle.fifo.specs.Control.{CiFIFOCON, isFifo}
@@ -28,20 +27,18 @@ use Rattle.operation.specs.declared.place.Place.{Place}
 use Rattle.operation.specs.declared.operation.Operation.{Operation}
 use Rattle.operation.specs.Place.{registerAt}
 use Rattle.operation.specs.Operation.{inRam, at, readAt, asked}
+use Rattle.operation.specs.Laws.{Stand}
 use Rattle.operation.proofs.Laws.{all-carried, asks-read, asks-checked, asks-word, writes-word, asks-body}
 use Rattle.state.specs.declared.Model.{Model}
 use Rattle.state.specs.Model.{written}
 use Rattle.bank.specs.Registers.{wordOf, controlWritten, registerWritten}
 use Rattle.model.specs.Exchange.{doneWriting, performed, exchange}
+use Rattle.history.proofs.Slots.{fifo-told}
 use Rattle.history.proofs.Line.{hearing, spoken}
 use Rattle.history.proofs.Kept.{heard-chip}
 use Rattle.history.specs.History.{Heard, hears}
 
--- ---- numbers and places
-
-pub fifo-told : (n : ℕ) → isFifo n ≡ true → (1 ≤ n) × (n ≤ 31)
-unfolding isFifo
-fifo-told n e = let (l, h) = both (leb 1 n) (leb n 31) e in (leb-true 1 n l, leb-true n 31 h)
+-- ---- places
 
 -- below RAM there is none
 pub ram-low : (a k : ℕ) → a < 0x400 → inRam a k ≡ false
@@ -87,20 +84,20 @@ module _ (b : List ℕ) (c : Model) where
 
   module _ (n : ℕ) (f : isFifo n ≡ true) where
     -- FIFO n's registers lie below RAM
-    pub hear-control : spoken (Ask.Read (CiFIFOCON .address n) 4) b c ≡ hears Answer.Exchanged (leBytes (wordOf c (Register.Control n))) c
-    hear-control =
+    hear-own : (place : ℕ → ℕ) (r : ℕ → Register) → Stand 1 31 place r → place n < 0x400
+        → spoken (Ask.Read (place n) 4) b c ≡ hears Answer.Exchanged (leBytes (wordOf c (r n))) c
+    hear-own place r stands low =
         let (l, h) = fifo-told n f in
-        hear-register (CiFIFOCON .address n) (Register.Control n) (all-carried .control n l h) (ram-low (CiFIFOCON .address n) 4 (omega arith)) (omega arith)
+        hear-register (place n) (r n) (stands n l h) (ram-low (place n) 4 low) (omega arith)
+
+    pub hear-control : spoken (Ask.Read (CiFIFOCON .address n) 4) b c ≡ hears Answer.Exchanged (leBytes (wordOf c (Register.Control n))) c
+    hear-control = hear-own (CiFIFOCON .address) Register.Control (all-carried .control) (omega (arith, fifo-told n f .1))
 
     pub hear-status : spoken (Ask.Read (CiFIFOSTA .address n) 4) b c ≡ hears Answer.Exchanged (leBytes (wordOf c (Register.Status n))) c
-    hear-status =
-        let (l, h) = fifo-told n f in
-        hear-register (CiFIFOSTA .address n) (Register.Status n) (all-carried .status n l h) (ram-low (CiFIFOSTA .address n) 4 (omega arith)) (omega arith)
+    hear-status = hear-own (CiFIFOSTA .address) Register.Status (all-carried .status) (omega (arith, fifo-told n f .1))
 
     pub hear-address : spoken (Ask.Read (CiFIFOUA .address n) 4) b c ≡ hears Answer.Exchanged (leBytes (wordOf c (Register.Address n))) c
-    hear-address =
-        let (l, h) = fifo-told n f in
-        hear-register (CiFIFOUA .address n) (Register.Address n) (all-carried .userAddress n l h) (ram-low (CiFIFOUA .address n) 4 (omega arith)) (omega arith)
+    hear-address = hear-own (CiFIFOUA .address) Register.Address (all-carried .userAddress) (omega (arith, fifo-told n f .1))
 
     pub tell-control : (w : ℕ) → w < 2 ^ 32 → spoken (Ask.Word (CiFIFOCON .address n) w) b c ≡ hears Answer.Exchanged [] (controlWritten c n w)
     unfolding registerWritten
@@ -128,6 +125,12 @@ module _ (b : List ℕ) (c : Model) where
         let z : x + 0x400 - 0x400 ≡ x = omega arith in
         does (Ask.Body (x + 0x400) k) b c (Operation.WriteRam x) (asks-body (x + 0x400) k b (ram-in x k h four) l ∙ ap Operation.WriteRam z)
         ∙ ap (λ (bs : List ℕ). hears Answer.Exchanged [] (written c x bs)) body-front
+
+  -- bytes behind place x
+  pub hear-behind : (x y k : ℕ) → x + y + k ≤ 2048 → k % 4 ≡ 0 → spoken (Ask.Read (x + 0x400 + y) k) b c ≡ hears Answer.Exchanged (part (c .ram) (x + y) k) c
+  hear-behind x y k h four =
+      let e : x + 0x400 + y ≡ x + y + 0x400 = omega arith in
+      ap (λ (a : ℕ). spoken (Ask.Read a k) b c) e ∙ hear-ram (x + y) k h four
 
 -- ---- reading leaves the chip as it is
 

@@ -39,7 +39,7 @@ use Rattle.reach.specs.Bus.{Bus, Send, Deliver, stepped}
 use Rattle.history.specs.History.{Said, left, arrived, says}
 use Rattle.history.specs.Lists.{accepted, acceptedIn, handedOut, handedOutIn, only}
 use Rattle.history.proofs.Sound.{Sound}
-use Rattle.history.proofs.Slots.{same?, SlotStays, slot-like, item-like, filled-part, filled-held, filled-item, filled-sound, next-head, next-count}
+use Rattle.history.proofs.Slots.{same?, SlotStays, slot-like, item-like, filled, filled-part, filled-held, filled-item, filled-sound, next-head, next-count}
 use Rattle.history.proofs.Slots.{other-head, other-count, kept-head, kept-count, kept-held, more-held, less-count, less-slot, less-own, less-held}
 
 -- ---- the lists
@@ -171,7 +171,7 @@ module _ (c : Model) (s : Sound c) (k : ℕ) (h : isFifo k ≡ true) (t : sendin
 module _ (c : Model) (s : Sound c) (k : ℕ) (h : isFifo k ≡ true) (t : sending (frozenAt c k) ≡ false) (free : fifoAt c k .count < depth (frozenAt c k))
     (bs : List ℕ) (fits : length bs ≤ size (frozenAt c k)) where
   abbrev more : Model
-  more = withFifo (written c (slotOf c k (fifoAt c k .count)) bs) k (claimed (fifoAt c k))
+  more = withFifo (filled c k bs) k (claimed (fifoAt c k))
 
   later-delivered : Later c more
   unfolding claimed
@@ -251,9 +251,13 @@ map-only j n m = go (eqb n j)
     go true = refl
     go false = refl
 
--- nothing comes and nothing goes
-quiet : (c d : Model) (x : Said) → Later c d → ((j : ℕ) → acceptedIn j x ≡ []) → ((j : ℕ) → handedOutIn j x ≡ []) → ((j : ℕ) → held d j ≡ held c j) → Step c x d
-quiet c d x l a b e = record { later = l; moves = λ j h. rw (a j, b j, e j) (append-nil (held c j)) }
+-- what is said moves no message, and nothing held changed
+module _ (c d : Model) (x : Said) (a : (j : ℕ) → acceptedIn j x ≡ []) (b : (j : ℕ) → handedOutIn j x ≡ []) (e : (j : ℕ) → held d j ≡ held c j) where
+  pub quiet : Moves c x d
+  quiet j h = rw (a j, b j, e j) (append-nil (held c j))
+
+  quiet-step : Later c d → Step c x d
+  quiet-step l = record { later = l; moves = quiet }
 
 module _ (c : Model) (s : Sound c) where
   -- what both ways of a send do to the ring
@@ -283,8 +287,8 @@ module _ (c : Model) (s : Sound c) where
       → Step c (left n (if a then if b then outputOf (itemAt c n 0) else nothing else refused Refusal.BadNumber))
       (if a && b then withFifo c n (sent (frozenAt c n) (fifoAt c n)) else c)
   send-step t l n true true h e = let (m, i) = oldest c s t l n h (sends-one c n e) in sent-step n h e m i
-  send-step t l n true false h e = quiet c c _ (later-same c) (λ j. refl) (λ j. only-none j n) (λ j. refl)
-  send-step t l n false b h e = quiet c c _ (later-same c) (λ j. refl) (λ j. only-none j n) (λ j. refl)
+  send-step t l n true false h e = quiet-step c c _ (λ j. refl) (λ j. only-none j n) (λ j. refl) (later-same c)
+  send-step t l n false b h e = quiet-step c c _ (λ j. refl) (λ j. only-none j n) (λ j. refl) (later-same c)
 
   module _ (n : ℕ) (m : Message) where
     -- what an answer to a frame comes to
@@ -300,7 +304,7 @@ module _ (c : Model) (s : Sound c) where
       moves = λ j k.
           rw map-only
           (rw (filled-held c s n h free bs fits j, filled-item c s n h free bs fits m e ok)
-          at (more-held (written c (slotOf c n (fifoAt c n .count)) bs) (filled-sound c s n h free bs fits) n h (claimed (fifoAt c n)) refl refl j));
+          at (more-held (filled c n bs) (filled-sound c s n h free bs fits) n h (claimed (fifoAt c n)) refl refl j));
     }
 
     appended-step : isFifo n ≡ true → (len : ℕ) (bs : List ℕ) → encoding m ≡ Encoding.object bs
@@ -309,12 +313,12 @@ module _ (c : Model) (s : Sound c) where
     unfolding appended overflowed
     appended-step h len bs e fits ok =
         let q = later-same c in
-        by-if Answered (c .fixed .configuring) (λ x. quiet c c _ q (λ j. only-none j n) (λ j. refl) (λ j. refl))
-        (λ x. by-if Answered (sending (frozenAt c n)) (λ y. quiet c c _ q (λ j. only-none j n) (λ j. refl) (λ j. refl))
-        (λ r. by-if Answered (ltb (payloadOf (frozenAt c n)) len) (λ y. quiet c c _ q (λ j. only-none j n) (λ j. refl) (λ j. refl))
+        by-if Answered (c .fixed .configuring) (λ x. quiet-step c c _ (λ j. only-none j n) (λ j. refl) (λ j. refl) q)
+        (λ x. by-if Answered (sending (frozenAt c n)) (λ y. quiet-step c c _ (λ j. only-none j n) (λ j. refl) (λ j. refl) q)
+        (λ r. by-if Answered (ltb (payloadOf (frozenAt c n)) len) (λ y. quiet-step c c _ (λ j. only-none j n) (λ j. refl) (λ j. refl) q)
         (λ y. by-if Answered (leb (depth (frozenAt c n)) (fifoAt c n .count))
-        (λ z. quiet c _ _ (later-kept c s n h (overflowed true (fifoAt c n)) refl refl) (λ j. only-none j n) (λ j. refl)
-        (kept-held c s n h (overflowed true (fifoAt c n)) refl refl))
+        (λ z. quiet-step c _ _ (λ j. only-none j n) (λ j. refl) (kept-held c s n h (overflowed true (fifoAt c n)) refl refl)
+        (later-kept c s n h (overflowed true (fifoAt c n)) refl refl))
         (λ z. delivered-step h r (leb-false _ _ z) bs e (fits (ltb-false _ _ y)) ok))))
 
 pub bus-good : (c : Model) → Sound c → (t : List Said) → Listed c t → (b : Bus) → Good c b
@@ -324,11 +328,11 @@ bus-good c s t l (Deliver n header time payload) =
     let m : Message = incoming c n header (time % 2 ^ 32) payload in
     by-if (Answered c s n m) (isFifo n)
     (λ h. go h (encoding m) refl)
-    (λ h. quiet c c _ (later-same c) (λ j. only-none j n) (λ j. refl) (λ j. refl))
+    (λ h. quiet-step c c _ (λ j. only-none j n) (λ j. refl) (λ j. refl) (later-same c))
   where
     go : isFifo n ≡ true → (x : Encoding) → encoding (incoming c n header (time % 2 ^ 32) payload) ≡ x
         → Answered c s n (incoming c n header (time % 2 ^ 32) payload) (byEncoding x c n (length payload))
-    go h (Encoding.refused r) e = quiet c c _ (later-same c) (λ j. only-none j n) (λ j. refl) (λ j. refl)
+    go h (Encoding.refused r) e = quiet-step c c _ (λ j. only-none j n) (λ j. refl) (λ j. refl) (later-same c)
     go h (Encoding.object bs) e =
         appended-step c s n (incoming c n header (time % 2 ^ 32) payload) h (length payload) bs e
         (coming-fits c n header (time % 2 ^ 32) payload bs e) (coming-suits c n header (time % 2 ^ 32) payload (mod-lt time (omega arith)))

@@ -1,7 +1,7 @@
 -- Runs of events: bus steps, one after the other, and calls in which no exchange fails.
 -- Assumes nothing.
 use Prim.Native.Nat.{ℕ}
-use mathlib.Core.Path.{_≡_, refl, sym, ap, subst, _∙_}
+use mathlib.Core.Path.{_≡_, refl, ap, subst, _∙_}
 use mathlib.Core.Bool.{true}
 use mathlib.Core.List.{List, [], _∷_, _++_, map, append-nil, append-assoc}
 use Rattle.fifo.specs.Control.{isFifo}
@@ -15,14 +15,12 @@ use Rattle.state.specs.declared.Model.{Model}
 use Rattle.reach.specs.Bus.{Bus, Send, Deliver, stepped}
 use Rattle.reach.proofs.Kept.{bus-valid}
 use Rattle.history.specs.Command.{Command}
-use Rattle.history.specs.History.{Event, Begin, Exchange, Fail, On, Said, called, left, arrived, Doing, idle, busy, World, says, event, after}
-use Rattle.history.specs.Demand.{buses, calm, calls, all}
+use Rattle.history.specs.History.{Event, Exchange, On, Said, called, left, arrived, Doing, idle, World, says, event, after}
+use Rattle.history.specs.Demand.{buses, calm, calls}
 use Rattle.history.proofs.Sound.{Sound}
 use Rattle.history.proofs.Bus.{Listed, lists-snoc, Later, bus-good}
+use Rattle.history.proofs.Line.{world}
 use Rattle.history.proofs.Mid.{PushMid, FetchMid, push-later, fetch-later}
-
-abbrev pub world : Model → Doing → List Said → World
-world c d t = record { chip = c; doing = d; said = t }
 
 -- what bus steps say, one after the other
 unfoldable pub spokenOf : List Bus → Model → List Said

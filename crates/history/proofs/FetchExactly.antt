@@ -18,7 +18,6 @@ use Rattle.words.specs.Words.{leBytes, roundUp}
 use Rattle.words.proofs.Laws.{up-four}
 use Rattle.parts.specs.Parts.{part, put}
 use Rattle.spi.specs.declared.refusal.Refusal.{Refusal}
-use Rattle.spi.specs.declared.ask.Ask.{Ask}
 use Rattle.spi.specs.declared.ask.Answer.{Answer}
 use Rattle.message.specs.Message.{Message, bodyAt, holds, decoding}
 use Rattle.call.specs.declared.Found.{Found}
@@ -43,15 +42,17 @@ use Rattle.reach.specs.Bus.{Bus, stepped}
 use Rattle.history.specs.Command.{Command, HasNext, Peek, Get, started, lent}
 use Rattle.history.specs.History.{Begin, Said, called, Doing, idle, busy, World, hears, heard, isOver, settled, goesOn, event, after}
 use Rattle.history.specs.Demand.{buses, calm, calls, Answers, tells, fetchSaid, all}
-use Rattle.history.proofs.Line.{spoken}
-use Rattle.history.proofs.Asks.{hear-control, hear-status, hear-address, hear-ram, tell-control}
+use Rattle.history.proofs.Line.{world, spoken}
+use Rattle.history.proofs.Asks.{hear-control, hear-status, hear-address, hear-ram, hear-behind, tell-control}
 use Rattle.history.proofs.Replies.{control-stamp, mark-small, fetch-control, fetch-status, fetch-address, fetch-next, fetch-commit}
 use Rattle.history.proofs.Slots.{ram-long, slot-inside}
 use Rattle.history.proofs.Bus.{oldest}
+use Rattle.history.proofs.Fetching.{plain}
 use Rattle.history.proofs.Fetching as reading
 use Rattle.history.proofs.Fetchings.{fetched, fetching, turned, still, over}
-use Rattle.history.proofs.Mid.{Oldest, plain, oldest-later}
-use Rattle.history.proofs.Calm.{world, spokenOf, after-calm, calls-buses, calls-snoc, idle-calm, Fit, step-later, buses-keep, buses-fit, buses-fixed}
+use Rattle.history.proofs.Mid.{Oldest, oldest-later}
+use Rattle.history.proofs.FetchSteps.{by-body}
+use Rattle.history.proofs.Calm.{spokenOf, after-calm, calls-buses, calls-snoc, idle-calm, Fit, step-later, buses-keep, buses-fit, buses-fixed}
 
 -- ---- one exchange of a call, and what is said in the end
 
@@ -88,12 +89,6 @@ start-is Want.Get x n buf = refl
 same-said : (k : Command) (c d e : Model) (n : ℕ) (buf : List ℕ) → c .fixed ≡ d .fixed → fetchSaid k c e n buf ≡ fetchSaid k d e n buf
 unfolding fetchSaid
 same-said k c d e n buf h = rw h
-
--- after the payload a get goes on
-by-body : (P : FetchAt → Type 0) (want : Want) (f : Found) → P (FetchAt.Done f) → (want ≡ Want.Get → P (FetchAt.Next f)) → P (afterBody want f)
-by-body P Want.HasNext f d g = d
-by-body P Want.Peek f d g = d
-by-body P Want.Get f d g = g refl
 
 module _ (want : Want) (n : ℕ) (buf : List ℕ) (p : Plan) (u : Pushes) where
   abbrev k : Command
@@ -200,16 +195,10 @@ module _ (want : Want) (n : ℕ) (buf : List ℕ) (p : Plan) (u : Pushes) where
         room = rw (s .place, s .frozen) at (slot-inside d (ok .sound) n 0 i (omega arith))
 
         decoded : decoding false (stamped fr) (part (d .ram) x (size fr)) ≡ holds m
-        decoded = rw (s .place, s .frozen) at (reading.item-decoded d n m (s .oldest .rx) (s .oldest .item))
+        decoded = rw (s .place, s .frozen) at (reading.item-is d n (s .oldest .rx) ∙ s .oldest .item)
 
         ram : length (d .ram) ≡ 2048
         ram = ram-long d (ok .sound)
-
-        -- bytes behind the slot's beginning
-        hear-behind : (y z : ℕ) → x + y + z ≤ 2048 → z % 4 ≡ 0 → spoken (Ask.Read (x + 0x400 + y) z) [] d ≡ hears Answer.Exchanged (part (d .ram) (x + y) z) d
-        hear-behind y z f four =
-            let e : x + 0x400 + y ≡ x + y + 0x400 = omega arith in
-            ap (λ (a : ℕ). spoken (Ask.Read a z) [] d) e ∙ hear-ram [] d (x + y) z f four
 
       -- a get needs two exchanges more after the payload
       lasts : (r : List (List Bus)) → 2 ≤ length r → (held : List ℕ) → found.messageOf (found.foundOf m) held ≡ m
@@ -234,9 +223,9 @@ module _ (want : Want) (n : ℕ) (buf : List ℕ) (p : Plan) (u : Pushes) where
           let all : List ℕ = fetch.heldOf held rx in
           let e : found.messageOf f all ≡ m = reading.body-held (d .ram) x fr m (ram d t ok s) (room d t ok s) (decoded d t ok s) held in
           then-to r held a d t given rx d (afterBody want f)
-          (hear-behind d t ok s (bodyAt (stamped fr)) len (reading.body-in (d .ram) x fr m (ram d t ok s) (room d t ok s) (decoded d t ok s)) (up-four (length (m .payload))))
+          (hear-behind [] d x (bodyAt (stamped fr)) len (reading.body-in (d .ram) x fr m (ram d t ok s) (room d t ok s) (decoded d t ok s)) (up-four (length (m .payload))))
           (reading.next-body (d .ram) x fr m (ram d t ok s) (room d t ok s) (decoded d t ok s) want (x + 0x400 + bodyAt (stamped fr)))
-          (by-body (λ (to : FetchAt). To r all to rx d t given) want f (gives r all rx d t e)
+          (by-body (λ (to : FetchAt). To r all to rx d t given) want f (λ none. gives r all rx d t e)
           (λ g. runs r all (FetchAt.Next f) rx d t given refl (lasts r (more g) all e d t ok s))))
 
       times : (b b′ : List Bus) (r : List (List Bus)) → Enough r → (held : List ℕ) → stamped fr ≡ true
@@ -248,7 +237,7 @@ module _ (want : Want) (n : ℕ) (buf : List ℕ) (p : Plan) (u : Pushes) where
           (λ d t ok s.
           let rx : List ℕ = part (d .ram) (x + 8) 4 in
           then-to (b′ ∷ r) held a d t given rx d to
-          (hear-behind d t ok s 8 4 (reading.time-in (d .ram) x fr m (ram d t ok s) (room d t ok s) (decoded d t ok s) y) refl)
+          (hear-behind [] d x 8 4 (reading.time-in (d .ram) x fr m (ram d t ok s) (room d t ok s) (decoded d t ok s) y) refl)
           (reading.next-time (d .ram) x fr m (ram d t ok s) (room d t ok s) (decoded d t ok s) want y)
           (runs (b′ ∷ r) held to rx d t given refl (rw y at (bodies b′ r more held d t ok s))))
 

@@ -1,14 +1,13 @@
 -- Each exchange of has-next, peek and get keeps what is true of the world.
 -- Assumes nothing.
-use Prim.Native.Nat.{ℕ, _+_, _-_, _%_, _≤_, _<_}
+use Prim.Native.Nat.{ℕ, _+_, _-_, _≤_, _<_}
 use native.Mathlib.Omega.{arith}
 use borrow.Author.Tests.{ltb-true, ltb-false, lt-ltb}
 use mathlib.Core.Path.{_≡_, refl, sym, ap, subst, _∙_}
 use mathlib.Core.Bool.{Bool, true, false}
-use mathlib.Core.List.{List, [], _∷_, map, append-nil}
-use lib.Dec.{ltb, eqb}
+use mathlib.Core.List.{List, [], _∷_, append-nil}
+use lib.Dec.{ltb}
 use lib.ListN.{length, replicate}
-use Rattle.laws.specs.If.{if_then_else_}
 use Rattle.laws.proofs.Choice.{by-if}
 use Rattle.field.specs.Field.{mark}
 use Rattle.fifo.specs.Control.{CiFIFOCON, UINC, isFifo}
@@ -44,15 +43,15 @@ use Rattle.history.specs.Lists.{only, foundIn, acceptedIn, handedOutIn}
 use Rattle.history.specs.Demand.{Each, TellsWell, NotCaused, Ordinary, Told}
 use Rattle.history.proofs.Sound.{Sound}
 use Rattle.history.proofs.Line.{spoken}
-use Rattle.history.proofs.Bus.{Listed, Moves, oldest, only-none, map-only}
+use Rattle.history.proofs.Bus.{Listed, Moves, oldest, map-only, quiet}
 use Rattle.history.proofs.Slots.{ram-long, slot-inside, less-held}
-use Rattle.history.proofs.Asks.{hear-control, hear-status, hear-address, hear-ram, tell-control}
-use Rattle.history.proofs.Replies.{mark-small, fetch-control, fetch-status, fetch-address, fetch-next, fetch-commit, control-stamp, uinc-written}
+use Rattle.history.proofs.Asks.{hear-control, hear-status, hear-address, hear-ram, hear-behind, tell-control}
+use Rattle.history.proofs.Replies.{Gentle, control-gentle, mark-small, fetch-control, fetch-status, fetch-address, fetch-next, fetch-commit, control-stamp, uinc-written}
+use Rattle.history.proofs.Fetching.{plain}
 use Rattle.history.proofs.Fetching as reading
 use Rattle.history.proofs.Fetchings.{fetched, fetching, turned, failed, still, over}
-use Rattle.history.proofs.Harmless.{Gentle}
-use Rattle.history.proofs.Mid.{sent-gentle, Receives, Some, Oldest, Has, plain, FetchMid}
-use Rattle.history.proofs.Inv.{Lent, fetches, Inv, goes-on, says-more, quiet}
+use Rattle.history.proofs.Mid.{Receives, Some, Oldest, Has, FetchMid}
+use Rattle.history.proofs.Inv.{Lent, fetches, Inv, goes-on, says-more, silent-out}
 use Rattle.history.proofs.Kept.{spoken-sound}
 
 -- ---- what is said
@@ -73,12 +72,6 @@ accepts-none Want.Get n buf o b j = refl
 abbrev GivesNone : Want → ℕ → List ℕ → Outcome → Type 0
 GivesNone want n buf o = (b : List ℕ) (j : ℕ) → handedOutIn j (called (fetched want n buf) o b) ≡ []
 
--- by an outcome without a message
-without-message : (want : Want) (n : ℕ) (buf : List ℕ) (o : Outcome) → ((b : List ℕ) → foundIn o b ≡ []) → GivesNone want n buf o
-without-message Want.HasNext n buf o e b j = refl
-without-message Want.Peek n buf o e b j = refl
-without-message Want.Get n buf o e b j = rw (e b) (only-none j n)
-
 -- ---- by what is wanted
 
 by-status : (P : FetchAt → Type 0) (want : Want) (x : Bool) → ((y : Bool) → P (FetchAt.Told y)) → (x ≡ true → P FetchAt.Address) → (x ≡ false → P FetchAt.Empty)
@@ -88,7 +81,7 @@ by-status P Want.Peek x f g h = by-if P x g h
 by-status P Want.Get x f g h = by-if P x g h
 
 -- only a get goes on, and what does not hands nothing out
-by-body : (P : FetchAt → Type 0) (want : Want) (f : Found) → (((n : ℕ) (buf : List ℕ) (o : Outcome) → GivesNone want n buf o) → P (FetchAt.Done f))
+pub by-body : (P : FetchAt → Type 0) (want : Want) (f : Found) → (((n : ℕ) (buf : List ℕ) (o : Outcome) → GivesNone want n buf o) → P (FetchAt.Done f))
     → (want ≡ Want.Get → P (FetchAt.Next f)) → P (afterBody want f)
 by-body P Want.HasNext f g h = g (λ n buf o b j. refl)
 by-body P Want.Peek f g h = g (λ n buf o b j. refl)
@@ -142,14 +135,14 @@ module _ (c : Model) (o : Sound c) (t : List Said) (l : Listed c t) (e : Each Te
       ends c held rx a o x (quiet c c (saidAt held a) (accepts-none want n buf (found.outcomeAt a held) filled) (y filled) (λ j. refl)) w
 
   refuses : (held rx : List ℕ) (r : Refusal) → NotCaused r → After c held rx (FetchAt.Refused r)
-  refuses held rx r w = shows held rx (FetchAt.Refused r) refl (without-message want n buf (Outcome.Refused r) (λ b. refl)) w
+  refuses held rx r w = shows held rx (FetchAt.Refused r) refl (λ b j. silent-out j k (Outcome.Refused r) b refl) w
 
   empties : (held rx : List ℕ) → After c held rx FetchAt.Empty
-  empties held rx = shows held rx FetchAt.Empty refl (without-message want n buf Outcome.Empty (λ b. refl)) tt
+  empties held rx = shows held rx FetchAt.Empty refl (λ b j. silent-out j k Outcome.Empty b refl) tt
 
   answers : (held rx : List ℕ) (x : Bool) → After c held rx (FetchAt.Told x)
-  answers held rx true = shows held rx (FetchAt.Told true) refl (without-message want n buf Outcome.Yes (λ b. refl)) tt
-  answers held rx false = shows held rx (FetchAt.Told false) refl (without-message want n buf Outcome.No (λ b. refl)) tt
+  answers held rx true = shows held rx (FetchAt.Told true) refl (λ b j. silent-out j k Outcome.Yes b refl) tt
+  answers held rx false = shows held rx (FetchAt.Told false) refl (λ b j. silent-out j k Outcome.No b refl) tt
 
   module _ (i : isFifo n ≡ true) (b : Lent want buf) where
     -- it still asks for something, and nothing of the chip changed
@@ -196,7 +189,7 @@ module _ (c : Model) (o : Sound c) (t : List Said) (l : Listed c t) (e : Each Te
         fr = frozenAt c n
 
         decoded : decoding false (stamped fr) (part (c .ram) slot (size fr)) ≡ holds m
-        decoded = reading.item-decoded c n m (old .rx) (old .item)
+        decoded = reading.item-is c n (old .rx) ∙ old .item
 
         reads-header : Exchanged (FetchAt.Header (slot + 0x400))
         reads-header =
@@ -213,16 +206,10 @@ module _ (c : Model) (o : Sound c) (t : List Said) (l : Listed c t) (e : Each Te
             (λ x. stays held h rx (FetchAt.Time (slot + 0x400 + 8) (plain m)) refl (m, record { oldest = old; place = refl }, refl, x))
             (λ x. stays held h rx (FetchAt.Body (slot + 0x400 + 8) (found.foundOf m)) refl (m, record { oldest = old; place = rw x }, refl)))
 
-        -- bytes behind the slot's beginning
-        hear-behind : (y z : ℕ) → slot + y + z ≤ 2048 → z % 4 ≡ 0 → spoken (Ask.Read (slot + 0x400 + y) z) [] c ≡ hears Answer.Exchanged (part (c .ram) (slot + y) z) c
-        hear-behind y z f four =
-            let a : slot + 0x400 + y ≡ slot + y + 0x400 = omega arith in
-            ap (λ (x : ℕ). spoken (Ask.Read x z) [] c) a ∙ hear-ram [] c (slot + y) z f four
-
         reads-time : stamped fr ≡ true → Exchanged (FetchAt.Time (slot + 0x400 + 8) (plain m))
         reads-time x =
             rw (turned want n held (FetchAt.Time (slot + 0x400 + 8) (plain m)) p u t k c _ _ _
-            (hear-behind 8 4 (reading.time-in (c .ram) slot fr m (ram-long c o) room decoded x) refl)
+            (hear-behind [] c slot 8 4 (reading.time-in (c .ram) slot fr m (ram-long c o) room decoded x) refl)
             (reading.next-time (c .ram) slot fr m (ram-long c o) room decoded want x))
             (stays held h _ (FetchAt.Body (slot + 0x400 + 12) (found.foundOf m)) refl (m, record { oldest = old; place = rw x }, refl))
 
@@ -232,7 +219,7 @@ module _ (c : Model) (o : Sound c) (t : List Said) (l : Listed c t) (e : Each Te
             let rx : List ℕ = part (c .ram) (slot + bodyAt (stamped fr)) len in
             let all : List ℕ = fetch.heldOf held rx in
             rw (turned want n held (FetchAt.Body (slot + 0x400 + bodyAt (stamped fr)) (found.foundOf m)) p u t k c rx c (afterBody want (found.foundOf m))
-            (hear-behind (bodyAt (stamped fr)) len (reading.body-in (c .ram) slot fr m (ram-long c o) room decoded) (up-four (length (m .payload))))
+            (hear-behind [] c slot (bodyAt (stamped fr)) len (reading.body-in (c .ram) slot fr m (ram-long c o) room decoded) (up-four (length (m .payload))))
             (reading.next-body (c .ram) slot fr m (ram-long c o) room decoded want (slot + 0x400 + bodyAt (stamped fr))))
             (by-body (After c all rx) want (found.foundOf m)
             (λ none. shows all rx (FetchAt.Done (found.foundOf m)) refl (none n buf _) tt)
@@ -243,7 +230,7 @@ module _ (c : Model) (o : Sound c) (t : List Said) (l : Listed c t) (e : Each Te
           reads-next : Exchanged (FetchAt.Next f)
           reads-next =
               rw (turned want n held (FetchAt.Next f) p u t k c _ _ _ (hear-control [] c n i) (fetch-next want f (wordOf c (Register.Control n))))
-              (stays held h _ (FetchAt.Commit _ f) refl (m, has, sent-gentle c n o))
+              (stays held h _ (FetchAt.Commit _ f) refl (m, has, control-gentle c n o))
 
           -- what is said is the message, its payload in the buffer
           hands-out : (j : ℕ) → handedOutIn j (saidAt held (FetchAt.Done f)) ≡ only j n (m ∷ [])

@@ -6,15 +6,13 @@ use native.Mathlib.Omega.{arith}
 use mathlib.Core.Path.{_≡_, refl, sym, ap, _∙_}
 use mathlib.Core.Bool.{Bool, true, false}
 use mathlib.Core.List.{List, [], _∷_, _++_}
-use lib.Dec.{eqb}
 use lib.ListN.{length, getD, take, drop, length-append, length-take, length-drop}
 use lib.Seq.{take-take, take-append-le, take-append-seam, drop-drop, getD-take, getD-drop}
-use borrow.Author.Tests.{eq-eqb, eqb-true, le-leb}
+use borrow.Author.Tests.{eq-eqb, le-leb}
 use Rattle.laws.specs.If.{if_then_else_}
 use Rattle.laws.proofs.Table.{at}
 use Rattle.field.specs.Field.{read, flag}
-use Rattle.field.proofs.Laws.{field-lt}
-use Rattle.fifo.specs.Control.{RXTSEN, PLSIZE, payloads, payloadOf}
+use Rattle.fifo.specs.Control.{RXTSEN, payloadOf}
 use Rattle.words.specs.Words.{leBytes, leAt, roundUp}
 use Rattle.words.proofs.Laws.{up-le}
 use Rattle.parts.specs.Parts.{part, put}
@@ -44,6 +42,7 @@ use Rattle.rx_fifo.specs.Step.{heldOf}
 use Rattle.rx_fifo.specs.Outcome.{messageOf, foundOf, filled}
 use Rattle.rx_fifo.proofs.Objects.{range-is}
 use Rattle.history.proofs.Bytes.{length-part}
+use Rattle.history.proofs.Bus.{payload-whole}
 use Rattle.history.proofs.Replies.{word-said}
 
 -- a choice, each way of which is known by its test
@@ -86,10 +85,6 @@ pair-given : (l : List ℕ) (a : ℕ) → a + 8 ≤ length l → pairReply Refus
 pair-given l a h = rw (length-part l a 8 h, le-part l a 8 0 a (omega arith) (omega arith), le-part l a 8 4 (a + 4) (omega arith) refl)
 
 -- ---- the room for a payload
-
-payload-four : (w : ℕ) → payloadOf w % 4 ≡ 0
-unfolding payloadOf
-payload-four w = eqb-true _ _ (at (λ n. eqb (getD payloads n 0 % 4) 0) 8 refl (read PLSIZE w) (field-lt w 29 3))
 
 -- a slot has room for what comes before the payload, and for the payload
 body-size : (w : ℕ) → size w ≡ bodyAt (stamped w) + payloadOf w
@@ -149,11 +144,10 @@ held-length held rx e = simp (length-append, length-take, length-drop) (omega (a
 -- ---- a slot whose bytes hold a message
 
 -- the oldest message of a FIFO that receives
-pub item-decoded : (c : Model) (n : ℕ) (m : Message) → sending (frozenAt c n) ≡ false → itemAt c n 0 ≡ holds m
-    → decoding false (stamped (frozenAt c n)) (part (c .ram) (slotOf c n 0) (size (frozenAt c n))) ≡ holds m
+pub item-is : (c : Model) (n : ℕ) → sending (frozenAt c n) ≡ false
+    → decoding false (stamped (frozenAt c n)) (part (c .ram) (slotOf c n 0) (size (frozenAt c n))) ≡ itemAt c n 0
 unfolding itemAt
-item-decoded c n m e h =
-    ap (λ (t : Bool). decoding t (stamped (frozenAt c n)) (part (c .ram) (slotOf c n 0) (size (frozenAt c n)))) (sym e) ∙ h
+item-is c n e = rw e
 
 -- its slot begins at place x of RAM l, fr being the control word that fixes the slot's size
 module _ (l : List ℕ) (x fr : ℕ) (m : Message) (long : length l ≡ 2048) (room : x + size fr ≤ 2048)
@@ -178,7 +172,7 @@ module _ (l : List ℕ) (x fr : ℕ) (m : Message) (long : length l ≡ 2048) (r
 
   -- the payload is within the slot, also where it is rounded up
   pub object-inside : bodyAt (stamped fr) + roundUp (length (m .payload)) ≤ size fr
-  object-inside = omega (arith, inside, body-size fr, payload-four fr)
+  object-inside = omega (arith, inside, body-size fr, payload-whole fr)
 
   pub seq-none : m .seq ≡ 0
   unfolding messageIn

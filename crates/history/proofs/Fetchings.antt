@@ -1,12 +1,9 @@
 -- Has-next, peek and get: what each asks, where an answer takes it, and what is said when it is over.
 -- Assumes nothing.
 use Prim.Native.Nat.{ℕ}
-use mathlib.Core.Path.{_≡_, refl, ap, _∙_}
-use mathlib.Core.Bool.{Bool, true, false}
+use mathlib.Core.Path.{_≡_, refl, _∙_}
+use mathlib.Core.Bool.{true, false}
 use mathlib.Core.List.{List, [], _∷_, _++_}
-use lib.ListN.{length}
-use Rattle.spi.specs.declared.refusal.Refusal.{Refusal}
-use Rattle.spi.specs.declared.ask.Ask.{Ask}
 use Rattle.spi.specs.declared.ask.Answer.{Answer}
 use Rattle.call.specs.declared.Outcome.{Outcome}
 use Rattle.plan.specs.declared.plan.Plan.{Plan}
@@ -24,7 +21,7 @@ use Rattle.driver.specs.Send.{bodyOf}
 use Rattle.state.specs.declared.Model.{Model}
 use Rattle.history.specs.Command.{Command, HasNext, Peek, Get, lent}
 use Rattle.history.proofs.Line.{spoken, turns, fails}
-use Rattle.history.specs.History.{Said, called, Doing, idle, busy, World, Heard, hears, heard, waits, isOver, halfway, settled, goesOn}
+use Rattle.history.specs.History.{Said, called, idle, busy, hears, heard, waits, isOver, halfway, settled, goesOn}
 
 -- what is called
 abbrev pub fetched : Want → ℕ → List ℕ → Command

@@ -12,21 +12,18 @@ use Rattle.laws.specs.If.{if_then_else_}
 use Rattle.laws.proofs.Choice.{by-if}
 use Rattle.field.specs.Field.{flag, read}
 use Rattle.words.specs.Words.{leAt}
-use Rattle.parts.specs.Parts.{part}
 use Rattle.header.specs.Header.{DLC, FDF}
 use Rattle.header.proofs.Dlcs.{length-le}
 use Rattle.message.specs.Message.{Message, bodyAt, Decoding, holds, bad, short, messageIn, decoding}
 use Rattle.message.proofs.Round.{Held, is-held}
 use Rattle.ring.specs.Ring.{sending}
-use Rattle.ring.specs.Layout.{stamped, size}
-use Rattle.state.specs.declared.Model.{Model}
 use Rattle.state.specs.Model.{fifoAt, frozenAt}
-use Rattle.bus.specs.Held.{slotOf, itemAt}
+use Rattle.bus.specs.Held.{itemAt}
 use Rattle.history.specs.Command.{Get}
 use Rattle.history.specs.History.{Said}
 use Rattle.history.specs.Lists.{handedOutIn}
 use Rattle.history.specs.Demand.{tells, fetchSaid, GotIff}
-use Rattle.history.proofs.Fetching.{put-message}
+use Rattle.history.proofs.Fetching.{put-message, item-is}
 
 -- a message received has SEQ 0 and no more than 64 bytes, so it comes back out of the lent buffer
 module _ (n : ℕ) (buf : List ℕ) where
@@ -57,15 +54,9 @@ module _ (n : ℕ) (buf : List ℕ) where
   out-only y b (bad r) e m h = absurd (out-none m h)
   out-only y b short e m h = absurd (out-none m h)
 
--- the oldest of a FIFO that receives
-item-is : (d : Model) (n : ℕ) → sending (frozenAt d n) ≡ false
-    → decoding false (stamped (frozenAt d n)) (part (d .ram) (slotOf d n 0) (size (frozenAt d n))) ≡ itemAt d n 0
-unfolding itemAt
-item-is d n e = rw e
-
 pub got-iff : GotIff
 unfolding fetchSaid
-got-iff c d fixed n buf m long = (to, from)
+got-iff c d fixed n buf m = (to, from)
   where
     Good : Type 0
     Good = (sending (frozenAt c n) ≡ false) × (0 < fifoAt d n .count) × (itemAt d n 0 ≡ holds m)

@@ -4,14 +4,11 @@ use Prim.Native.Nat.{ℕ, zero, suc, _-_, _%_, _^_, _<_}
 use mathlib.Core.Path.{_≡_, ap, _∙_}
 use mathlib.Core.Bool.{true, false}
 use mathlib.Core.List.{List, [], _∷_, _++_}
-use native.Mathlib.Nat.{mod-lt}
-use native.Mathlib.Omega.{arith}
 use lib.Dec.{eqb}
 use lib.ListN.{length, drop, replicate}
 use Rattle.laws.proofs.Choice.{by-if}
-use Rattle.field.specs.Field.{read}
 use Rattle.words.specs.Words.{leBytes, leAt}
-use Rattle.fifo.specs.Control.{CiFIFOCON, UINC, FRESET, isFifo}
+use Rattle.fifo.specs.Control.{CiFIFOCON, isFifo}
 use Rattle.operation.specs.declared.place.Register.{Register}
 use Rattle.operation.specs.declared.place.Place.{Place}
 use Rattle.operation.specs.Place.{registerAt}
@@ -32,7 +29,7 @@ use Rattle.plan.specs.declared.plan.Move.{Move}
 use Rattle.plan.specs.Change.{modified}
 use Rattle.plan.specs.Item.{shown}
 use Rattle.plan.specs.Step.{begun, afterPoll, stopped, nextAt, placeFrom, standing, arrivedAt, slots, filled, planOf, refusedPlan, movedTo, stepOf}
-use Rattle.history.proofs.Replies.{le-said}
+use Rattle.history.proofs.Replies.{Gentle, le-said}
 
 -- ---- what is harmless
 
@@ -55,12 +52,6 @@ pub record Aside (a : ℕ) : Type 0 where
   pub setup : Setup register
   pub outside : inRam a 4 ≡ false
   pub small : a < 2 ^ 12
-
--- a word with UINC and FRESET at 0
-pub record Gentle (w : ℕ) : Type 0 where
-  pub small : w < 2 ^ 32
-  pub uinc : read UINC w ≡ 0
-  pub freset : read FRESET w ≡ 0
 
 -- a is the address of such a register, or of a FIFO's control with P to hold
 pub data Spares (a : ℕ) (P : Type 0) : Type 0 where
@@ -151,8 +142,7 @@ refused-harmless r = record { items = nothing-harmless 15; at = tt }
 pub record Fairly (rx : List ℕ) : Type 0 where
   pub word : ℕ
   pub bytes : rx ≡ leBytes word
-  pub uinc : read UINC (word % 2 ^ 32) ≡ 0
-  pub freset : read FRESET (word % 2 ^ 32) ≡ 0
+  pub gentle : Gentle (word % 2 ^ 32)
 
 abbrev pub FairAnswer : Answer → List ℕ → Type 0
 FairAnswer Answer.Exchanged rx = Fairly rx
@@ -176,7 +166,7 @@ Fair p a rx = FairAt (p .at) a rx
 gentle-bytes : (rx : List ℕ) → Fairly rx → Gentle (leAt rx 0)
 gentle-bytes rx h =
     let e : leAt rx 0 ≡ h .word % 2 ^ 32 = ap (λ (s : List ℕ). leAt s 0) (h .bytes) ∙ le-said (h .word) in
-    record { small = rw e (mod-lt (h .word) (omega arith)); uinc = rw e (h .uinc); freset = rw e (h .freset) }
+    rw e (h .gentle)
 
 -- where an answer leads to
 abbrev HarmlessMove : Move → Type 0

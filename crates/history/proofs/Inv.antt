@@ -1,16 +1,14 @@
 -- What is true of the world after every event of a history.
 -- Assumes nothing.
 use Prim.Native.Nat.{ℕ, _≤_}
-use mathlib.Core.Path.{_≡_, refl, sym, ap, _∙_}
+use mathlib.Core.Path.{_≡_, refl}
 use mathlib.Core.Bool.{Bool, true, false}
-use mathlib.Core.List.{List, [], _∷_, _++_, map, append-nil}
-use lib.Dec.{eqb}
+use mathlib.Core.List.{List, [], _∷_, _++_}
 use lib.ListN.{length}
-use Rattle.laws.specs.If.{if_then_else_}
 use Rattle.fifo.specs.Control.{isFifo}
 use Rattle.spi.specs.declared.refusal.Refusal.{Refusal}
 use Rattle.header.specs.declared.Header.{Header}
-use Rattle.message.specs.Message.{Message, Encoding, encoding, holds}
+use Rattle.message.specs.Message.{Message, Encoding, encoding}
 use Rattle.call.specs.declared.Outcome.{Outcome}
 use Rattle.plan.specs.declared.plan.Plan.{Plan}
 use Rattle.plan.specs.Step as plan
@@ -18,21 +16,18 @@ use Rattle.tx_fifo.specs.declared.push.Push.{Push as Pushes}
 use Rattle.tx_fifo.specs.declared.push.PushAt.{PushAt}
 use Rattle.tx_fifo.specs.Step.{toSend}
 use Rattle.transmit.specs.Transmit.{requestStart}
-use Rattle.register.specs.declared.RegisterCall.{RegisterCall}
-use Rattle.ram.specs.declared.RamCall.{RamCall}
 use Rattle.fetch.specs.declared.Want.{Want}
 use Rattle.fetch.specs.declared.FetchAt.{FetchAt}
 use Rattle.rx_fifo.specs.declared.Fetch.{Fetch}
-use Rattle.driver.specs.declared.calls.CallAt.{CallAt}
 use Rattle.driver.specs.declared.calls.Call.{Call}
 use Rattle.state.specs.declared.Model.{Model}
 use Rattle.bus.specs.Held.{held}
 use Rattle.history.specs.Command.{Command, Push, Transmit, Request, HasNext, Peek, Get, Reading, Configuring, Look, Setting}
 use Rattle.history.specs.History.{Said, called, Doing, idle, busy, World, isOver}
-use Rattle.history.specs.Lists.{only, doneWith, foundIn, acceptedIn, handedOutIn}
-use Rattle.history.specs.Demand.{Each, TellsWell, Told}
+use Rattle.history.specs.Lists.{doneWith, foundIn, acceptedIn, handedOutIn}
+use Rattle.history.specs.Demand.{Each, TellsWell}
 use Rattle.history.proofs.Sound.{Sound}
-use Rattle.history.proofs.Bus.{Listed, Moves, lists-snoc, Later, only-none}
+use Rattle.history.proofs.Bus.{Listed, Moves, lists-snoc, Later, only-none, quiet}
 use Rattle.history.proofs.Harmless.{Harmless}
 use Rattle.history.proofs.Requests.{Requests}
 use Rattle.history.proofs.Looks.{LooksAt}
@@ -104,7 +99,7 @@ silent-in j (Get n b) o buf h = refl
 silent-in j (Reading x) o buf h = refl
 silent-in j (Configuring x) o buf h = refl
 
-silent-out : (j : ℕ) (k : Command) (o : Outcome) (buf : List ℕ) → foundIn o buf ≡ [] → handedOutIn j (called k o buf) ≡ []
+pub silent-out : (j : ℕ) (k : Command) (o : Outcome) (buf : List ℕ) → foundIn o buf ≡ [] → handedOutIn j (called k o buf) ≡ []
 silent-out j (Push n header seq payload) o buf h = refl
 silent-out j (Transmit n header seq payload) o buf h = refl
 silent-out j (Request n) o buf h = refl
@@ -113,10 +108,6 @@ silent-out j (Peek n b) o buf h = refl
 silent-out j (Get n b) o buf h = rw h (only-none j n)
 silent-out j (Reading x) o buf h = refl
 silent-out j (Configuring x) o buf h = refl
-
--- what is said moves no message, and nothing held changed
-pub quiet : (c d : Model) (x : Said) → ((j : ℕ) → acceptedIn j x ≡ []) → ((j : ℕ) → handedOutIn j x ≡ []) → ((j : ℕ) → held d j ≡ held c j) → Moves c x d
-quiet c d x a b h j i = rw (a j, b j, h j) (append-nil (held c j))
 
 -- a refusal
 pub quiet-refusal : (c : Model) (k : Command) (r : Refusal) (buf : List ℕ) → Moves c (called k (Outcome.Refused r) buf) c

@@ -28,3 +28,4 @@ pub mod GotIff
 pub mod PeekKeeps
 pub mod PushFails
 pub mod Theorem
+pub mod Example

@@ -14,7 +14,10 @@ use Rattle.driver.specs.Send.{bodyOf}
 use Rattle.state.specs.declared.Model.{Model}
 use Rattle.model.specs.Exchange.{Done, exchange}
 use Rattle.history.specs.Command.{Command}
-use Rattle.history.specs.History.{Said, World, Heard, hears, byReply, answered, waits, heard, settled, goesOn}
+use Rattle.history.specs.History.{Said, Doing, World, Heard, hears, byReply, answered, waits, heard, settled, goesOn}
+
+abbrev pub world : Model → Doing → List Said → World
+world c d t = record { chip = c; doing = d; said = t }
 
 -- what came of an exchange
 abbrev pub hearing : Done → Heard

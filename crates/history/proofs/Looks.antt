@@ -150,26 +150,20 @@ look-starts (Look.Checked a) = checked-looks a
 look-starts Look.OpMode = tt
 look-starts (Look.Ram a place count buf) = ram-looks a (length buf) place count
 
-at-steps : (at : CallAt) (s : Call) (a : Answer) (rx : List ℕ) → LooksAt at → LooksAt (stepAt at s a rx .at)
-at-steps (CallAt.Register r) s a rx h = step-looks r a rx h
-at-steps (CallAt.Ram r) s a rx h = step-looks-ram r a rx h
-at-steps CallAt.Plan s a rx h = absurd h
-at-steps CallAt.Push s a rx h = absurd h
-at-steps CallAt.Transmit s a rx h = absurd h
-at-steps CallAt.Fetch s a rx h = absurd h
+-- it reads a register or RAM
+by-look : (P : CallAt → Type 0) → ((r : RegisterCall) → Looks r → P (CallAt.Register r)) → ((r : RamCall) → LooksRam r → P (CallAt.Ram r))
+    → (at : CallAt) → LooksAt at → P at
+by-look P f g (CallAt.Register r) h = f r h
+by-look P f g (CallAt.Ram r) h = g r h
+by-look P f g CallAt.Plan h = absurd h
+by-look P f g CallAt.Push h = absurd h
+by-look P f g CallAt.Transmit h = absurd h
+by-look P f g CallAt.Fetch h = absurd h
 
 pub look-steps : (s : Call) (a : Answer) (rx : List ℕ) → LooksAt (s .at) → LooksAt (stepOf s a rx .at)
 unfolding stepOf
-look-steps s a rx h = at-steps (s .at) s a rx h
-
-at-keeps : (at : CallAt) (s : Call) (b : List ℕ) (c : Model) → LooksAt at → spoken (askAt at s) b c .chip ≡ c
-at-keeps (CallAt.Register r) s b c h = looks-keeps r b c h
-at-keeps (CallAt.Ram r) s b c h = looks-keeps-ram r b c h
-at-keeps CallAt.Plan s b c h = absurd h
-at-keeps CallAt.Push s b c h = absurd h
-at-keeps CallAt.Transmit s b c h = absurd h
-at-keeps CallAt.Fetch s b c h = absurd h
+look-steps s a rx = by-look (λ at. LooksAt (stepAt at s a rx .at)) (λ r. step-looks r a rx) (λ r. step-looks-ram r a rx) (s .at)
 
 pub look-keeps : (s : Call) (b : List ℕ) (c : Model) → LooksAt (s .at) → spoken (askOf s) b c .chip ≡ c
 unfolding askOf
-look-keeps s b c h = at-keeps (s .at) s b c h
+look-keeps s b c = by-look (λ at. spoken (askAt at s) b c .chip ≡ c) (λ r. looks-keeps r b c) (λ r. looks-keeps-ram r b c) (s .at)

@@ -1,51 +1,28 @@
 -- What a call under way knows of the chip, and that no bus step takes it away.
 -- Assumes nothing.
-use Prim.Native.Nat.{ℕ, _+_, _%_, _^_, _≤_, _<_}
-use native.Mathlib.Nat.{mod-lt}
+use Prim.Native.Nat.{ℕ, _+_, _≤_, _<_}
 use native.Mathlib.Omega.{arith}
-use lib.Pow.{pow-pos}
-use mathlib.Core.Path.{_≡_, refl, sym, ap, _∙_}
-use mathlib.Core.Bool.{Bool, true, false}
+use mathlib.Core.Path.{_≡_, sym, ap, _∙_}
+use mathlib.Core.Bool.{true, false}
 use mathlib.Core.List.{List}
 use lib.ListN.{length}
 use Rattle.fifo.specs.Control.{isFifo}
-use Rattle.parts.specs.Parts.{part}
 use Rattle.header.specs.declared.Header.{Header}
-use Rattle.message.specs.declared.object.Stamp.{Stamp}
-use Rattle.message.specs.Message.{Message, Encoding, encoding, bodyAt, Decoding, holds, decoding}
+use Rattle.message.specs.Message.{Message, bodyAt, holds}
 use Rattle.call.specs.declared.Found.{Found}
-use Rattle.plan.specs.declared.plan.Plan.{Plan}
-use Rattle.tx_fifo.specs.declared.push.Push.{Push as Pushes}
 use Rattle.tx_fifo.specs.declared.push.PushAt.{PushAt}
-use Rattle.tx_fifo.specs.Step.{toSend}
-use Rattle.transmit.specs.Transmit.{requestStart}
-use Rattle.register.specs.declared.RegisterCall.{RegisterCall}
-use Rattle.ram.specs.declared.RamCall.{RamCall}
 use Rattle.fetch.specs.declared.Want.{Want}
 use Rattle.fetch.specs.declared.FetchAt.{FetchAt}
-use Rattle.rx_fifo.specs.declared.Fetch.{Fetch}
 use Rattle.rx_fifo.specs.Outcome.{messageOf, foundOf}
-use Rattle.driver.specs.declared.calls.CallAt.{CallAt}
-use Rattle.driver.specs.declared.calls.Call.{Call}
 use Rattle.ring.specs.Ring.{sending, depth}
 use Rattle.ring.specs.Layout.{stamped, size}
 use Rattle.state.specs.declared.Model.{Model}
 use Rattle.state.specs.Model.{fifoAt, frozenAt}
-use Rattle.operation.specs.declared.place.Register.{Register}
-use Rattle.bank.specs.Registers.{wordOf}
 use Rattle.bus.specs.Held.{slotOf, itemAt}
-use Rattle.history.specs.Command.{Command, Push, Transmit, Request, HasNext, Peek, Get, Reading, Configuring, Look, Setting}
-use Rattle.history.specs.History.{Doing, idle, busy}
-use Rattle.history.proofs.Sound.{Sound}
+use Rattle.history.specs.Command.{Get}
 use Rattle.history.proofs.Bus.{Later}
-use Rattle.history.proofs.Replies.{control-uinc, control-freset}
-use Rattle.history.proofs.Harmless.{Gentle, Harmless}
-use Rattle.history.proofs.Pushing.{commanded, pushing}
-use Rattle.history.proofs.Fetchings.{fetched, fetching}
-
--- a control word as it is read
-pub sent-gentle : (c : Model) (n : ℕ) → Sound c → Gentle (wordOf c (Register.Control n) % 2 ^ 32)
-sent-gentle c n o = record { small = mod-lt (wordOf c (Register.Control n)) (pow-pos 32); uinc = control-uinc c n o; freset = control-freset c n o }
+use Rattle.history.proofs.Fetching.{plain}
+use Rattle.history.proofs.Replies.{Gentle}
 
 -- ---- a push
 
@@ -80,10 +57,6 @@ pub record Oldest (c : Model) (n : ℕ) (m : Message) : Type 0 where
   pub rx : Receives c n
   pub some : Some c n
   pub item : itemAt c n 0 ≡ holds m
-
--- what the header's words say of a message
-abbrev pub plain : Message → Found
-plain m = record { header = m .header; stamp = Stamp.None; len = length (m .payload) }
 
 -- a message was found, and f is what is known of it; x is where its bytes are read, so far behind the slot's beginning
 pub record Reads (c : Model) (n x behind : ℕ) (m : Message) : Type 0 where

@@ -39,10 +39,11 @@ use Rattle.reach.specs.Bus.{Bus}
 use Rattle.history.specs.Command.{Peek}
 use Rattle.history.specs.History.{Begin, Said, Doing, idle, busy, World, Heard, answered, heard, isOver, settled, event, after}
 use Rattle.history.specs.Demand.{buses, calm, all}
+use Rattle.history.proofs.Line.{world}
 use Rattle.history.proofs.Asks.{hear-keeps}
 use Rattle.history.proofs.PlanAsks.{nothing-keeps}
 use Rattle.history.proofs.Fetchings.{fetching}
-use Rattle.history.proofs.Calm.{world, spokenOf, after-calm, buses-append}
+use Rattle.history.proofs.Calm.{spokenOf, after-calm, buses-append}
 
 -- ---- where a peek gets to
 

@@ -24,12 +24,12 @@ use Rattle.plan.specs.declared.plan.Plan.{Plan}
 use Rattle.plan.specs.Item.{addressOf}
 use Rattle.plan.specs.Step.{askAt, askOf}
 use Rattle.history.specs.History.{Heard}
-use Rattle.history.proofs.Harmless.{Setup, Aside, Gentle, aside, control as controls, HarmlessWrite, HarmlessAt, Harmless, Fairly, FairAnswer, FairAt, Fair}
+use Rattle.history.proofs.Harmless.{Setup, Aside, aside, control as controls, HarmlessWrite, HarmlessAt, Harmless, FairAnswer, FairAt, Fair}
 use Rattle.history.proofs.Sound.{Sound}
 use Rattle.history.proofs.Line.{spoken}
 use Rattle.history.proofs.Kept.{heard-chip}
 use Rattle.history.proofs.Asks.{does, hear-control, tell-control, hear-keeps}
-use Rattle.history.proofs.Replies.{control-uinc, control-freset}
+use Rattle.history.proofs.Replies.{Gentle, control-gentle}
 
 -- where nothing is asked nothing is sent
 module _ (b : List ℕ) (c : Model) where
@@ -92,16 +92,12 @@ module _ (b : List ℕ) (c : Model) where
 
 -- ---- what a plan hears is fair
 
--- of a chip outside Configuration UINC and FRESET read 0, by four bytes too
-control-fair : (c : Model) (n : ℕ) → Sound c → Fairly (leBytes (wordOf c (Register.Control n)))
-control-fair c n s = record { word = wordOf c (Register.Control n); bytes = refl; uinc = control-uinc c n s; freset = control-freset c n s }
-
 module _ (b : List ℕ) (c : Model) (s : Sound c) where
   at-fair : (at : PlanAt) → FairAt at (spoken (askAt at) b c .answer) (spoken (askAt at) b c .rx)
   at-fair (PlanAt.Read x) = λ n i e.
       subst (λ (h : Heard). FairAnswer (h .answer) (h .rx))
       (sym (ap (λ (a : ℕ). spoken (Ask.Read a 4) b c) e ∙ hear-control b c n i))
-      (control-fair c n s)
+      (record { word = wordOf c (Register.Control n); bytes = refl; gentle = control-gentle c n s })
   at-fair (PlanAt.Write a w) = tt
   at-fair (PlanAt.Poll p more) = tt
   at-fair (PlanAt.Wait p more) = tt

@@ -24,7 +24,7 @@ use Rattle.history.specs.History.{Said, called, idle, Heard, heard, isOv
 use Rattle.history.specs.Lists.{acceptedIn, handedOutIn}
 use Rattle.history.specs.Demand.{Each, TellsWell, Told}
 use Rattle.history.proofs.Sound.{Sound}
-use Rattle.history.proofs.Bus.{Listed}
+use Rattle.history.proofs.Bus.{Listed, quiet}
 use Rattle.history.proofs.Line.{heard-by}
 use Rattle.history.proofs.Kept.{spoken-sound}
 use Rattle.history.proofs.Slots.{setup-held, kept-held}
@@ -35,7 +35,7 @@ use Rattle.history.proofs.PlanAsks.{Effect, none, setup, commands, plan
 use Rattle.history.proofs.Requests.{Requests, fails, request-starts, request-answered, request-failed, request-asks, request-ordinary}
 use Rattle.history.proofs.Looks.{LooksAt, look-starts, look-steps, look-keeps}
 use Rattle.history.proofs.Planning.{planned, Ready, asks, steps, outcomes}
-use Rattle.history.proofs.Inv.{Mid, requests, configures, looks, Inv, quiet, goes-on, says-more}
+use Rattle.history.proofs.Inv.{Mid, requests, configures, looks, Inv, goes-on, says-more}
 
 -- ---- what a plan does changes nothing that is held
 

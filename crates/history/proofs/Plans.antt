@@ -45,7 +45,8 @@ use Rattle.areas.proofs.Tests.{transmit-told, fifo-told}
 use Rattle.adjust.specs.Calls.{failed, oscillatorItems, timingItems, filterItems, configureOsc, configureBitTiming, configureFifo, disableFilter, configureFilter}
 use Rattle.transmit.specs.Transmit.{requestChange, requestStart}
 use Rattle.history.specs.Command.{Setting, Fifo, Filter, FilterOff, Osc, Io, BitTiming, sets}
-use Rattle.history.proofs.Harmless.{Setup, Aside, Gentle, aside, control, HarmlessChange, HarmlessItem, Harmless, plan-harmless, refused-harmless}
+use Rattle.history.proofs.Replies.{Gentle}
+use Rattle.history.proofs.Harmless.{Setup, Aside, aside, control, HarmlessChange, HarmlessItem, Harmless, plan-harmless, refused-harmless}
 
 -- ---- control words: fields other than UINC and FRESET are set
 
@@ -153,10 +154,13 @@ timing-harmless : (b : BitTimeConfiguration) → Spare (configureBitTiming b)
 unfolding configureBitTiming
 timing-harmless b =
     by-if Spare (timingFits b)
-    (λ e. plan-harmless failed (timingItems b)
-    (aside (low-aside (CiNBTCFG .address 0) (Register.Plain 0) (all-carried .nominal) tt (omega arith)),
-    (aside (low-aside (CiDBTCFG .address 0) (Register.Plain 1) (all-carried .data-phase) tt (omega arith)),
-    (aside (low-aside (CiTDC .address 0) (Register.Plain 2) (all-carried .delay) tt (omega arith)), tt))))
+    (λ e. plan-harmless failed (timingItems b) (
+      aside (low-aside (CiNBTCFG .address 0) (Register.Plain 0) (all-carried .nominal) tt (omega arith)),
+      (
+        aside (low-aside (CiDBTCFG .address 0) (Register.Plain 1) (all-carried .data-phase) tt (omega arith)),
+        (aside (low-aside (CiTDC .address 0) (Register.Plain 2) (all-carried .delay) tt (omega arith)), tt),
+      ),
+    ))
     (λ e. refused-harmless Refusal.BadSetting)
 
 pub set-harmless : (x : Setting) → Harmless (planFor (sets x))

@@ -40,16 +40,16 @@ use Rattle.history.specs.Command.{Command, Push, Transmit, Request, star
 use Rattle.history.specs.History.{Event, Begin, Fail, On, Said, called, Doing, idle, busy, World, hears, waits, settled, event, after}
 use Rattle.history.specs.Lists.{doneWith, acceptedIn}
 use Rattle.history.specs.Demand.{buses, calm, calls, Answers, WellFormed, pushAnswer, PushedIff}
-use Rattle.history.proofs.Line.{spoken}
-use Rattle.history.proofs.Slots.{filled-held, filled-sound}
+use Rattle.history.proofs.Line.{world, spoken}
+use Rattle.history.proofs.Slots.{filled, filled-held, filled-sound}
 use Rattle.history.proofs.Asks.{hear-control, hear-status, hear-address}
-use Rattle.history.proofs.Replies.{next-control, next-status, next-address}
+use Rattle.history.proofs.Replies.{control-gentle, next-control, next-status, next-address}
 use Rattle.history.proofs.Requests.{requesting, request-begins, request-read, read-failed, write-failed}
 use Rattle.history.proofs.Planning as planning
 use Rattle.history.proofs.Pushing.{commanded, pushAt, pushing, turned, still, refused, done, half}
-use Rattle.history.proofs.Mid.{sent-gentle, Tx, PushMid}
-use Rattle.history.proofs.PushSteps.{object-fits, encoded-for, starting, filled, inside, object-told, object-mid, uinc-told}
-use Rattle.history.proofs.Calm.{world, spokenOf, after-append, after-buses, after-calm, calls-buses, calls-snoc, idle-calm, Fit, buses-fit, buses-fixed, buses-push}
+use Rattle.history.proofs.Mid.{Tx, PushMid}
+use Rattle.history.proofs.PushSteps.{object-fits, encoded-for, starting, inside, object-told, object-mid, uinc-told}
+use Rattle.history.proofs.Calm.{spokenOf, after-append, after-buses, after-calm, calls-buses, calls-snoc, idle-calm, Fit, buses-fit, buses-fixed, buses-push}
 
 -- ---- exchange by exchange
 
@@ -167,7 +167,7 @@ module _ (also : Bool) (n : ℕ) (header : Header) (seq : ℕ) (payload bs : Lis
 
       control-knows : Tx (buses b c) n bs (control % 2 ^ 32)
       control-knows = record {
-        word = sent-gentle (buses b c) n (buses-fit b c t g .sound);
+        word = control-gentle (buses b c) n (buses-fit b c t g .sound);
         tx = rw frozen-stays x;
         fits = rw frozen-stays (object-fits c n header seq payload bs coded x y);
       }
@@ -272,8 +272,7 @@ module _ (c d : Model) (n : ℕ) (payload : List ℕ) where
 pub pushed-iff : PushedIff
 pushed-iff c d n header seq payload =
     let m : Message = push.toSend header seq payload in
-    let one : (o : Outcome) → acceptedIn n (called (Push n header seq payload) o []) ≡ doneWith o m = λ o. rw (eq-eqb n n refl) in
-    (
+    let one : (o : Outcome) → acceptedIn n (called (Push n header seq payload) o []) ≡ doneWith o m = λ o. rw (eq-eqb n n refl) in (
       λ e. good c d n payload (λ o. doneWith o m ≡ m ∷ []) (λ r q. let z : _≡_ {A = ℕ} 0 1 = ap length q in absurd (omega (arith, z)))
           (sym (one (pushAnswer c d n payload)) ∙ e),
       λ h. one (pushAnswer c d n payload) ∙ rw (if-good c d n payload h),

@@ -13,7 +13,6 @@ use Rattle.fifo.specs.Control.{payloadOf, isFifo}
 use Rattle.words.specs.Words.{leBytes}
 use Rattle.spi.specs.declared.refusal.Refusal.{Refusal}
 use Rattle.header.specs.declared.Header.{Header}
-use Rattle.message.specs.Structs.{encodedAs}
 use Rattle.message.specs.Message.{Encoding, encoding}
 use Rattle.operation.specs.declared.place.Register.{Register}
 use Rattle.call.specs.declared.Outcome.{Outcome}
@@ -21,7 +20,6 @@ use Rattle.tx_fifo.specs.declared.push.PushAt.{PushAt}
 use Rattle.tx_fifo.specs.Step as push
 use Rattle.driver.specs.Start.{idlePlan, idleFetch, ofPush}
 use Rattle.driver.specs.Step.{askOf, outcomeOf}
-use Rattle.driver.specs.declared.calls.CallAt.{CallAt}
 use Rattle.driver.specs.declared.calls.Call.{Call}
 use Rattle.ring.specs.Ring.{sending, depth}
 use Rattle.ring.specs.Layout.{size}
@@ -36,12 +34,13 @@ use Rattle.history.specs.History.{Event, Begin, Exchange, Fail, On, Said
 use Rattle.history.specs.Demand.{buses, calm, all, ButFor, OnlyFree}
 use Rattle.history.proofs.Slots.{ram-long, slot-inside}
 use Rattle.history.proofs.Foot.{but-same, but-written, but-buses}
+use Rattle.history.proofs.Line.{world}
 use Rattle.history.proofs.Asks.{hear-control, hear-status, hear-address}
-use Rattle.history.proofs.Replies.{next-control, next-status, next-address}
+use Rattle.history.proofs.Replies.{control-gentle, next-control, next-status, next-address}
 use Rattle.history.proofs.Pushing.{pushing, turned, still, refused}
-use Rattle.history.proofs.Mid.{sent-gentle, PushMid}
-use Rattle.history.proofs.PushSteps.{object-fits, inside, object-told, encoded-for}
-use Rattle.history.proofs.Calm.{world, spokenOf, after-append, after-buses, after-calm, Fit, buses-fit, buses-fixed, buses-push, buses-append}
+use Rattle.history.proofs.Mid.{PushMid}
+use Rattle.history.proofs.PushSteps.{object-fits, starting, inside, object-told, encoded-for}
+use Rattle.history.proofs.Calm.{spokenOf, after-append, after-buses, after-calm, Fit, buses-fit, buses-fixed, buses-push, buses-append}
 
 -- ---- what leaves the chip as it is
 
@@ -161,7 +160,7 @@ module _ (n : ℕ) (header : Header) (seq : ℕ) (payload bytes : List ℕ) (i :
         (λ x. by-if (After rx) (ltb (payloadOf (frozenAt c n)) (length payload))
         (λ y. ends rx Refusal.FifoTooSmall)
         (λ y. stays rx (PushAt.Status _) refl refl (omega arith)
-        (record { word = sent-gentle c n (f .sound); tx = x; fits = object-fits c n header seq payload bytes coded x (ltb-false _ _ y) })))
+        (record { word = control-gentle c n (f .sound); tx = x; fits = object-fits c n header seq payload bytes coded x (ltb-false _ _ y) })))
         (λ x. ends rx Refusal.FifoNotTx))
 
     reads-status : (w : ℕ) → Exchanged (PushAt.Status w)
@@ -210,12 +209,8 @@ module _ (n : ℕ) (header : Header) (seq : ℕ) (payload bytes : List ℕ) (i :
 -- ---- from the beginning
 
 module _ (n : ℕ) (header : Header) (seq : ℕ) (payload : List ℕ) (bs : List (List Bus)) (few : length bs ≤ 4) (b : List Bus) (c : Model) (t : List Said) (f : Fit c t) where
-  -- the driver with a push of what the message is encoded as
-  abbrev starting : Encoding → Call
-  starting x = record { at = CallAt.Push; plan = idlePlan; push = push.begun n (length payload) (encodedAs x); fetch = idleFetch }
-
   begun-as : (x : Encoding) → push.encodingFor n header seq payload ≡ x
-      → OnlyFree n (buses (all bs ++ b) c) (after (ending bs b) (settled c t (Push n header seq payload) (starting x) []) .chip)
+      → OnlyFree n (buses (all bs ++ b) c) (after (ending bs b) (settled c t (Push n header seq payload) (starting false n (length payload) x idlePlan) []) .chip)
   begun-as (Encoding.refused x) e =
       rw (refused n (length payload) [] idlePlan idleFetch header seq payload t c [] false x) (same-free n _ _ (idle-chip bs b c _))
   begun-as (Encoding.object bytes) e =

@@ -3,14 +3,13 @@
 use Prim.Native.Nat.{ℕ, _+_, _-_, _%_, _^_, _≤_, _<_}
 use native.Mathlib.Omega.{arith}
 use borrow.Author.Tests.{ltb-true, ltb-false, lt-ltb}
-use mathlib.Core.Path.{_≡_, refl, sym, ap, _∙_}
+use mathlib.Core.Path.{_≡_, refl, ap, _∙_}
 use mathlib.Core.Bool.{Bool, true, false}
-use mathlib.Core.List.{List, [], _∷_, _++_, map}
+use mathlib.Core.List.{List, []}
 use lib.ListN.{length-append}
-use lib.Dec.{ltb, leb, eqb}
+use lib.Dec.{ltb, leb}
 use lib.ListN.{length, take, replicate}
 use lib.Seq.{take-append-seam}
-use Rattle.laws.specs.If.{if_then_else_}
 use Rattle.laws.proofs.Choice.{by-if}
 use Rattle.field.specs.Field.{mark}
 use Rattle.fifo.specs.Control.{CiFIFOCON, UINC, payloadOf, isFifo}
@@ -25,13 +24,12 @@ use Rattle.header.specs.Dlc.{dlcOf}
 use Rattle.header.specs.Header.{topId}
 use Rattle.message.specs.declared.tx.Checked.{Checked}
 use Rattle.message.specs.Structs.{encodedAs}
-use Rattle.message.specs.Message.{Message, byDlc, checkOf, Encoding, coded, encoding, holds}
+use Rattle.message.specs.Message.{Message, byDlc, checkOf, Encoding, coded, encoding}
 use Rattle.message.specs.Laws.{Suits}
 use Rattle.message.proofs.Round.{lengths-hold}
 use Rattle.operation.specs.declared.place.Register.{Register}
 use Rattle.call.specs.declared.Outcome.{Outcome}
 use Rattle.plan.specs.declared.plan.Plan.{Plan}
-use Rattle.plan.specs.Step as plan
 use Rattle.tx_fifo.specs.declared.push.PushAt.{PushAt}
 use Rattle.tx_fifo.specs.Step as push
 use Rattle.transmit.specs.Transmit.{requestStart, transmitStart}
@@ -42,25 +40,24 @@ use Rattle.ring.specs.declared.ring.Fifo.{Fifo}
 use Rattle.ring.specs.Ring.{sending, depth, claimed, increased}
 use Rattle.ring.specs.Layout.{stamped, size}
 use Rattle.state.specs.declared.Model.{Model}
-use Rattle.state.specs.Model.{fifoAt, frozenAt, withFifo, written}
+use Rattle.state.specs.Model.{fifoAt, frozenAt, withFifo}
 use Rattle.bank.specs.Registers.{wordOf}
 use Rattle.bus.specs.Held.{slotOf}
-use Rattle.history.specs.Command.{Command, Push, Transmit, Request, started}
-use Rattle.history.specs.History.{Said, called, Doing, idle, busy, World, hears, heard, settled, goesOn}
-use Rattle.history.specs.Lists.{only}
+use Rattle.history.specs.Command.{Command, Push, started}
+use Rattle.history.specs.History.{Said, called, idle, hears, heard, settled, goesOn}
 use Rattle.history.specs.Demand.{Each, TellsWell, NotCaused}
 use Rattle.history.proofs.Sound.{Sound}
 use Rattle.history.proofs.Bus.{Listed, Moves, payload-whole, map-only}
 use Rattle.history.proofs.Line.{spoken}
 use Rattle.history.proofs.Kept.{spoken-sound}
-use Rattle.history.proofs.Slots.{slot-inside, filled-held, filled-item, filled-sound, more-held}
+use Rattle.history.proofs.Slots.{slot-inside, filled, filled-held, filled-item, filled-sound, more-held}
 use Rattle.history.proofs.Asks.{hear-control, hear-status, hear-address, tell-ram, tell-control}
-use Rattle.history.proofs.Replies.{next-control, next-status, next-address, uinc-written, mark-small}
+use Rattle.history.proofs.Replies.{control-gentle, next-control, next-status, next-address, uinc-written, mark-small}
 use Rattle.history.proofs.Plans.{request-harmless}
 use Rattle.history.proofs.Requests.{request-begins, request-starts}
 use Rattle.history.proofs.Pushing.{commanded, placed, pushAt, pushing, turned, failed, still, refused, done, half}
-use Rattle.history.proofs.Mid.{sent-gentle, Tx, Free, PushMid}
-use Rattle.history.proofs.Inv.{Mid, pushes, requests, Inv, goes-on, says-more, quiet-refusal}
+use Rattle.history.proofs.Mid.{Tx, PushMid}
+use Rattle.history.proofs.Inv.{pushes, requests, Inv, goes-on, says-more, quiet-refusal}
 
 -- a payload that is not longer than PLSIZE means fits a slot with its header
 pub object-fits : (c : Model) (n : ℕ) (header : Header) (seq : ℕ) (payload bs : List ℕ) → encoding (push.toSend header seq payload) ≡ Encoding.object bs
@@ -79,10 +76,6 @@ not-stamped w e = rw e
 raised : (w : ℕ) (f : Fifo) → sending w ≡ true → f .count < depth w → increased w f ≡ claimed f
 unfolding increased
 raised w f x y = rw (x, lt-ltb _ _ y)
-
--- the object is in the free slot
-abbrev pub filled : Model → ℕ → List ℕ → Model
-filled c n bs = written c (slotOf c n (fifoAt c n .count)) bs
 
 -- what the chip answers to the object and to UINC, and what a push then knows
 module _ (c : Model) (o : Sound c) (n : ℕ) (header : Header) (seq : ℕ) (payload bs : List ℕ)
@@ -163,7 +156,7 @@ module _ (c : Model) (o : Sound c) (t : List Said) (l : Listed c t) (e : Each Te
   reads-control =
       let rx : List ℕ = leBytes (wordOf c (Register.Control n)) in
       let P : PushAt → Type 0 = λ a. After c a rx in
-      let w = sent-gentle c n o in
+      let w = control-gentle c n o in
       rw (turned n (length payload) bs p f also PushAt.Control refl t k c _ _ _ (hear-control _ c n i) (next-control c n (length payload) (length bs)))
       (by-if P (sending (frozenAt c n))
       (λ x. by-if P (ltb (payloadOf (frozenAt c n)) (length payload))
@@ -189,8 +182,10 @@ module _ (c : Model) (o : Sound c) (t : List Said) (l : Listed c t) (e : Each Te
   writes-object w a g =
       let x = g .0 in
       let d : Model = filled c n bs in
-      rw (turned n (length payload) bs p f also (PushAt.Write w a) refl t k c [] d (PushAt.Commit w) (object-told c o n header seq payload bs i coded w a g) refl,
-      still n (length payload) bs p f header seq payload t d [] also (PushAt.Commit w) refl refl)
+      rw (
+        turned n (length payload) bs p f also (PushAt.Write w a) refl t k c [] d (PushAt.Commit w) (object-told c o n header seq payload bs i coded w a g) refl,
+        still n (length payload) bs p f header seq payload t d [] also (PushAt.Commit w) refl refl,
+      )
       (goes-on c t l e d k (at (PushAt.Commit w)) (filled-sound c o n i (g .1) bs (x .fits)) (filled-held c o n i (g .1) bs (x .fits))
       (pushes also n header seq payload bs (PushAt.Commit w) p f i coded r (object-mid c o n header seq payload bs i coded w a g) refl refl))
 

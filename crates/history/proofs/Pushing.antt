@@ -1,15 +1,12 @@
 -- A push, alone or as the first half of a transmit: what it asks, where an answer takes it, and what is said when it is over.
 -- Assumes nothing.
 use Prim.Native.Nat.{ℕ}
-use mathlib.Core.Path.{_≡_, refl, ap, sym, _∙_}
+use mathlib.Core.Path.{_≡_, refl, _∙_}
 use mathlib.Core.Bool.{Bool, true, false}
 use mathlib.Core.List.{List, [], _∷_, _++_}
 use lib.ListN.{length}
-use Rattle.laws.specs.If.{if_then_else_}
 use Rattle.parts.specs.Parts.{zeroed}
-use Rattle.fifo.specs.Control.{isFifo}
 use Rattle.spi.specs.declared.refusal.Refusal.{Refusal}
-use Rattle.spi.specs.declared.ask.Ask.{Ask}
 use Rattle.spi.specs.declared.ask.Answer.{Answer}
 use Rattle.header.specs.declared.Header.{Header}
 use Rattle.message.specs.Structs.{objectIn}
@@ -19,17 +16,16 @@ use Rattle.plan.specs.Step as plan
 use Rattle.tx_fifo.specs.declared.push.Push.{Push as Pushes}
 use Rattle.tx_fifo.specs.declared.push.PushAt.{PushAt}
 use Rattle.tx_fifo.specs.Step as push
-use Rattle.transmit.specs.Transmit.{requestStart, transmitAsk, transmitStep, transmitOutcome}
+use Rattle.transmit.specs.Transmit.{transmitAsk, transmitStep, transmitOutcome}
 use Rattle.rx_fifo.specs.declared.Fetch.{Fetch}
 use Rattle.driver.specs.declared.calls.CallAt.{CallAt}
 use Rattle.driver.specs.declared.calls.Call.{Call}
 use Rattle.driver.specs.Step.{askOf, stepOf, outcomeOf, filledBy}
 use Rattle.driver.specs.Send.{bodyOf}
-use Rattle.driver.specs.Start.{idleFetch}
 use Rattle.state.specs.declared.Model.{Model}
 use Rattle.history.specs.Command.{Command, Push, Transmit, Request}
-use Rattle.history.proofs.Line.{spoken, turns, fails}
-use Rattle.history.specs.History.{Said, called, Doing, idle, busy, World, Heard, hears, heard, answered, waits, settled, goesOn}
+use Rattle.history.proofs.Line.{world, spoken, turns, fails}
+use Rattle.history.specs.History.{Said, called, idle, busy, World, hears, heard, waits, settled, goesOn}
 
 -- whether a request follows
 abbrev pub commanded : Bool → ℕ → Header → ℕ → List ℕ → Command
@@ -101,9 +97,6 @@ module _ (n size : ℕ) (bs : List ℕ) (p : Plan) (f : Fetch) where
     failed = fails (standing also at) _ _ (asks also at e) c t k (waits-not at) (steps also at e Answer.Failed [])
 
 -- ---- over, or not
-
-abbrev pub world : Model → Doing → List Said → World
-world c d t = record { chip = c; doing = d; said = t }
 
 module _ (n size : ℕ) (bs : List ℕ) (p : Plan) (f : Fetch) (header : Header) (seq : ℕ) (payload : List ℕ) (t : List Said) (c : Model) (rx : List ℕ) where
   abbrev settles : Bool → PushAt → World

@@ -101,6 +101,12 @@ module _ (frozen w : ℕ) (f : Fifo) (calm : flag FRESET w ≡ false) where
   unfolding commanded
   commanded-plain u = rw (calm, u)
 
+-- a word with UINC and FRESET at 0
+pub record Gentle (w : ℕ) : Type 0 where
+  pub small : w < 2 ^ 32
+  pub uinc : read UINC w ≡ 0
+  pub freset : read FRESET w ≡ 0
+
 -- ---- where a call goes next, whatever the chip is like
 
 -- a push whose bytes were written, and one whose control word was
@@ -138,13 +144,13 @@ module _ (c : Model) (n : ℕ) where
   control-stamp t = rw t (ap (λ (x : ℕ). eqb x 1) (sent-field 32 RXTSEN word refl ∙ frozen-kept (frozenAt c n) (fifoAt c n) .0))
 
   module _ (s : Sound c) where
-    pub control-uinc : read UINC (word % 2 ^ 32) ≡ 0
+    pub control-gentle : Gentle (word % 2 ^ 32)
     unfolding wordOf
-    control-uinc = sent-field 32 UINC word refl ∙ control-off UINC (frozenAt c n) (fifoAt c n) refl ∙ s .valid .fifo n .uinc
-
-    pub control-freset : read FRESET (word % 2 ^ 32) ≡ 0
-    unfolding wordOf
-    control-freset = sent-field 32 FRESET word refl ∙ control-off FRESET (frozenAt c n) (fifoAt c n) refl ∙ s .valid .fifo n .freset (s .out)
+    control-gentle = record {
+      small = mod-lt word (pow-pos 32);
+      uinc = sent-field 32 UINC word refl ∙ control-off UINC (frozenAt c n) (fifoAt c n) refl ∙ s .valid .fifo n .uinc;
+      freset = sent-field 32 FRESET word refl ∙ control-off FRESET (frozenAt c n) (fifoAt c n) refl ∙ s .valid .fifo n .freset (s .out);
+    }
 
     -- ---- what the status and the user address say
 

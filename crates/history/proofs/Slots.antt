@@ -40,13 +40,9 @@ pub same? {ℓ} : {X : Type ℓ} (a b : ℕ) → (a ≡ b → X) → ((a ≡ b �
 same? a b f g = elim (ℕ-discrete a b) [ yes e ↦ f e | no h ↦ g h ]
 
 -- FIFO n is one of 1 to 31
-pub fifo-least : (n : ℕ) → isFifo n ≡ true → 1 ≤ n
+pub fifo-told : (n : ℕ) → isFifo n ≡ true → (1 ≤ n) × (n ≤ 31)
 unfolding isFifo
-fifo-least n h = leb-true 1 n (both (leb 1 n) (leb n 31) h .0)
-
-pub fifo-most : (n : ℕ) → isFifo n ≡ true → n ≤ 31
-unfolding isFifo
-fifo-most n h = leb-true n 31 (both (leb 1 n) (leb n 31) h .1)
+fifo-told n h = let (least, most) = both (leb 1 n) (leb n 31) h in (leb-true 1 n least, leb-true n 31 most)
 
 -- ---- rows
 
@@ -123,15 +119,15 @@ module _ (c : Model) (s : Sound c) where
 
   pub slot-inside : (n k : ℕ) → isFifo n ≡ true → k ≤ depth (frozenAt c n) → slotOf c n k + size (frozenAt c n) ≤ 2048
   unfolding slotOf
-  slot-inside n k h g = in-ram (c .fixed .frozen) n (ring n k) (s .valid .layout (s .out)) (fifo-least n h) (fifo-most n h) (ring-lt n k g)
+  slot-inside n k h g = in-ram (c .fixed .frozen) n (ring n k) (s .valid .layout (s .out)) (fifo-told n h .0) (fifo-told n h .1) (ring-lt n k g)
 
   other-fifo : (i j k l : ℕ) → isFifo i ≡ true → isFifo j ≡ true → (i ≡ j → ⊥) → k ≤ depth (frozenAt c i) → l ≤ depth (frozenAt c j)
       → Apart (slotOf c i k) (size (frozenAt c i)) (slotOf c j l) (size (frozenAt c j))
   unfolding slotOf
   other-fifo i j k l hi hj ne gk gl =
       split i j
-      (λ lo. before (fifos-apart (c .fixed .frozen) i j (ring i k) (ring j l) (fifo-least i hi) lo (ring-lt i k gk)))
-      (λ ge. behind (fifos-apart (c .fixed .frozen) j i (ring j l) (ring i k) (fifo-least j hj) (omega arith) (ring-lt j l gl)))
+      (λ lo. before (fifos-apart (c .fixed .frozen) i j (ring i k) (ring j l) (fifo-told i hi .0) lo (ring-lt i k gk)))
+      (λ ge. behind (fifos-apart (c .fixed .frozen) j i (ring j l) (ring i k) (fifo-told j hj .0) (omega arith) (ring-lt j l gl)))
 
   same-fifo : (n k l : ℕ) → k < depth (frozenAt c n) → l < depth (frozenAt c n) → (k ≡ l → ⊥)
       → Apart (slotOf c n k) (size (frozenAt c n)) (slotOf c n l) (size (frozenAt c n))
@@ -162,27 +158,27 @@ frame l bs a m b n o k j =
 
 -- ---- a write into the free slot of FIFO n
 
-module _ (c : Model) (s : Sound c) (n : ℕ) (h : isFifo n ≡ true) (free : fifoAt c n .count < depth (frozenAt c n)) (bs : List ℕ) (fits : length bs ≤ size (frozenAt c n)) where
-  abbrev filled : Model
-  filled = written c (slotOf c n (fifoAt c n .count)) bs
+abbrev pub filled : Model → ℕ → List ℕ → Model
+filled c n bs = written c (slotOf c n (fifoAt c n .count)) bs
 
+module _ (c : Model) (s : Sound c) (n : ℕ) (h : isFifo n ≡ true) (free : fifoAt c n .count < depth (frozenAt c n)) (bs : List ℕ) (fits : length bs ≤ size (frozenAt c n)) where
   free-inside : slotOf c n (fifoAt c n .count) + size (frozenAt c n) ≤ length (c .ram)
   free-inside = omega (arith, slot-inside c s n (fifoAt c n .count) h (omega arith), ram-long c s)
 
   -- every other slot stays
-  pub filled-part : (j k : ℕ) → isFifo j ≡ true → k < depth (frozenAt c j) → (j ≡ n → k ≡ fifoAt c n .count → ⊥) → SlotStays c filled j k
+  pub filled-part : (j k : ℕ) → isFifo j ≡ true → k < depth (frozenAt c j) → (j ≡ n → k ≡ fifoAt c n .count → ⊥) → SlotStays c (filled c n bs) j k
   filled-part j k hj kd ne =
       frame (c .ram) bs (slotOf c n (fifoAt c n .count)) (size (frozenAt c n)) (slotOf c j k) (size (frozenAt c j))
       (slots-off c s j n k (fifoAt c n .count) hj h kd free ne) fits free-inside
 
-  pub filled-held : (j : ℕ) → held filled j ≡ held c j
+  pub filled-held : (j : ℕ) → held (filled c n bs) j ≡ held c j
   filled-held j =
-      held-like c filled j refl refl refl
+      held-like c (filled c n bs) j refl refl refl
       (λ i k l. filled-part j k i (omega (arith, s .valid .fifo j .count)) (λ e g. let l′ : k < fifoAt c n .count = rw e at l in omega arith))
 
   -- what is written into the free slot is what it decodes to
   pub filled-item : (m : Message) → encoding m ≡ Encoding.object bs → Suits (sending (frozenAt c n)) (stamped (frozenAt c n)) m
-      → itemAt filled n (fifoAt c n .count) ≡ holds m
+      → itemAt (filled c n bs) n (fifoAt c n .count) ≡ holds m
   unfolding itemAt slotOf
   filled-item m e g =
       let inside : slotOf c n (fifoAt c n .count) + length bs ≤ length (c .ram) = omega (arith, free-inside) in
@@ -191,10 +187,10 @@ module _ (c : Model) (s : Sound c) (n : ℕ) (h : isFifo n ≡ true) (free : fif
       ∙ ap (decoding (sending (frozenAt c n)) (stamped (frozenAt c n))) (part-same (c .ram) (slotOf c n (fifoAt c n .count)) bs inside (size (frozenAt c n)) fits)
       ∙ round-trip (sending (frozenAt c n)) (stamped (frozenAt c n)) m bs _ e g
 
-  pub filled-sound : Sound filled
+  pub filled-sound : Sound (filled c n bs)
   filled-sound =
       let v = s .valid in
-      let e : length (filled .ram) ≡ length (c .ram)
+      let e : length (filled c n bs .ram) ≡ length (c .ram)
       = ap length (put-inside (c .ram) (slotOf c n (fifoAt c n .count)) bs (omega (arith, free-inside)))
       ∙ length-put (c .ram) (slotOf c n (fifoAt c n .count)) bs (omega (arith, free-inside)) in
       record { valid = record { frozens = v .frozens; fifos = v .fifos; ram = e ∙ v .ram; fifo = v .fifo; layout = v .layout }; out = s .out }
@@ -206,7 +202,7 @@ module _ (c : Model) (s : Sound c) (n : ℕ) (h : isFifo n ≡ true) (g : Fifo) 
   next = withFifo c n g
 
   pub next-fifo : fifoAt next n ≡ g
-  next-fifo = getD-set-same (c .fifo) n g blank (omega (arith, s .valid .fifos, fifo-most n h))
+  next-fifo = getD-set-same (c .fifo) n g blank (omega (arith, s .valid .fifos, fifo-told n h .1))
 
   pub next-other : (j : ℕ) → (j ≡ n → ⊥) → fifoAt next j ≡ fifoAt c j
   next-other j ne = getD-set-other (c .fifo) n j g blank ne

@@ -1,15 +1,14 @@
 -- What is true after every event, so after every history.
 -- Assumes nothing.
 use Prim.Native.Nat.{ℕ}
-use mathlib.Core.Path.{_≡_, refl, sym, ap, _∙_}
+use mathlib.Core.Path.{_≡_, refl, sym, ap}
 use mathlib.Core.Bool.{Bool, true, false}
-use mathlib.Core.List.{List, [], _∷_, _++_}
+use mathlib.Core.List.{List, [], _∷_}
 use Rattle.laws.proofs.Choice.{by-if}
 use Rattle.fifo.specs.Control.{isFifo}
 use Rattle.driver.specs.declared.calls.Call.{Call}
 use Rattle.fetch.specs.declared.Want.{Want}
 use Rattle.state.specs.declared.Model.{Model}
-use Rattle.state.specs.Model.{fifoAt}
 use Rattle.bank.specs.Registers.{conWritten}
 use Rattle.bus.specs.Held.{itemAt, row, held}
 use Rattle.message.specs.Message.{Decoding}
@@ -17,13 +16,13 @@ use Rattle.reach.specs.Bus.{Bus, Send, Deliver, stepped}
 use Rattle.reach.proofs.Kept.{always-valid, leaving-valid}
 use Rattle.reach.proofs.Told.{leaving-outside, leaving-empty}
 use Rattle.history.specs.Command.{Command, Push, Transmit, Request, HasNext, Peek, Get, Reading, Configuring, started}
-use Rattle.history.specs.History.{Event, Begin, Exchange, Fail, On, Said, left, arrived, Doing, idle, busy, World, says, heard, settled, goesOn, event, after}
+use Rattle.history.specs.History.{Event, Begin, Exchange, Fail, On, Said, Doing, idle, busy, World, says, heard, settled, goesOn, event, after}
 use Rattle.history.specs.Lists.{accepted, handedOut}
 use Rattle.history.specs.Demand.{Leaves, start, world, Each, TellsWell, Lists, NeverCaused, PushExactly, GetExactly, PeekExactly, PeekKeeps, PushFails, RequestFails}
 use Rattle.history.proofs.Sound.{Sound}
-use Rattle.history.proofs.Bus.{Listed, lists-snoc, bus-good}
+use Rattle.history.proofs.Bus.{Listed}
 use Rattle.history.proofs.Calm.{Fit, step-fit, step-later}
-use Rattle.history.proofs.Inv.{Mid, pushes, fetches, requests, configures, looks, Doings, doings-later, Inv, each-snoc}
+use Rattle.history.proofs.Inv.{Mid, pushes, fetches, requests, configures, looks, doings-later, Inv, each-snoc}
 use Rattle.history.proofs.PushSteps.{push-exchanged, push-failed, push-begins}
 use Rattle.history.proofs.FetchSteps.{fetch-exchanged, fetch-failed, fetch-begins}
 use Rattle.history.proofs.PlanSteps.{request-heard, request-starts-well, configure-heard, configure-starts-well, look-heard, look-starts-well}

@@ -2,7 +2,7 @@
 -- Assumes nothing.
 use Prim.Native.Nat.{ℕ, _+_, _≤_, _<_}
 use mathlib.Core.Path.{_≡_}
-use mathlib.Core.Bool.{Bool, true, false}
+use mathlib.Core.Bool.{true, false}
 use mathlib.Core.Logic.{_↔_}
 use mathlib.Core.List.{List, [], _∷_, _++_, map}
 use lib.ListN.{length, getD}
@@ -27,7 +27,7 @@ use Rattle.bus.specs.Held.{slotOf, itemAt, held}
 use Rattle.reach.specs.Bus.{Bus, stepped}
 use Rattle.reach.specs.Reach.{Reached}
 use Rattle.history.specs.Command.{Command, Push, Transmit, Request, HasNext, Peek, Get, Reading, Configuring}
-use Rattle.history.specs.History.{Event, Begin, Exchange, Fail, On, Said, called, left, arrived, Doing, idle, World, after}
+use Rattle.history.specs.History.{Event, Begin, Exchange, Fail, On, Said, called, left, arrived, idle, World, after}
 use Rattle.history.specs.Lists.{accepted, acceptedIn, handedOut, handedOutIn}
 
 -- ---- where a history begins
@@ -135,7 +135,7 @@ GetExactly =
 -- it hands out the oldest exactly if its FIFO receives and held one at the status read
 abbrev pub GotIff : Type 0
 GotIff =
-    (c d : Model) → d .fixed ≡ c .fixed → (n : ℕ) (buf : List ℕ) (m : Message) → 64 ≤ length buf
+    (c d : Model) → d .fixed ≡ c .fixed → (n : ℕ) (buf : List ℕ) (m : Message)
     → (handedOutIn n (fetchSaid (Get n buf) c d n buf) ≡ m ∷ [])
     ↔ ((sending (frozenAt c n) ≡ false) × (0 < fifoAt d n .count) × (itemAt d n 0 ≡ holds m))
 

@@ -2,3 +2,4 @@ pub mod Command
 pub mod History
 pub mod Lists
 pub mod Demand
+pub mod Example
