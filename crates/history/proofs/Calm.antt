@@ -8,8 +8,6 @@ use Rattle.fifo.specs.Control.{isFifo}
 use Rattle.message.specs.Message.{Message}
 use Rattle.call.specs.declared.Outcome.{Outcome}
 use Rattle.tx_fifo.specs.declared.push.PushAt.{PushAt}
-use Rattle.fetch.specs.declared.Want.{Want}
-use Rattle.fetch.specs.declared.FetchAt.{FetchAt}
 use Rattle.state.specs.declared.Fixed.{Fixed}
 use Rattle.state.specs.declared.Model.{Model}
 use Rattle.reach.specs.Bus.{Bus, Send, Deliver, stepped}
@@ -20,7 +18,7 @@ use Rattle.history.specs.Demand.{buses, calm, calls}
 use Rattle.history.proofs.Sound.{Sound}
 use Rattle.history.proofs.Bus.{Listed, lists-snoc, Later, bus-good}
 use Rattle.history.proofs.Line.{world}
-use Rattle.history.proofs.Mid.{PushMid, FetchMid, push-later, fetch-later}
+use Rattle.history.proofs.Mid.{PushMid, push-later}
 
 -- what bus steps say, one after the other
 unfoldable pub spokenOf : List Bus → Model → List Said
@@ -115,10 +113,6 @@ buses-fixed bs c t f = buses-keep (λ d. d .fixed ≡ c .fixed) (λ d u g b e. s
 pub buses-push : (n : ℕ) → isFifo n ≡ true → (m : Message) (bytes : List ℕ) (a : PushAt) (bs : List Bus) (c : Model) (t : List Said) → Fit c t
     → PushMid c n m bytes a → PushMid (buses bs c) n m bytes a
 buses-push n i m bytes a = buses-keep (λ c. PushMid c n m bytes a) (λ c t f b. push-later c (stepped b c) (step-later c t f b) n i m bytes a)
-
-pub buses-fetch : (n : ℕ) → isFifo n ≡ true → (want : Want) (held : List ℕ) (a : FetchAt) (bs : List Bus) (c : Model) (t : List Said) → Fit c t
-    → FetchMid c want n held a → FetchMid (buses bs c) want n held a
-buses-fetch n i want held a = buses-keep (λ c. FetchMid c want n held a) (λ c t f b. fetch-later c (stepped b c) (step-later c t f b) n i want held a)
 
 -- ---- bus steps of several lists
 

@@ -210,12 +210,6 @@ module _ (l : List ℕ) (x fr : ℕ) (m : Message) (long : length l ≡ 2048) (r
   pub body-in : x + bodyAt (stamped fr) + roundUp (length (m .payload)) ≤ 2048
   body-in = omega (arith, object-inside)
 
-  pub header-length : length (part l x 8) ≡ 8
-  header-length = length-part l x 8 (omega (arith, header-in))
-
-  pub time-length : stamped fr ≡ true → length (part l (x + 8) 4) ≡ 4
-  time-length t = length-part l (x + 8) 4 (omega (arith, time-in t))
-
   pub body-length : length (part l (x + bodyAt (stamped fr)) (roundUp (length (m .payload)))) ≡ roundUp (length (m .payload))
   body-length = length-part l (x + bodyAt (stamped fr)) (roundUp (length (m .payload))) (omega (arith, body-in))
 

@@ -34,16 +34,6 @@ module _ (a n : ℕ) where
   pub but-same : (c : Model) → ButFor a n c c
   but-same c = record { fixed = refl; setup = refl; fifo = refl; long = refl; below = λ x h. refl; above = λ x h. refl }
 
-  pub but-trans : (c d e : Model) → ButFor a n c d → ButFor a n d e → ButFor a n c e
-  but-trans c d e x y = record {
-    fixed = y .fixed ∙ x .fixed;
-    setup = y .setup ∙ x .setup;
-    fifo = y .fifo ∙ x .fifo;
-    long = y .long ∙ x .long;
-    below = λ i h. y .below i h ∙ x .below i h;
-    above = λ i h. y .above i h ∙ x .above i h;
-  }
-
   -- bytes written into the place
   pub but-written : (c : Model) (p : ℕ) (bs : List ℕ) → a ≤ p → p + length bs ≤ a + n → a + n ≤ length (c .ram) → ButFor a n c (written c p bs)
   but-written c p bs lo hi inside =

@@ -59,7 +59,3 @@ module _ (s z : Call) (q : Ask) (asks : askOf s ≡ q) (c : Model) (t : List Sai
   -- it fails
   pub fails : waits q ≡ false → stepOf s Answer.Failed [] ≡ z → goesOn t k s (heard false s c) ≡ settled c t k z []
   fails w g = ap going (lost s c (rw asks w)) ∙ rw g
-
-  -- it is a wait
-  pub pauses : (b : Bool) → waits q ≡ true → stepOf s Answer.Waited [] ≡ z → goesOn t k s (heard b s c) ≡ settled c t k z []
-  pauses b w g = ap going (waited s c b (rw asks w)) ∙ rw g

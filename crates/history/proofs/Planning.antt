@@ -19,7 +19,7 @@ use Rattle.driver.specs.Step.{askOf, stepOf, outcomeOf, filledBy}
 use Rattle.state.specs.declared.Model.{Model}
 use Rattle.history.specs.Command.{Command, firstCall, lent}
 use Rattle.history.specs.History.{Said, called, idle, busy, hears, heard, waits, isOver, halfway, settled, goesOn}
-use Rattle.history.proofs.Line.{spoken, turns, fails, pauses}
+use Rattle.history.proofs.Line.{spoken, turns, fails}
 
 -- whether a push came before it
 abbrev pub placed : Bool → CallAt
@@ -67,11 +67,6 @@ module _ (u : Pushes) (f : Fetch) where
     pub failed : waits (plan.askOf p) ≡ false
         → goesOn t k (planned also p u f) (heard false (planned also p u f) c) ≡ settled c t k (planned also (plan.stepOf p Answer.Failed []) u f) []
     failed w = fails (planned also p u f) _ _ (asks also r p) c t k w (steps also r p Answer.Failed [])
-
-    -- a wait
-    pub paused : (b : Bool) → waits (plan.askOf p) ≡ true
-        → goesOn t k (planned also p u f) (heard b (planned also p u f) c) ≡ settled c t k (planned also (plan.stepOf p Answer.Waited []) u f) []
-    paused b w = pauses (planned also p u f) _ _ (asks also r p) c t k b w (steps also r p Answer.Waited [])
 
   -- ---- over, or not
 

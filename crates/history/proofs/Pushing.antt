@@ -70,11 +70,6 @@ module _ (n size : ℕ) (bs : List ℕ) (p : Plan) (f : Fetch) where
   filled false at rx = refl
   filled true at rx = refl
 
-  pub outcome : (also : Bool) (at : PushAt) → push.doneAt at ≡ false → outcomeOf (standing also at) ≡ push.outcomeAt at
-  unfolding outcomeOf push.outcomeOf transmitOutcome
-  outcome false at e = refl
-  outcome true at e = rw e
-
   waits-not : (at : PushAt) → waits (push.askAt n (length bs) at) ≡ false
   waits-not PushAt.Control = refl
   waits-not (PushAt.Status w) = refl

@@ -9,7 +9,7 @@ use native.Mathlib.Omega.{arith}
 use borrow.Author.Tests.{leb-true, le-ltb}
 use lib.Dec.{eqb, ltb, leb}
 use lib.Pow.{pow-pos, field, mod-mod-pow}
-use lib.ListN.{length, getD}
+use lib.ListN.{getD}
 use Rattle.laws.specs.If.{if_then_else_}
 use Rattle.field.specs.Field.{Field, place as at, read, flag, mark, digit, within}
 use Rattle.field.specs.Settings.{_:=_, settings}
@@ -23,7 +23,7 @@ use Rattle.spi.specs.declared.refusal.Refusal.{Refusal}
 use Rattle.spi.specs.declared.refusal.Done.{Done}
 use Rattle.spi.specs.declared.ask.Answer.{Answer}
 use Rattle.spi.specs.declared.reply.OneWord.{OneWord}
-use Rattle.spi.specs.Reply.{wordReply, doneReply}
+use Rattle.spi.specs.Reply.{wordReply}
 use Rattle.operation.specs.declared.place.Register.{Register}
 use Rattle.call.specs.declared.Found.{Found}
 use Rattle.tx_fifo.specs.declared.push.PushAt.{PushAt}
@@ -62,9 +62,6 @@ le-said x =
 
 pub word-said : (r : Refusal) (x : ℕ) → wordReply r Answer.Exchanged (leBytes x) ≡ OneWord.Word (x % 2 ^ 32)
 word-said r x = rw (le-length x, le-said x)
-
-pub done-said : (r : Refusal) → doneReply r Answer.Exchanged (length {A = ℕ} []) 0 ≡ Done.Good
-done-said r = refl
 
 pub mark-small : (v : ℕ) → v < 2 ^ 32 → mark UINC true v < 2 ^ 32
 mark-small v h = set-lt 32 v 8 1 1 h (omega arith) (omega arith)
@@ -108,14 +105,6 @@ pub record Gentle (w : ℕ) : Type 0 where
   pub freset : read FRESET w ≡ 0
 
 -- ---- where a call goes next, whatever the chip is like
-
--- a push whose bytes were written, and one whose control word was
-module _ (size len v : ℕ) where
-  pub next-write : (m : ℕ) → nextAt size len (PushAt.Write v m) Answer.Exchanged [] ≡ PushAt.Commit v
-  next-write m = refl
-
-  pub next-commit : nextAt size len (PushAt.Commit v) Answer.Exchanged [] ≡ PushAt.Done
-  next-commit = refl
 
 -- a get that read a control word x, and one whose control word was written
 module _ (want : Want) (f : Found) where
@@ -166,10 +155,6 @@ module _ (c : Model) (n : ℕ) where
         → wordOf c (Register.Address n) % 2 ^ 32 ≡ slotOf c n k
     unfolding wordOf shownAt shown slotOf
     address-at k e h = rw (s .out, e) (mod-eq-of-lt h)
-
-    pub address-shown : (let k : ℕ = if sending (frozenAt c n) then fifoAt c n .count else 0 in
-        slotOf c n k < 2 ^ 32 → wordOf c (Register.Address n) % 2 ^ 32 ≡ slotOf c n k)
-    address-shown h = address-at (if sending (frozenAt c n) then fifoAt c n .count else 0) refl h
 
     -- ---- what a control word written back does
 
