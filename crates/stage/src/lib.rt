@@ -42,21 +42,29 @@ fn stepped(t: Told, s: Spoken, note: &[u8], numbers: &[u64], lent: &[u8]) -> Tol
     u
 }
 
+fn failing(t: Told) -> Told {
+    let mut u = t;
+    u.fails = true;
+    u
+}
+
+fn noted(t: Told, s: Spoken, note: &[u8], numbers: &[u64], lent: &[u8], rx: &mut [u8]) -> Told {
+    if s.row == script::FAIL {
+        return failing(t);
+    }
+    if s.row == script::ANSWER {
+        return given(t, note, rx);
+    }
+    stepped(t, s, note, numbers, lent)
+}
+
 fn told_by(t: Told, note: &[u8], rx: &mut [u8]) -> Told {
     let mut numbers = [0u64; 24];
     let mut lent = [0u8; 32768];
     let Line::Row(s) = script::note_of(note, &mut numbers, &mut lent) else {
         return t;
     };
-    if s.row == script::FAIL {
-        let mut u = t;
-        u.fails = true;
-        return u;
-    }
-    if s.row == script::ANSWER {
-        return given(t, note, rx);
-    }
-    stepped(t, s, note, &numbers, &lent)
+    noted(t, s, note, &numbers, &lent, rx)
 }
 
 fn told_about(t: Told, note: &[u8], k: u64, rx: &mut [u8]) -> Told {
@@ -83,23 +91,38 @@ fn heard_of(m: Model, notes: &[u8], k: u64, rx: &mut [u8]) -> Told {
     t
 }
 
-// Where a call stands: the chip, how many exchanges were made, and how many bytes came last.
+// Where the chip stands: how many exchanges were made, and how many bytes came last; what the call is answered, and with how many bytes.
 struct Turn {
-    call: Call,
     model: Model,
     made: u64,
     got: usize,
+    answer: Answer,
+    heard: usize,
+    over: bool,
 }
 
-fn is_over(call: Call) -> bool {
-    match driver::ask(call) {
+fn begun(m: Model) -> Turn {
+    Turn {
+        model: m,
+        made: 0,
+        got: 0,
+        answer: Answer::Waited,
+        heard: 0,
+        over: false,
+    }
+}
+
+fn is_over(q: Ask) -> bool {
+    match q {
         Ask::Nothing => true,
         _ => false,
     }
 }
 
-fn is_wait(call: Call) -> bool {
-    match driver::ask(call) {
+// Whether it is no exchange.
+fn is_quiet(q: Ask) -> bool {
+    match q {
+        Ask::Nothing => true,
         Ask::Wait => true,
         _ => false,
     }
@@ -121,119 +144,161 @@ fn carried(m: Model, sent: &[u8], want: usize, seen: bool, rx: &mut [u8]) -> Exc
     model::exchange(m, sent, want, &mut unseen)
 }
 
-fn failed(t: Turn, m: Model) -> Turn {
-    let mut u = t;
-    let call = t.call;
+fn failed(m: Model, made: u64) -> Turn {
     acts::write_failed();
-    u.call = driver::step(call, Answer::Failed, b"");
-    u.model = m;
-    u.got = 0;
-    u
+    Turn {
+        model: m,
+        made: made,
+        got: 0,
+        answer: Answer::Failed,
+        heard: 0,
+        over: false,
+    }
 }
 
-fn received(t: Turn, m: Model, heard: Heard, rx: &[u8], out: &mut [u8]) -> Turn {
-    let mut u = t;
-    let call = t.call;
-    acts::write_received(heard, rx, out);
-    u.call = driver::step(call, Answer::Exchanged, rx);
-    u.model = m;
-    u.got = rx.len();
-    u
-}
-
-// After an exchange that was carried out: what was given goes before what came.
-fn answered(t: Turn, told: Told, x: Exchanged, want: usize, rx: &[u8], out: &mut [u8]) -> Turn {
-    let heard = x.heard;
+fn received(x: Exchanged, made: u64, rx: &[u8], out: &mut [u8]) -> Turn {
     let m = x.model;
-    if told.answered {
-        return received(t, m, heard, text::front(rx, told.given), out);
+    let heard = x.heard;
+    acts::write_received(heard, rx, out);
+    Turn {
+        model: m,
+        made: made,
+        got: rx.len(),
+        answer: Answer::Exchanged,
+        heard: rx.len(),
+        over: false,
     }
-    if is_failed(heard) {
-        return failed(t, m);
-    }
-    received(
-        t,
-        m,
-        heard,
-        text::front(rx, acts::received(heard, want)),
-        out,
-    )
 }
 
-// The exchange of these bytes, as told.
-fn exchanged(t: Turn, told: Told, sent: &[u8], want: usize, rx: &mut [u8], out: &mut [u8]) -> Turn {
+// After an exchange in which the chip's bytes were seen.
+fn answered(x: Exchanged, made: u64, want: usize, rx: &[u8], out: &mut [u8]) -> Turn {
+    let heard = x.heard;
+    if is_failed(heard) {
+        let m = x.model;
+        return failed(m, made);
+    }
+    received(x, made, text::front(rx, acts::received(heard, want)), out)
+}
+
+// The exchange of these bytes, as told: what was given goes before what came.
+fn exchanged(
+    told: Told,
+    made: u64,
+    sent: &[u8],
+    want: usize,
+    rx: &mut [u8],
+    out: &mut [u8],
+) -> Turn {
     let m = told.model;
-    acts::write_exchange(sent, want, out);
     if told.fails {
-        return failed(t, m);
+        return failed(m, made);
     }
     let x = carried(m, sent, want, !told.answered, rx);
-    answered(t, told, x, want, rx, out)
-}
-
-fn exchange(t: Turn, notes: &[u8], lent: &[u8], rx: &mut [u8], out: &mut [u8]) -> Turn {
-    let mut tx = [0u8; 4200];
-    let mut u = t;
-    let call = t.call;
-    let m = t.model;
-    u.made = output::one_more(t.made);
-    let n = port::sent_bytes(call, lent, &mut tx);
-    let want = spi::exchange_of(driver::ask(call)).want;
-    let told = heard_of(m, notes, u.made, rx);
-    exchanged(u, told, text::front(&tx, n), want, rx, out)
-}
-
-// What the call does now, where that is no exchange. `read` is as in `port`.
-fn show(call: Call, read: usize, rx: &[u8], got: usize, out: &mut [u8]) {
-    let n = port::line(call, true, read, b"", 0, rx, got, out);
-    output::write_line(text::front(out, n));
-}
-
-fn waited(t: Turn, rx: &[u8], out: &mut [u8]) -> Turn {
-    let mut u = t;
-    let call = t.call;
-    show(call, 0, rx, 0, out);
-    u.call = driver::step(call, Answer::Waited, b"");
-    u
-}
-
-fn turned(t: Turn, notes: &[u8], lent: &[u8], rx: &mut [u8], out: &mut [u8]) -> Turn {
-    let call = t.call;
-    if is_wait(call) {
-        return waited(t, rx, out);
+    if told.answered {
+        return received(x, made, text::front(rx, told.given), out);
     }
-    exchange(t, notes, lent, rx, out)
+    answered(x, made, want, rx, out)
 }
 
-// No call asks so often that the turns run out.
-fn through(start: Turn, notes: &[u8], lent: &[u8], rx: &mut [u8], out: &mut [u8]) -> Turn {
-    let mut t = start;
+// The first n bytes of `out` are the exchange's line.
+fn exchange(
+    t: Turn,
+    want: usize,
+    sent: &[u8],
+    notes: &[u8],
+    n: usize,
+    rx: &mut [u8],
+    out: &mut [u8],
+) -> Turn {
+    let m = t.model;
+    let made = output::one_more(t.made);
+    let told = heard_of(m, notes, made, rx);
+    output::write_line(text::front(out, n));
+    exchanged(told, made, sent, want, rx, out)
+}
+
+fn waited(t: Turn, q: Ask, line: &[u8]) -> Turn {
+    let m = t.model;
+    output::write_line(line);
+    Turn {
+        model: m,
+        made: t.made,
+        got: t.got,
+        answer: Answer::Waited,
+        heard: 0,
+        over: is_over(q),
+    }
+}
+
+fn turned(
+    t: Turn,
+    q: Ask,
+    sent: &[u8],
+    notes: &[u8],
+    n: usize,
+    rx: &mut [u8],
+    out: &mut [u8],
+) -> Turn {
+    if is_quiet(q) {
+        return waited(t, q, text::front(out, n));
+    }
+    exchange(t, spi::exchange_of(q).want, sent, notes, n, rx, out)
+}
+
+// `read` as in `port`.
+fn read_of(row: usize, numbers: &[u64]) -> usize {
+    classes::read_of(classes::called(row, numbers))
+}
+
+// What the call does now.
+fn done(
+    t: Turn,
+    call: Call,
+    read: usize,
+    lent: &[u8],
+    notes: &[u8],
+    rx: &mut [u8],
+    out: &mut [u8],
+) -> Turn {
+    let mut tx = [0u8; 4200];
+    let n = port::line(call, true, read, lent, lent.len(), rx, t.got, out);
+    let q = driver::ask(call);
+    let k = port::sent_bytes(call, lent, &mut tx);
+    turned(t, q, text::front(&tx, k), notes, n, rx, out)
+}
+
+// A call, to its end. No call asks so often that the turns run out.
+fn through(
+    m: Model,
+    row: usize,
+    numbers: &[u64],
+    lent: &[u8],
+    notes: &[u8],
+    rx: &mut [u8],
+    out: &mut [u8],
+) -> Model {
+    let mut call = starts::start(row, numbers, lent);
+    let read = read_of(row, numbers);
+    let mut t = begun(m);
     let mut turns = u64::MAX;
     while 0 < turns {
         turns -= 1;
-        let call = t.call;
-        if is_over(call) {
-            return t;
+        if t.over {
+            return t.model;
         }
-        t = turned(t, notes, lent, rx, out);
+        t = done(t, call, read, lent, notes, rx, out);
+        let answer = t.answer;
+        call = driver::step(call, answer, text::front(rx, t.heard));
     }
-    t
+    t.model
 }
 
-fn ran(m: Model, call: Call, read: usize, lent: &[u8], notes: &[u8]) -> Model {
+fn ran(m: Model, row: usize, numbers: &[u64], lent: &[u8], notes: &[u8]) -> Model {
     let mut rx = [0u8; 32768];
     let mut out = io::large_buffer();
-    let start = Turn {
-        call: call,
-        model: m,
-        made: 0,
-        got: 0,
-    };
-    let t = through(start, notes, lent, &mut rx, &mut out);
-    let last = t.call;
-    show(last, read, &rx, t.got, &mut out);
+    let next = through(m, row, numbers, lent, notes, &mut rx, &mut out);
     output::write(b"\n");
-    t.model
+    next
 }
 
 // A call by its line, with its @ lines.
@@ -244,7 +309,5 @@ pub fn run(m: Model, line: &[u8], notes: &[u8]) -> Model {
     let Line::Row(s) = spoken::understood(line, &mut numbers, &mut lent) else {
         return m;
     };
-    let read = classes::read_of(classes::called(s.row, &numbers));
-    let bytes = text::front(&lent, s.count);
-    ran(m, starts::start(s.row, &numbers, bytes), read, bytes, notes)
+    ran(m, s.row, &numbers, text::front(&lent, s.count), notes)
 }
