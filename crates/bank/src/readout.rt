@@ -1,7 +1,6 @@
 // Registers as they read.
 ghost use mathlib.Core.Path.{_≡_};
 ghost use Prim.Native.Nat.{_≤_, _<_};
-ghost use lib.ListN.{getD};
 ghost use Rattle.operation.specs.declared.place.Register.{Register};
 ghost use Rattle.bank.specs.Registers.{modeOf, shownAt, wordOf};
 use chip::OscillatorControl;
@@ -25,64 +24,28 @@ fn mode(x: Fixed) -> u32
 fn con_word(m: Model) -> u32
     ensures { λ r. ⌜ r ≡ wordOf m Register.Con ⌝ }
 {
-    let x = m.fixed;
-    CanControl(x.con).with_opmod(mode(x)).0
+    CanControl(m.fixed.con).with_opmod(mode(m.fixed)).0
 }
 
 fn osc_word(m: Model) -> u32
     ensures { λ r. ⌜ r ≡ wordOf m Register.Osc ⌝ }
 {
-    let s = m.setup;
-    let o = OscillatorControl(s.osc);
+    let o = OscillatorControl(m.setup.osc);
     o.with_pllrdy(o.pllen()).0
-}
-
-fn plain_word(m: Model, k: usize) -> u32
-    ensures { λ r. ⌜ r ≡ getD (m .setup .plain) k 0 ⌝ }
-{
-    let s = m.setup;
-    let words = s.plain;
-    word_at(&words, k)
-}
-
-fn filter_word(m: Model, k: usize) -> u32
-    ensures { λ r. ⌜ r ≡ getD (m .setup .filter) k 0 ⌝ }
-{
-    let s = m.setup;
-    let words = s.filter;
-    word_at(&words, k)
-}
-
-fn object_word(m: Model, k: usize) -> u32
-    ensures { λ r. ⌜ r ≡ getD (m .setup .object) k 0 ⌝ }
-{
-    let s = m.setup;
-    let words = s.object;
-    word_at(&words, k)
-}
-
-fn mask_word(m: Model, k: usize) -> u32
-    ensures { λ r. ⌜ r ≡ getD (m .setup .mask) k 0 ⌝ }
-{
-    let s = m.setup;
-    let words = s.mask;
-    word_at(&words, k)
 }
 
 // Where the slot that FIFO n shows begins in RAM.
 pub fn shown_at(m: Model, n: u8) -> usize
     ensures { λ r. ⌜ (r ≡ shownAt m n) × (r ≤ 1000000) ⌝ }
 {
-    let fixed = m.fixed;
-    let frozen = fixed.frozen;
+    let frozen = m.fixed.frozen;
     ring::slot_at(frozen, n, ring::shown(frozen_at(m, n), fifo_at(m, n)))
 }
 
 fn status_word(m: Model, n: u8) -> u32
     ensures { λ r. ⌜ r ≡ wordOf m (Register.Status n) ⌝ }
 {
-    let fixed = m.fixed;
-    if fixed.configuring {
+    if m.fixed.configuring {
         return 0;
     }
     ring::status(frozen_at(m, n), fifo_at(m, n))
@@ -91,8 +54,7 @@ fn status_word(m: Model, n: u8) -> u32
 fn address_word(m: Model, n: u8) -> u32
     ensures { λ r. ⌜ r ≡ wordOf m (Register.Address n) ⌝ }
 {
-    let fixed = m.fixed;
-    if fixed.configuring {
+    if m.fixed.configuring {
         return 0;
     }
     shown_at(m, n) as u32
@@ -104,10 +66,10 @@ pub fn word(m: Model, r: Register) -> u32
     match r {
         Register::Con => con_word(m),
         Register::Osc => osc_word(m),
-        Register::Plain(k) => plain_word(m, k),
-        Register::Filter(k) => filter_word(m, k),
-        Register::Object(k) => object_word(m, k),
-        Register::Mask(k) => mask_word(m, k),
+        Register::Plain(k) => word_at(&m.setup.plain, k),
+        Register::Filter(k) => word_at(&m.setup.filter, k),
+        Register::Object(k) => word_at(&m.setup.object, k),
+        Register::Mask(k) => word_at(&m.setup.mask, k),
         Register::Control(n) => ring::control(frozen_at(m, n), fifo_at(m, n)),
         Register::Status(n) => status_word(m, n),
         Register::Address(n) => address_word(m, n),

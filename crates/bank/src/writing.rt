@@ -49,16 +49,10 @@ fn turned(m: Model, entering: bool) -> Model
 fn with_con(m: Model, w: u32, configuring: bool) -> Model
     ensures { λ r. ⌜ r ≡ conSet m w configuring ⌝ }
 {
-    let x = m.fixed;
-    let frozen = x.frozen;
-    with_fixed(
-        m,
-        Fixed {
-            con: w,
-            configuring: configuring,
-            frozen: frozen,
-        },
-    )
+    let mut d = m;
+    d.fixed.con = w;
+    d.fixed.configuring = configuring;
+    d
 }
 
 fn settled(m: Model) -> Written
@@ -73,15 +67,14 @@ fn settled(m: Model) -> Written
 fn con_written(m: Model, w: u32) -> Written
     ensures { λ r. ⌜ r ≡ conWritten m w ⌝ }
 {
-    let x = m.fixed;
     if CanControl(w).reqop() == 4 {
-        if x.configuring {
+        if m.fixed.configuring {
             return settled(with_con(m, w, true));
         }
         return settled(with_con(turned(m, true), w, true));
     }
-    if x.configuring {
-        if granted(x, w) {
+    if m.fixed.configuring {
+        if granted(m.fixed, w) {
             return settled(with_con(turned(m, false), w, false));
         }
         return Written {
@@ -112,8 +105,7 @@ fn control_written(m: Model, n: u8, w: u32) -> Model
     ensures { λ r. ⌜ r ≡ controlWritten m n w ⌝ }
 {
     let f = fifo_at(m, n);
-    let x = m.fixed;
-    if x.configuring {
+    if m.fixed.configuring {
         return with_fifo(with_frozen(m, n, w), n, ring::configured(w, f));
     }
     with_fifo(m, n, ring::commanded(frozen_at(m, n), w, f))
@@ -131,9 +123,9 @@ fn status_written(m: Model, n: u8, w: u32) -> Model
 fn with_osc(m: Model, w: u32) -> Model
     ensures { λ r. ⌜ r ≡ oscSet m w ⌝ }
 {
-    let mut s = m.setup;
-    s.osc = w;
-    with_setup(m, s)
+    let mut d = m;
+    d.setup.osc = w;
+    d
 }
 
 fn with_plain(m: Model, k: usize, w: u32) -> Model

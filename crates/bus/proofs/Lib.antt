@@ -1,3 +1,4 @@
 mod Ram
 mod Answers
 pub mod Laws
+pub mod Causes

@@ -1,11 +1,14 @@
 // A frame arrives for a FIFO.
 ghost use mathlib.Core.Path.{_≡_};
 ghost use Prim.Native.Nat.{_<_};
+ghost use lib.Dec.{ltb, leb};
 ghost use Rattle.laws.specs.If.{if_then_else_};
+ghost use Rattle.fifo.specs.Control.{payloadOf};
 ghost use Rattle.message.specs.declared.object.Stamp.{Stamp};
-ghost use Rattle.ring.specs.Ring.{claimed};
+ghost use Rattle.ring.specs.Ring.{claimed, sending, depth};
 ghost use Rattle.ring.specs.Layout.{stamped};
 ghost use Rattle.state.specs.Model.{fifoAt, frozenAt, withFifo, written};
+ghost use Rattle.bus.specs.declared.arrival.Delivery.{Delivery};
 ghost use Rattle.bus.specs.Held.{slotOf};
 ghost use Rattle.bus.specs.Bus.{delivered, appended, deliverOf};
 use crate::held;
@@ -61,29 +64,35 @@ fn placed(m: Model, n: u8, object: &[u8]) -> Model
     state::with_fifo(state::written(m, at, object), n, ring::claimed(f))
 }
 
+// What a frame for a FIFO comes to: the first cause to turn it down, or none.
+fn cause(configuring: bool, w: u32, count: u8, len: usize) -> Delivery
+    ensures { λ r. ⌜ r ≡ (if configuring then Delivery.Configuration else if sending w then Delivery.NotReceiving else if ltb (payloadOf w) len then Delivery.TooLong else if leb (depth w) count then Delivery.Full else Delivery.Delivered) ⌝ }
+{
+    if configuring {
+        return Delivery::Configuration;
+    }
+    if ring::sending(w) {
+        return Delivery::NotReceiving;
+    }
+    if FifoControl(w).payload_size() < len {
+        return Delivery::TooLong;
+    }
+    if ring::depth(w) <= count as u32 {
+        return Delivery::Full;
+    }
+    Delivery::Delivered
+}
+
 fn appended(m: Model, n: u8, len: usize, object: &[u8]) -> Delivered
     ensures { λ r. ⌜ r ≡ appended m n len (now (object .entry)) ⌝ }
 {
-    let w = frozen_at(m, n);
     let f = fifo_at(m, n);
-    let x = m.fixed;
-    let sending = ring::sending(w);
-    if x.configuring {
-        return told(Delivery::Configuration, m);
+    let c = cause(m.fixed.configuring, frozen_at(m, n), f.count, len);
+    match c {
+        Delivery::Delivered => told(c, placed(m, n, object)),
+        Delivery::Full => told(c, state::with_fifo(m, n, ring::overflowed(true, f))),
+        _ => told(c, m),
     }
-    if sending {
-        return told(Delivery::NotReceiving, m);
-    }
-    if FifoControl(w).payload_size() < len {
-        return told(Delivery::TooLong, m);
-    }
-    if ring::depth(w) <= f.count as u32 {
-        return told(
-            Delivery::Full,
-            state::with_fifo(m, n, ring::overflowed(true, f)),
-        );
-    }
-    told(Delivery::Delivered, placed(m, n, object))
 }
 
 pub fn deliver(m: Model, n: u8, header: Header, time: u32, payload: &[u8]) -> Delivered
@@ -96,9 +105,8 @@ pub fn deliver(m: Model, n: u8, header: Header, time: u32, payload: &[u8]) -> De
     let done = e.done;
     match done {
         Done::Good => {
-            let o = e.object;
-            let bytes = o.bytes;
-            let len = o.len;
+            let bytes = e.object.bytes;
+            let len = e.object.len;
             appended(m, n, payload.len(), &bytes[..len])
         }
         Done::Bad(r) => told(Delivery::Refused(r), m),

@@ -1,8 +1,6 @@
 // Has-next, peek and get, from one exchange to the next.
 ghost use mathlib.Core.Path.{_≡_};
-ghost use Rattle.field.specs.Field.{flag};
-ghost use Rattle.fifo.specs.Control.{TXEN, RXTSEN};
-ghost use Rattle.fifo.specs.Status.{TFNRFNIF};
+ghost use Rattle.words.specs.Words.{roundUp};
 ghost use Rattle.spi.specs.Reply.{doneReply};
 ghost use Rattle.spi.specs.Talk.{onWord, onPair, onDone};
 ghost use Rattle.spi.specs.declared.refusal.Refusal.{Refusal};
@@ -47,32 +45,13 @@ pub enum FetchAt {
     Refused(Refusal),
 }
 
-fn is_tx(w: u32) -> bool
-    ensures { λ r. ⌜ r ≡ flag TXEN w ⌝ }
-{
-    FifoControl(w).txen()
-}
-
-fn is_stamped(w: u32) -> bool
-    ensures { λ r. ⌜ r ≡ flag RXTSEN w ⌝ }
-{
-    FifoControl(w).rxtsen()
-}
-
-// Of a receive FIFO: it is not empty.
-fn has_message(v: u32) -> bool
-    ensures { λ r. ⌜ r ≡ flag TFNRFNIF v ⌝ }
-{
-    FifoStatus(v).tfnrfnif()
-}
-
 // TXEN is looked at only here, in the first control word.
 fn after_control(reply: OneWord) -> FetchAt
     ensures { λ r. ⌜ r ≡ onWord FetchAt.Refused reply afterControl ⌝ }
 {
     match reply {
         OneWord::Word(w) => {
-            if is_tx(w) {
+            if FifoControl(w).txen() {
                 FetchAt::Refused(Refusal::FifoNotRx)
             } else {
                 FetchAt::Status
@@ -97,7 +76,7 @@ fn after_status(want: Want, reply: OneWord) -> FetchAt
 {
     match reply {
         OneWord::Word(v) => {
-            let next = has_message(v);
+            let next = FifoStatus(v).tfnrfnif();
             match want {
                 Want::HasNext => FetchAt::Told(next),
                 Want::Peek => to_address(next),
@@ -184,7 +163,7 @@ fn after_again(m: u16, f: Found, reply: OneWord) -> FetchAt
     match reply {
         OneWord::Word(w) => {
             let x = (m as u32) + 8;
-            if is_stamped(w) {
+            if FifoControl(w).rxtsen() {
                 to_time(x, f)
             } else {
                 to_body(x, f)
@@ -214,10 +193,15 @@ fn after_time(x: u16, f: Found, reply: OneWord) -> FetchAt
     }
 }
 
-fn after_body(want: Want, f: Found, reply: Done) -> FetchAt
-    ensures { λ r. ⌜ r ≡ onDone FetchAt.Refused reply (afterBody want f) ⌝ }
+fn after_body(want: Want, f: Found, answer: Answer, got: usize) -> FetchAt
+    ensures { λ r. ⌜ r ≡ onDone FetchAt.Refused (doneReply Refusal.SpiRead answer got (roundUp (f .len))) (afterBody want f) ⌝ }
 {
-    match reply {
+    match spi::done_reply(
+        Refusal::SpiRead,
+        answer,
+        got,
+        words::round_up(f.len as usize),
+    ) {
         Done::Good => match want {
             Want::HasNext => FetchAt::Done(f),
             Want::Peek => FetchAt::Done(f),
@@ -236,19 +220,13 @@ fn after_next(f: Found, reply: OneWord) -> FetchAt
     }
 }
 
-fn after_commit(f: Found, reply: Done) -> FetchAt
-    ensures { λ r. ⌜ r ≡ onDone FetchAt.Refused reply (FetchAt.Done f) ⌝ }
+fn after_commit(f: Found, answer: Answer, got: usize) -> FetchAt
+    ensures { λ r. ⌜ r ≡ onDone FetchAt.Refused (doneReply Refusal.SpiRead answer got 0) (FetchAt.Done f) ⌝ }
 {
-    match reply {
+    match spi::done_reply(Refusal::SpiRead, answer, got, 0) {
         Done::Good => FetchAt::Done(f),
         Done::Bad(r) => FetchAt::Refused(r),
     }
-}
-
-fn received(answer: Answer, got: usize, want: usize) -> Done
-    ensures { λ r. ⌜ r ≡ doneReply Refusal.SpiRead answer got want ⌝ }
-{
-    spi::done_reply(Refusal::SpiRead, answer, got, want)
 }
 
 // Where an answer leads, by what it says as a word, as two words, or by its kind and length. After the end it is wrong.
@@ -269,16 +247,10 @@ fn next_by(
         FetchAt::Header(m) => after_header(m, pair),
         FetchAt::Again(m, f) => after_again(m, f, word),
         FetchAt::Time(x, f) => after_time(x, f, word),
-        FetchAt::Body(_, f) => {
-            let n = words::round_up(f.len as usize);
-            after_body(want, f, received(answer, got, n))
-        }
+        FetchAt::Body(_, f) => after_body(want, f, answer, got),
         FetchAt::Next(f) => after_next(f, word),
-        FetchAt::Commit(_, f) => after_commit(f, received(answer, got, 0)),
-        FetchAt::Done(_) => FetchAt::Refused(Refusal::WrongAnswer),
-        FetchAt::Empty => FetchAt::Refused(Refusal::WrongAnswer),
-        FetchAt::Told(_) => FetchAt::Refused(Refusal::WrongAnswer),
-        FetchAt::Refused(_) => FetchAt::Refused(Refusal::WrongAnswer),
+        FetchAt::Commit(_, f) => after_commit(f, answer, got),
+        _ => FetchAt::Refused(Refusal::WrongAnswer),
     }
 }
 

@@ -80,11 +80,10 @@ fn wrote(m: Model, r: Register, w: u32) -> Exchanged
     ensures { λ x. ⌜ x ≡ exchangedAs (doneWriting (registerWritten m r w)) ⌝ }
 {
     let x = bank::registered(m, r, w);
-    let next = x.model;
     if x.granted {
-        return told(Heard::Received, next);
+        return told(Heard::Received, x.model);
     }
-    told(Heard::NoLayout, next)
+    told(Heard::NoLayout, x.model)
 }
 
 fn wrote_ram(m: Model, at: usize, sent: &[u8]) -> Model

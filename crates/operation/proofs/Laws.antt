@@ -1,7 +1,7 @@
 -- Where the registers stand, and what the driver's exchanges are read as.
 -- Assumes nothing.
 use mathlib.Core.Path.{_≡_, refl, ap, sym, subst}
-use mathlib.Core.Bool.{Bool, true, false, not}
+use mathlib.Core.Bool.{Bool, true, false, not, _||_}
 use mathlib.Core.List.{List, [], _∷_, _++_}
 use Prim.Native.Nat.{ℕ, suc, _+_, _-_, _*_, _/_, _%_, _^_, _≤_, _<_}
 use native.Mathlib.Omega.{arith}
@@ -78,23 +78,31 @@ all-carried = record {
   pins = refl;
 }
 
-abbrev same : Bool → Bool → Bool
-same true b = b
-same false b = not b
+abbrev listed : ℕ → Bool
+listed k = not (carried (registerAt (4 * k))) || among (addressesOf kinds) (4 * k)
 
-same-told : (a b : Bool) → same a b ≡ true → a ≡ b
-same-told true true e = refl
-same-told true false e = sym e
-same-told false true e = e
-same-told false false e = refl
-
-abbrev agrees : ℕ → Bool
-agrees k = same (carried (registerAt (4 * k))) (among (addressesOf kinds) (4 * k))
-
--- the addresses that are multiples of 4, by computing
-multiples : every agrees 1024 ≡ true
+-- of the addresses that are multiples of 4, those carried are in the table, by computing
+multiples : every listed 1024 ≡ true
 unfolding kinds registerAt single
 multiples = refl
+
+-- those in the table are carried, by computing
+all-listed : all (λ x. carried (registerAt x)) (addressesOf kinds) ≡ true
+unfolding kinds registerAt single
+all-listed = refl
+
+of-all : (P : ℕ → Bool) (xs : List ℕ) → all P xs ≡ true → (a : ℕ) → among xs a ≡ true → P a ≡ true
+of-all P [] e a h = cc
+of-all P (x ∷ xs) e a h = go (of-all P xs (both (P x) (all P xs) e .1) a) (eqb a x) refl
+  where
+    go : (among xs a ≡ true → P a ≡ true) → (b : Bool) → eqb a x ≡ b → P a ≡ true
+    go rest true q = subst (λ (y : ℕ). P y ≡ true) (sym (eqb-true a x q)) (both (P x) (all P xs) e .0)
+    go rest false q = rest (rw q at h)
+
+meets : (b c : Bool) → (not b || c) ≡ true → (c ≡ true → b ≡ true) → b ≡ c
+meets true c e f = sym e
+meets false true e f = f refl
+meets false false e f = refl
 
 -- the table has no other addresses
 aligned : all (λ x. eqb (x % 4) 0) (addressesOf kinds) ≡ true
@@ -117,7 +125,9 @@ exactly a h = go (ltb 0 (a % 4)) refl
     go false e =
         let l = ltb-false 0 (a % 4) e in
         let q : 4 * (a / 4) ≡ a = omega arith in
-        subst (λ (x : ℕ). carried (registerAt x) ≡ among (addressesOf kinds) x) q (same-told _ _ (at agrees 1024 multiples (a / 4) (omega arith)))
+        subst (λ (x : ℕ). carried (registerAt x) ≡ among (addressesOf kinds) x) q
+        (meets (carried (registerAt (4 * (a / 4)))) (among (addressesOf kinds) (4 * (a / 4))) (at listed 1024 multiples (a / 4) (omega arith))
+        (of-all (λ x. carried (registerAt x)) (addressesOf kinds) all-listed (4 * (a / 4))))
 
 -- ---- the driver's exchanges
 

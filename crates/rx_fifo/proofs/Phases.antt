@@ -5,9 +5,10 @@ use mathlib.Core.List.{List, [], _∷_}
 use Prim.Native.Nat.{ℕ}
 use types.Run.{OneOf, miss}
 use denote.Enum.Declared.{tagOf}
+use Rattle.spi.specs.declared.ask.Ask.{Ask}
 use Rattle.call.specs.declared.Outcome.{Outcome}
 use Rattle.fetch.specs.declared.FetchAt.{FetchAt}
-use Rattle.rx_fifo.specs.Step.{heldAt}
+use Rattle.rx_fifo.specs.Step.{heldAt, askFrom}
 use Rattle.rx_fifo.specs.Outcome.{outcomeAt, sizeAt}
 use Rattle.fetch.proofs.FetchAt.{the-type}
 
@@ -38,3 +39,21 @@ module _ (held rx : List ℕ) where
   others FetchAt.Empty = (λ o. refl, λ o. refl, λ o. absurd (miss asking 10 tt o))
   others (FetchAt.Told next) = (λ o. refl, λ o. refl, λ o. absurd (miss asking 11 tt o))
   others (FetchAt.Refused r) = (λ o. refl, λ o. refl, λ o. absurd (miss asking 12 tt o))
+
+abbrev ended : List ℕ
+ended = 9 ∷ 10 ∷ 11 ∷ 12 ∷ []
+
+pub asks-nothing : (fifo : ℕ) (at : FetchAt) → OneOf ended (tagOf the-type at) → Ask.Nothing ≡ askFrom fifo at
+asks-nothing fifo FetchAt.Control o = absurd (miss ended 0 tt o)
+asks-nothing fifo FetchAt.Status o = absurd (miss ended 1 tt o)
+asks-nothing fifo FetchAt.Address o = absurd (miss ended 2 tt o)
+asks-nothing fifo (FetchAt.Header m) o = absurd (miss ended 3 tt o)
+asks-nothing fifo (FetchAt.Again m f) o = absurd (miss ended 4 tt o)
+asks-nothing fifo (FetchAt.Time x f) o = absurd (miss ended 5 tt o)
+asks-nothing fifo (FetchAt.Body x f) o = absurd (miss ended 6 tt o)
+asks-nothing fifo (FetchAt.Next f) o = absurd (miss ended 7 tt o)
+asks-nothing fifo (FetchAt.Commit w f) o = absurd (miss ended 8 tt o)
+asks-nothing fifo (FetchAt.Done f) o = refl
+asks-nothing fifo FetchAt.Empty o = refl
+asks-nothing fifo (FetchAt.Told next) o = refl
+asks-nothing fifo (FetchAt.Refused r) o = refl

@@ -126,10 +126,7 @@ fn ask_at(fifo: u8, at: FetchAt) -> Ask
             address: FifoControl::address(fifo),
             word: with_uinc(w),
         },
-        FetchAt::Done(_) => Ask::Nothing,
-        FetchAt::Empty => Ask::Nothing,
-        FetchAt::Told(_) => Ask::Nothing,
-        FetchAt::Refused(_) => Ask::Nothing,
+        _ => Ask::Nothing,
     }
 }
 

@@ -2,6 +2,9 @@
 // read with UINC.
 ghost use mathlib.Core.Path.{_≡_};
 ghost use Rattle.message.specs.Structs.{encodedAs};
+ghost use Rattle.spi.specs.Reply.{doneReply};
+ghost use Rattle.spi.specs.Talk.{onWord, onDone};
+ghost use Rattle.tx_fifo.specs.declared.push.PushAt.{PushAt};
 ghost use Rattle.tx_fifo.specs.Step.{encodingFor, firstAt, startOf, afterControl, afterStatus, afterAddress, nextAt, stepOf, askOf, outcomeOf, isDone};
 use call::Outcome;
 use fifo::FifoControl;
@@ -122,32 +125,54 @@ fn after_address(len: usize, w: u32, u: u32) -> PushAt
     }
 }
 
+fn on_control(size: usize, reply: OneWord) -> PushAt
+    ensures { λ r. ⌜ r ≡ onWord PushAt.Refused reply (afterControl size) ⌝ }
+{
+    match reply {
+        OneWord::Word(w) => after_control(size, w),
+        OneWord::Bad(r) => PushAt::Refused(r),
+    }
+}
+
+fn on_status(w: u32, reply: OneWord) -> PushAt
+    ensures { λ r. ⌜ r ≡ onWord PushAt.Refused reply (afterStatus w) ⌝ }
+{
+    match reply {
+        OneWord::Word(v) => after_status(w, v),
+        OneWord::Bad(r) => PushAt::Refused(r),
+    }
+}
+
+fn on_address(len: usize, w: u32, reply: OneWord) -> PushAt
+    ensures { λ r. ⌜ r ≡ onWord PushAt.Refused reply (afterAddress len w) ⌝ }
+{
+    match reply {
+        OneWord::Word(u) => after_address(len, w, u),
+        OneWord::Bad(r) => PushAt::Refused(r),
+    }
+}
+
+fn on_written(failed: Refusal, answer: Answer, got: usize, next: PushAt) -> PushAt
+    ensures { λ r. ⌜ r ≡ onDone PushAt.Refused (doneReply failed answer got 0) next ⌝ }
+{
+    match done_reply(failed, answer, got, 0) {
+        Done::Good => next,
+        Done::Bad(r) => PushAt::Refused(r),
+    }
+}
+
 fn next_at(size: usize, len: usize, at: PushAt, answer: Answer, rx: &[u8]) -> PushAt
     ensures { λ r. ⌜ r ≡ nextAt size len at answer (now (rx .entry)) ⌝ }
 {
+    let got = rx.len();
+    let reply = word_reply(Refusal::SpiRead, answer, rx);
     match at {
-        PushAt::Control => match word_reply(Refusal::SpiRead, answer, rx) {
-            OneWord::Word(w) => after_control(size, w),
-            OneWord::Bad(r) => PushAt::Refused(r),
-        },
-        PushAt::Status(w) => match word_reply(Refusal::SpiRead, answer, rx) {
-            OneWord::Word(v) => after_status(w, v),
-            OneWord::Bad(r) => PushAt::Refused(r),
-        },
-        PushAt::Address(w) => match word_reply(Refusal::SpiRead, answer, rx) {
-            OneWord::Word(u) => after_address(len, w, u),
-            OneWord::Bad(r) => PushAt::Refused(r),
-        },
-        PushAt::Write(w, _) => match done_reply(Refusal::SpiWrite, answer, rx.len(), 0) {
-            Done::Good => PushAt::Commit(w),
-            Done::Bad(r) => PushAt::Refused(r),
-        },
-        PushAt::Commit(_) => match done_reply(Refusal::SpiRead, answer, rx.len(), 0) {
-            Done::Good => PushAt::Done,
-            Done::Bad(r) => PushAt::Refused(r),
-        },
-        PushAt::Done => PushAt::Refused(Refusal::WrongAnswer),
-        PushAt::Refused(_) => PushAt::Refused(Refusal::WrongAnswer),
+        PushAt::Control => on_control(size, reply),
+        PushAt::Status(w) => on_status(w, reply),
+        PushAt::Address(w) => on_address(len, w, reply),
+        PushAt::Write(w, _) => on_written(Refusal::SpiWrite, answer, got, PushAt::Commit(w)),
+        PushAt::Commit(_) => on_written(Refusal::SpiRead, answer, got, PushAt::Done),
+        _ => PushAt::Refused(Refusal::WrongAnswer),
     }
 }
 
@@ -169,7 +194,6 @@ pub fn push_ask(s: Push) -> Ask
     ensures { λ r. ⌜ r ≡ askOf s ⌝ }
 {
     let at = s.at;
-    let o = s.object;
     match at {
         PushAt::Control => Ask::Read {
             address: FifoControl::address(s.fifo),
@@ -185,14 +209,13 @@ pub fn push_ask(s: Push) -> Ask
         },
         PushAt::Write(_, m) => Ask::Body {
             address: m,
-            count: o.len,
+            count: s.object.len,
         },
         PushAt::Commit(w) => Ask::Word {
             address: FifoControl::address(s.fifo),
             word: FifoControl(w).with_uinc(true).0,
         },
-        PushAt::Done => Ask::Nothing,
-        PushAt::Refused(_) => Ask::Nothing,
+        _ => Ask::Nothing,
     }
 }
 
@@ -201,13 +224,9 @@ pub fn push_outcome(s: Push) -> Outcome
 {
     let at = s.at;
     match at {
-        PushAt::Control => Outcome::Running,
-        PushAt::Status(_) => Outcome::Running,
-        PushAt::Address(_) => Outcome::Running,
-        PushAt::Write(_, _) => Outcome::Running,
-        PushAt::Commit(_) => Outcome::Running,
         PushAt::Done => Outcome::Done,
         PushAt::Refused(r) => Outcome::Refused(r),
+        _ => Outcome::Running,
     }
 }
 
@@ -216,12 +235,7 @@ pub fn push_done(s: Push) -> bool
 {
     let at = s.at;
     match at {
-        PushAt::Control => false,
-        PushAt::Status(_) => false,
-        PushAt::Address(_) => false,
-        PushAt::Write(_, _) => false,
-        PushAt::Commit(_) => false,
         PushAt::Done => true,
-        PushAt::Refused(_) => false,
+        _ => false,
     }
 }

@@ -11,6 +11,6 @@ unfolding afterAgain
 after-again-spec =
     tie.close
     (tie.spec (search needs) (search needs) (λ c κs. search needs) (λ c κs. search needs) (λ c κs. search needs) (search needs)
-    (λ c. simp (c .to-time .ensures, sym (c .before .before .is-stamped .ensures) ∙ c .before .if1 .taken, c .before .before .before .before .reply .given .1))
-    (λ c. simp (c .to-body .ensures, sym (c .before .before .is-stamped .ensures) ∙ c .before .if1 .left, c .before .before .before .before .reply .given .1))
+    (λ c. simp (c .to-time .ensures, sym (c .before .before .rxtsen .ensures) ∙ c .before .if1 .taken, c .before .before .before .before .reply .given .1))
+    (λ c. simp (c .to-body .ensures, sym (c .before .before .rxtsen .ensures) ∙ c .before .if1 .left, c .before .before .before .before .reply .given .1))
     (λ c. simp (c .before .reply2 .given .1)))

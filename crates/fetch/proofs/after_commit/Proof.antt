@@ -1,5 +1,6 @@
 -- `fetch::after_commit` meets its contract.
 -- Assumes nothing.
+use mathlib.Core.Path.{sym, _∙_}
 use borrow.Author.Needs.{needs}
 use Rattle.fetch.proofs.after_commit.Statement.{statement}
 use Rattle.fetch.proofs.after_commit.Tie as tie
@@ -7,6 +8,6 @@ use Rattle.fetch.proofs.after_commit.Tie as tie
 pub after-commit-spec : {M : Type 1} → statement M
 after-commit-spec =
     tie.close
-    (tie.spec (search needs) (search needs)
-    (λ c. simp (c .enum-told .given .1))
-    (λ c. simp (c .before .reply .given .1)))
+    (tie.spec (λ c κs. search needs) (search needs) (search needs)
+    (λ c. simp (sym (c .before .before .done-reply .ensures) ∙ c .enum-told .given .1))
+    (λ c. simp (sym (c .before .before .before .done-reply .ensures) ∙ c .before .r .given .1)))

@@ -11,6 +11,6 @@ unfolding afterControl
 after-control-spec =
     tie.close
     (tie.spec (search needs) (λ c κs. search needs) (search needs)
-    (λ c. simp (sym (c .before .is-tx .ensures) ∙ c .if1 .taken, c .before .before .before .reply .given .1))
-    (λ c. simp (sym (c .before .is-tx .ensures) ∙ c .if1 .left, c .before .before .before .reply .given .1))
+    (λ c. simp (sym (c .before .txen .ensures) ∙ c .if1 .taken, c .before .before .before .reply .given .1))
+    (λ c. simp (sym (c .before .txen .ensures) ∙ c .if1 .left, c .before .before .before .reply .given .1))
     (λ c. simp (c .before .reply2 .given .1)))

@@ -11,7 +11,7 @@ after-status-spec =
     tie.close
     (tie.spec (search needs) (λ c κs. search needs) (search needs) (search needs) (λ c κs. search needs) (search needs) (λ c κs. search needs)
     (search needs)
-    (λ c. simp (c .before .before .has-message .ensures, c .enum-told .given .1, c .before .before .before .before .reply .given .1))
-    (λ c. simp (c .to-address .ensures, c .before .before .before .has-message .ensures, c .before .enum-told2 .given .1, c .before .before .before .before .before .reply .given .1))
-    (λ c. simp (c .to-address2 .ensures, c .before .before .before .has-message .ensures, c .before .enum-told3 .given .1, c .before .before .before .before .before .reply .given .1))
+    (λ c. simp (c .before .before .tfnrfnif .ensures, c .enum-told .given .1, c .before .before .before .before .reply .given .1))
+    (λ c. simp (c .to-address .ensures, c .before .before .before .tfnrfnif .ensures, c .before .enum-told2 .given .1, c .before .before .before .before .before .reply .given .1))
+    (λ c. simp (c .to-address2 .ensures, c .before .before .before .tfnrfnif .ensures, c .before .enum-told3 .given .1, c .before .before .before .before .before .reply .given .1))
     (λ c. simp (c .before .reply2 .given .1)))

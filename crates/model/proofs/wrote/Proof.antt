@@ -11,6 +11,6 @@ wrote-spec =
     (tie.spec
     (λ c κs. search needs)
     (λ c κs. search needs)
-    (λ c. rw (c .told .ensures, ← c .before .before .before .registered .ensures, c .before .if1 .taken))
+    (λ c. rw (c .told .ensures, ← c .before .before .registered .ensures, c .before .if1 .taken))
     (λ c. search needs)
-    (λ c. rw (c .told2 .ensures, ← c .before .before .before .registered .ensures, c .before .if1 .left)))
+    (λ c. rw (c .told2 .ensures, ← c .before .before .registered .ensures, c .before .if1 .left)))

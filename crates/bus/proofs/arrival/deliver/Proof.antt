@@ -14,14 +14,16 @@ unfolding deliverOf incoming
 deliver-spec =
     tie.close
     (tie.spec (λ c κs. search needs) (λ c κs. search needs)
-    (λ c. simp (c .told .ensures, sym (c .before .before .is-fifo .ensures) ∙ not-true _ (c .before .if1 .taken)))
+    (λ c. rw (c .told .ensures, sym (c .before .before .is-fifo .ensures) ∙ not-true _ (c .before .if1 .taken)))
     (λ c κs. search needs) (λ c κs. search needs) (search needs)
-    (λ c. made _ _ (rw (c .before .before .before .before .before .stamp-of .ensures) at (c .before .before .before .before .encode .ensures)) (c .before .before .enum-told .given .1) .fits)
-    (λ c. sym (length-take-le _ _ (made _ _ (rw (c .before .before .before .before .before .before .stamp-of .ensures) at (c .before .before .before .before .before .encode .ensures)) (c .before .before .before .enum-told .given .1) .fits)))
+    (λ c. made _ _ (rw (c .before .before .before .before .stamp-of .ensures) at (c .before .before .before .encode .ensures)) (c .before .enum-told .given .1) .fits)
+    (λ c. sym (length-take-le _ _ (made _ _ (rw (c .before .before .before .before .before .stamp-of .ensures) at (c .before .before .before .before .encode .ensures)) (c .before .before .enum-told .given .1) .fits)))
     (λ c κs. search needs) (search needs) (λ c κs. search needs)
     (λ c.
-    let g = made _ _ (rw (c .before .before .before .before .before .before .before .stamp-of .ensures) at (c .before .before .before .before .before .before .encode .ensures)) (c .before .before .before .before .enum-told .given .1) in
-    rw (c .appended .ensures, g .front, g .encoded, sym (c .before .before .before .before .before .before .before .before .before .is-fifo .ensures) ∙ not-false _ (c .before .before .before .before .before .before .before .before .if1 .left)))
+    let q = c .before .before .before .before .before in
+    let g = made _ _ (rw (c .before .before .before .before .before .before .stamp-of .ensures) at (c .before .before .before .before .before .encode .ensures)) (c .before .before .before .enum-told .given .1) in
+    rw (c .appended .ensures, g .front, g .encoded, sym (q .before .before .before .is-fifo .ensures) ∙ not-false _ (q .before .before .if1 .left)))
     (λ c.
+    let q = c .before .before .before .before in
     let g = not-made _ _ (rw (c .before .before .before .before .before .stamp-of .ensures) at (c .before .before .before .before .encode .ensures)) _ (c .before .before .done .given .1) in
-    rw (c .told2 .ensures, g, sym (c .before .before .before .before .before .before .before .is-fifo .ensures) ∙ not-false _ (c .before .before .before .before .before .before .if1 .left))))
+    rw (c .told2 .ensures, g, sym (q .before .before .before .is-fifo .ensures) ∙ not-false _ (q .before .before .if1 .left))))

@@ -1,6 +1,5 @@
 -- `ring::readings::control` meets its contract.
 -- Assumes nothing.
-use Prim.Native.Nat.{_/_, _^_}
 use borrow.Author.Needs.{needs}
 use Rattle.ring.specs.Registers.{control}
 use Rattle.ring.proofs.Words.{digit-bit}
@@ -15,4 +14,6 @@ control-spec =
     (tie.spec (λ c κs. search needs) (λ c κs. search needs) (λ c κs. search needs) (λ c κs. search needs) (λ c κs. search needs)
     (λ c κs. rw (c .fsize .ensures) (field-lt _ 24 5)) (λ c κs. search needs)
     (λ c κs. rw (c .plsize .ensures) (field-lt _ 29 3))
-    (λ c. let w = c .before .before .before .before .before .before .before .before .args .frozen in cc (digit-bit (w / 2 ^ 5), digit-bit (w / 2 ^ 7))))
+    (λ c.
+    let q = c .before .before .before .before in
+    rw (c .with-plsize .ensures, c .before .plsize .ensures, c .before .before .with-fsize .ensures, c .before .before .before .fsize .ensures, q .with-txen .ensures, q .before .txen .ensures, q .before .before .with-rxtsen .ensures, q .before .before .before .rxtsen .ensures, digit-bit, digit-bit)))

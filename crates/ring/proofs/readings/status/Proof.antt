@@ -10,4 +10,4 @@ unfolding status
 status-spec =
     tie.close
     (tie.spec (λ c κs. search needs) (λ c κs. search needs) (λ c κs. search needs) (λ c κs. search needs) (λ c κs. search needs) (λ c κs. search needs)
-    (λ c. cc))
+    (λ c. rw (c .with-rxovif .ensures, c .before .over .ensures, c .before .before .with-tferffif .ensures, c .before .before .before .edge .ensures, c .before .before .before .before .with-tfnrfnif .ensures, c .before .before .before .before .before .ready .ensures)))

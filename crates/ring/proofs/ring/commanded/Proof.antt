@@ -11,5 +11,9 @@ unfolding commanded
 commanded-spec =
     tie.close
     (tie.spec (λ c κs. search needs) (λ c κs. search needs) (λ c κs. search needs) (λ c κs. search needs) (λ c κs. search needs) (λ c κs. search needs)
-    (λ c. simp (sym (c .before .before .freset .ensures) ∙ c .before .if1 .taken) (cc))
-    (λ c. simp (sym (c .before .freset .ensures) ∙ c .if1 .left) (cc)))
+    (λ c.
+    let p = c .before .before .before in
+    rw (c .emptied .ensures, p .increased-if .ensures, p .before .controlled .ensures, p .before .before .kept .ensures, p .before .before .before .uinc .ensures, sym (c .before .before .freset .ensures) ∙ c .before .if1 .taken))
+    (λ c.
+    let p = c .before .before in
+    rw (p .increased-if .ensures, p .before .controlled .ensures, p .before .before .kept .ensures, p .before .before .before .uinc .ensures, sym (c .before .freset .ensures) ∙ c .if1 .left)))

@@ -10,4 +10,4 @@ unfolding configured
 configured-spec =
     tie.close
     (tie.spec (λ c κs. search needs) (λ c κs. search needs)
-    (λ c. cc))
+    (λ c. rw (c .controlled .ensures, c .before .with-uinc .ensures)))

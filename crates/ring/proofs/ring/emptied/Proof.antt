@@ -10,4 +10,4 @@ unfolding emptied
 emptied-spec =
     tie.close
     (tie.spec (λ c κs. search needs) (λ c κs. search needs)
-    (λ c. cc))
+    (λ c. rw (c .fresh .ensures, c .before .without-txreq .ensures)))

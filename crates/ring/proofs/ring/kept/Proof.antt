@@ -8,4 +8,4 @@ pub kept-spec : {M : Type 1} → statement M
 kept-spec =
     tie.close
     (tie.spec (λ c κs. search needs) (λ c κs. search needs)
-    (λ c. cc))
+    (λ c. rw (c .with-freset .ensures, c .before .with-uinc .ensures)))

@@ -10,4 +10,4 @@ unfolding taken
 taken-spec =
     tie.close
     (tie.spec (λ c κs. search needs) (λ c κs. search needs) (search needs)
-    (λ c. cc))
+    (λ c. rw (c .before .next .ensures, c .before .before .depth .ensures .0)))

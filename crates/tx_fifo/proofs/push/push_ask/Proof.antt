@@ -2,6 +2,7 @@
 -- Assumes nothing.
 use borrow.Author.Needs.{needs}
 use Rattle.tx_fifo.specs.Step.{askOf}
+use Rattle.tx_fifo.proofs.Others.{asks-nothing}
 use Rattle.tx_fifo.proofs.push.push_ask.Statement.{statement}
 use Rattle.tx_fifo.proofs.push.push_ask.Tie as tie
 
@@ -10,11 +11,10 @@ unfolding askOf
 push-ask-spec =
     tie.close
     (tie.spec (search needs) (λ c κs. search needs) (search needs) (λ c κs. search needs) (search needs) (λ c κs. search needs) (search needs)
-    (search needs) (λ c κs. search needs) (λ c κs. search needs) (search needs) (search needs)
+    (search needs) (λ c κs. search needs) (λ c κs. search needs)
     (λ c. simp (c .address .ensures, c .before .enum-told .given .1))
     (λ c. simp (c .address2 .ensures, c .before .enum-told2 .given .1))
     (λ c. simp (c .address3 .ensures, c .before .enum-told3 .given .1))
     (λ c. simp (c .before .at .given .1))
     (λ c. simp (c .with-uinc .ensures, c .before .address4 .ensures, c .before .before .before .at2 .given .1))
-    (λ c. simp (c .enum-told4 .given .1))
-    (λ c. simp (c .enum-told5 .given .1)))
+    (λ c. let s = c .before .args .s in asks-nothing (s .fifo) (s .object .len) (s .at) (c .match .keys6)))
