@@ -15,12 +15,6 @@ use plan::plan_of;
 use plan::refused_plan;
 use spi::Refusal;
 
-fn slot(item: Item) -> Slot
-    ensures { λ r. ⌜ r ≡ record { item = item } ⌝ }
-{
-    Slot { item: item }
-}
-
 // All fifteen items.
 fn whole(s: Settings) -> [Slot; 15]
     requires { ⌜ (timingFits (s .bittime) ≡ true) × (s .dncnt < 32) ⌝ }
@@ -28,26 +22,38 @@ fn whole(s: Settings) -> [Slot; 15]
 {
     let late = Refusal::ConfigurationModeTimeout;
     let oscillator = s.oscillator;
-    let io = s.io;
     let b = s.bittime;
-    let n = b.nominal;
-    let d = b.data;
-    let a = slot(changes::mode_change(4));
-    let c = slot(Item::Poll(Poll::Mode(4, late), 4));
-    let e = slot(Item::Echo);
-    let f = slot(changes::oscillator_change(oscillator));
-    let g = slot(changes::pll_poll(oscillator.pll));
-    let h = slot(changes::io_change(io));
-    let j = slot(changes::nominal_change(n));
-    let k = slot(changes::data_change(d));
-    let l = slot(changes::delay_change(d));
-    let m = slot(changes::stef_change());
-    let o = slot(changes::txqen_change());
-    let p = slot(changes::counter_change(s.counter));
-    let q = slot(changes::dncnt_change(s.dncnt));
-    let r = slot(changes::rtxat_change());
-    let t = slot(changes::interrupt_change(s));
-    [a, c, e, f, g, h, j, k, l, m, o, p, q, r, t]
+    let a = changes::mode_change(4);
+    let c = Item::Poll(Poll::Mode(4, late), 4);
+    let f = changes::oscillator_change(oscillator);
+    let g = changes::pll_poll(oscillator.pll);
+    let h = changes::io_change(s.io);
+    let j = changes::nominal_change(b.nominal);
+    let k = changes::data_change(b.data);
+    let l = changes::delay_change(b.data);
+    let m = changes::stef_change();
+    let o = changes::txqen_change();
+    let p = changes::counter_change(s.counter);
+    let q = changes::dncnt_change(s.dncnt);
+    let r = changes::rtxat_change();
+    let t = changes::interrupt_change(s);
+    [
+        Slot { item: a },
+        Slot { item: c },
+        Slot { item: Item::Echo },
+        Slot { item: f },
+        Slot { item: g },
+        Slot { item: h },
+        Slot { item: j },
+        Slot { item: k },
+        Slot { item: l },
+        Slot { item: m },
+        Slot { item: o },
+        Slot { item: p },
+        Slot { item: q },
+        Slot { item: r },
+        Slot { item: t },
+    ]
 }
 
 pub fn configure_all(s: Settings) -> Plan

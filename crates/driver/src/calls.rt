@@ -30,24 +30,6 @@ pub struct Call {
     pub fetch: Fetch,
 }
 
-fn plan_in(s: Call) -> Plan
-    ensures { λ r. ⌜ r ≡ s .plan ⌝ }
-{
-    s.plan
-}
-
-fn push_in(s: Call) -> Push
-    ensures { λ r. ⌜ r ≡ s .push ⌝ }
-{
-    s.push
-}
-
-fn fetch_in(s: Call) -> Fetch
-    ensures { λ r. ⌜ r ≡ s .fetch ⌝ }
-{
-    s.fetch
-}
-
 fn transmit_in(s: Call) -> Transmit
     ensures { λ r. ⌜ r ≡ transmitOf s ⌝ }
 {
@@ -66,10 +48,10 @@ pub fn ask(s: Call) -> Ask
     match at {
         CallAt::Register(r) => register::register_ask(r),
         CallAt::Ram(r) => ram::ram_ask(r),
-        CallAt::Plan => plan::plan_ask(plan_in(s)),
-        CallAt::Push => tx_fifo::push_ask(push_in(s)),
+        CallAt::Plan => plan::plan_ask(s.plan),
+        CallAt::Push => tx_fifo::push_ask(s.push),
         CallAt::Transmit => transmit::transmit_ask(transmit_in(s)),
-        CallAt::Fetch => rx_fifo::fetch_ask(fetch_in(s)),
+        CallAt::Fetch => rx_fifo::fetch_ask(s.fetch),
     }
 }
 
@@ -166,10 +148,10 @@ pub fn outcome(s: Call) -> Outcome
     match at {
         CallAt::Register(r) => register::register_outcome(r),
         CallAt::Ram(r) => ram::ram_outcome(r),
-        CallAt::Plan => plan::plan_outcome(plan_in(s)),
-        CallAt::Push => tx_fifo::push_outcome(push_in(s)),
+        CallAt::Plan => plan::plan_outcome(s.plan),
+        CallAt::Push => tx_fifo::push_outcome(s.push),
         CallAt::Transmit => transmit::transmit_outcome(transmit_in(s)),
-        CallAt::Fetch => rx_fifo::fetch_outcome(fetch_in(s)),
+        CallAt::Fetch => rx_fifo::fetch_outcome(s.fetch),
     }
 }
 
@@ -178,13 +160,9 @@ pub fn fill(s: Call, rx: &[u8], buf: &mut [u8])
     ensures { λ _. ⌜ now (buf .exit) ≡ filledBy s (now (rx .entry)) (now (buf .entry)) ⌝ }
 {
     let at = s.at;
-    let fetch = s.fetch;
     match at {
-        CallAt::Register(_) => {}
         CallAt::Ram(r) => ram::ram_fill(r, rx, buf),
-        CallAt::Plan => {}
-        CallAt::Push => {}
-        CallAt::Transmit => {}
-        CallAt::Fetch => rx_fifo::fetch_fill(fetch, buf),
+        CallAt::Fetch => rx_fifo::fetch_fill(s.fetch, buf),
+        _ => {}
     }
 }

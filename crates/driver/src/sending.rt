@@ -11,10 +11,13 @@ use ram::RamCall;
 use send::Sent;
 use spi::Ask;
 
-fn send_object(q: Ask, object: [u8; 76], tx: &mut [u8]) -> Sent
-    ensures { λ r. ⌜ (r ≡ sentAs q object (now (tx .entry))) × (now (tx .exit) ≡ putInto q object (now (tx .entry))) ⌝ }
+fn send_object(q: Ask, s: Call, tx: &mut [u8]) -> Sent
+    ensures { λ r. ⌜ (r ≡ sentAs q (s .push .object .bytes) (now (tx .entry))) × (now (tx .exit) ≡ putInto q (s .push .object .bytes) (now (tx .entry))) ⌝ }
 {
-    send::send_with(q, &object, tx)
+    let push = s.push;
+    let object = push.object;
+    let bytes = object.bytes;
+    send::send_with(q, &bytes, tx)
 }
 
 fn send_echo(q: Ask, tx: &mut [u8]) -> Sent
@@ -28,13 +31,8 @@ fn send_ram(q: Ask, r: RamCall, lent: &[u8], tx: &mut [u8]) -> Sent
     ensures { λ n. ⌜ (n ≡ sentAs q (ramBody r (now (lent .entry))) (now (tx .entry))) × (now (tx .exit) ≡ putInto q (ramBody r (now (lent .entry))) (now (tx .entry))) ⌝ }
 {
     match r {
-        RamCall::Read(_, _, _) => send::send_with(q, lent, tx),
-        RamCall::Received(_, _) => send::send_with(q, lent, tx),
-        RamCall::Write(_, _) => send::send_with(q, lent, tx),
         RamCall::EchoWrite => send_echo(q, tx),
-        RamCall::EchoRead => send::send_with(q, lent, tx),
-        RamCall::Done => send::send_with(q, lent, tx),
-        RamCall::Refused(_) => send::send_with(q, lent, tx),
+        _ => send::send_with(q, lent, tx),
     }
 }
 
@@ -44,15 +42,10 @@ pub fn send(s: Call, lent: &[u8], tx: &mut [u8]) -> Sent
 {
     let q = ask(s);
     let at = s.at;
-    let push = s.push;
-    let object = push.object;
-    let bytes = object.bytes;
     match at {
-        CallAt::Register(_) => send::send_with(q, lent, tx),
         CallAt::Ram(r) => send_ram(q, r, lent, tx),
-        CallAt::Plan => send::send_with(q, lent, tx),
-        CallAt::Push => send_object(q, bytes, tx),
-        CallAt::Transmit => send_object(q, bytes, tx),
-        CallAt::Fetch => send::send_with(q, lent, tx),
+        CallAt::Push => send_object(q, s, tx),
+        CallAt::Transmit => send_object(q, s, tx),
+        _ => send::send_with(q, lent, tx),
     }
 }

@@ -1,3 +1,4 @@
+mod Arms
 pub mod Changes
 pub mod Places
 pub mod Runs

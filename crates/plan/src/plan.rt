@@ -3,7 +3,9 @@ ghost use mathlib.Core.Path.{_≡_};
 ghost use mathlib.Core.List.{[], _∷_};
 ghost use Prim.Native.Nat.{_+_};
 ghost use lib.ListN.{drop};
-ghost use Rattle.plan.specs.Step.{begun, afterPoll, afterEcho, nextAt, placeFrom, arrivedAt, stepOf, askAt, askOf, outcomeOf, planOf, refusedPlan};
+ghost use Rattle.spi.specs.Talk.{onWord, onDone};
+ghost use Rattle.plan.specs.Change.{modified};
+ghost use Rattle.plan.specs.Step.{stopped, begun, afterPoll, afterEcho, nextAt, placeFrom, arrivedAt, stepOf, askAt, askOf, outcomeOf, planOf, refusedPlan};
 use crate::Change;
 use crate::Item;
 use crate::Poll;
@@ -97,36 +99,59 @@ fn after_echo(left: u8, w: u32) -> Move
     }
 }
 
+fn when_read(c: Change, reply: OneWord) -> Move
+    ensures { λ r. ⌜ r ≡ onWord stopped reply (λ w. Move.To (PlanAt.Write (c .address) (modified c w))) ⌝ }
+{
+    match reply {
+        OneWord::Word(w) => Move::To(PlanAt::Write(c.address, modified_word(c, w))),
+        OneWord::Bad(r) => Move::To(PlanAt::Refused(r)),
+    }
+}
+
+fn when_polled(p: Poll, more: u8, reply: OneWord) -> Move
+    ensures { λ r. ⌜ r ≡ onWord stopped reply (afterPoll p more) ⌝ }
+{
+    match reply {
+        OneWord::Word(w) => after_poll(p, more, w),
+        OneWord::Bad(r) => Move::To(PlanAt::Refused(r)),
+    }
+}
+
+fn when_echoed(left: u8, reply: OneWord) -> Move
+    ensures { λ r. ⌜ r ≡ onWord stopped reply (afterEcho left) ⌝ }
+{
+    match reply {
+        OneWord::Word(w) => after_echo(left, w),
+        OneWord::Bad(r) => Move::To(PlanAt::Refused(r)),
+    }
+}
+
+fn when_done(reply: Done, then: Move) -> Move
+    ensures { λ r. ⌜ r ≡ onDone stopped reply then ⌝ }
+{
+    match reply {
+        Done::Good => then,
+        Done::Bad(r) => Move::To(PlanAt::Refused(r)),
+    }
+}
+
 fn next_at(failed: Refusal, at: PlanAt, answer: Answer, rx: &[u8]) -> Move
     ensures { λ r. ⌜ r ≡ nextAt failed at answer (now (rx .entry)) ⌝ }
 {
     match at {
-        PlanAt::Read(c) => match spi::word_reply(failed, answer, rx) {
-            OneWord::Word(w) => Move::To(PlanAt::Write(c.address, modified_word(c, w))),
-            OneWord::Bad(r) => Move::To(PlanAt::Refused(r)),
-        },
-        PlanAt::Write(_, _) => match spi::done_reply(failed, answer, rx.len(), 0) {
-            Done::Good => Move::Next,
-            Done::Bad(r) => Move::To(PlanAt::Refused(r)),
-        },
-        PlanAt::Poll(p, more) => match spi::word_reply(failed, answer, rx) {
-            OneWord::Word(w) => after_poll(p, more, w),
-            OneWord::Bad(r) => Move::To(PlanAt::Refused(r)),
-        },
-        PlanAt::Wait(p, more) => match spi::wait_reply(answer) {
-            Done::Good => Move::To(PlanAt::Poll(p, more)),
-            Done::Bad(r) => Move::To(PlanAt::Refused(r)),
-        },
-        PlanAt::EchoWrite(left) => match spi::done_reply(failed, answer, rx.len(), 0) {
-            Done::Good => Move::To(PlanAt::EchoRead(left)),
-            Done::Bad(r) => Move::To(PlanAt::Refused(r)),
-        },
-        PlanAt::EchoRead(left) => match spi::word_reply(failed, answer, rx) {
-            OneWord::Word(w) => after_echo(left, w),
-            OneWord::Bad(r) => Move::To(PlanAt::Refused(r)),
-        },
-        PlanAt::Done => Move::To(PlanAt::Refused(Refusal::WrongAnswer)),
-        PlanAt::Refused(_) => Move::To(PlanAt::Refused(Refusal::WrongAnswer)),
+        PlanAt::Read(c) => when_read(c, spi::word_reply(failed, answer, rx)),
+        PlanAt::Write(_, _) => when_done(spi::done_reply(failed, answer, rx.len(), 0), Move::Next),
+        PlanAt::Poll(p, more) => when_polled(p, more, spi::word_reply(failed, answer, rx)),
+        PlanAt::Wait(p, more) => when_done(
+            spi::wait_reply(answer),
+            Move::To(PlanAt::Poll(p, more)),
+        ),
+        PlanAt::EchoWrite(left) => when_done(
+            spi::done_reply(failed, answer, rx.len(), 0),
+            Move::To(PlanAt::EchoRead(left)),
+        ),
+        PlanAt::EchoRead(left) => when_echoed(left, spi::word_reply(failed, answer, rx)),
+        _ => Move::To(PlanAt::Refused(Refusal::WrongAnswer)),
     }
 }
 
@@ -250,8 +275,7 @@ fn ask_at(at: PlanAt) -> Ask
             address: ECHO,
             count: 4,
         },
-        PlanAt::Done => Ask::Nothing,
-        PlanAt::Refused(_) => Ask::Nothing,
+        _ => Ask::Nothing,
     }
 }
 
@@ -267,13 +291,8 @@ pub fn plan_outcome(s: Plan) -> Outcome
 {
     let at = s.at;
     match at {
-        PlanAt::Read(_) => Outcome::Running,
-        PlanAt::Write(_, _) => Outcome::Running,
-        PlanAt::Poll(_, _) => Outcome::Running,
-        PlanAt::Wait(_, _) => Outcome::Running,
-        PlanAt::EchoWrite(_) => Outcome::Running,
-        PlanAt::EchoRead(_) => Outcome::Running,
         PlanAt::Done => Outcome::Done,
         PlanAt::Refused(r) => Outcome::Refused(r),
+        _ => Outcome::Running,
     }
 }

@@ -1,6 +1,7 @@
 // The calls on RAM: read, write, and the echo of 32 words by which the line is tried.
 ghost use mathlib.Core.Path.{_≡_};
 ghost use Rattle.spi.specs.Reply.{doneReply};
+ghost use Rattle.spi.specs.Talk.{onDone};
 ghost use Rattle.spi.specs.declared.refusal.Refusal.{Refusal};
 ghost use Rattle.ram.specs.Echo.{echoBytes};
 ghost use Rattle.ram.specs.Step.{inside, readStart, writeStart, afterEcho, stepOf, askOf, outcomeOf, filledPart, filledBy};
@@ -89,7 +90,6 @@ pub fn ram_ask(s: RamCall) -> Ask
 {
     match s {
         RamCall::Read(address, _, count) => Ask::Read { address, count },
-        RamCall::Received(_, _) => Ask::Nothing,
         RamCall::Write(address, count) => Ask::Body { address, count },
         RamCall::EchoWrite => Ask::Body {
             address: ECHO_ADDRESS,
@@ -99,8 +99,7 @@ pub fn ram_ask(s: RamCall) -> Ask
             address: ECHO_ADDRESS,
             count: ECHO_LEN,
         },
-        RamCall::Done => Ask::Nothing,
-        RamCall::Refused(_) => Ask::Nothing,
+        _ => Ask::Nothing,
     }
 }
 
@@ -122,35 +121,31 @@ fn echo_reply(answer: Answer, got: usize, want: usize) -> Done
     spi::done_reply(Refusal::ConfigurationModeTimeout, answer, got, want)
 }
 
+fn when_done(reply: Done, then: RamCall) -> RamCall
+    ensures { λ r. ⌜ r ≡ onDone RamCall.Refused reply then ⌝ }
+{
+    match reply {
+        Done::Good => then,
+        Done::Bad(r) => RamCall::Refused(r),
+    }
+}
+
 // A failed read is told as 1, a failed write as 2.
 pub fn ram_step(s: RamCall, answer: Answer, rx: &[u8]) -> RamCall
     ensures { λ r. ⌜ r ≡ stepOf s answer (now (rx .entry)) ⌝ }
 {
     match s {
-        RamCall::Read(_, place, count) => match spi::done_reply(
-            Refusal::SpiRead,
-            answer,
-            rx.len(),
-            count,
-        ) {
-            Done::Good => RamCall::Received(place, count),
-            Done::Bad(r) => RamCall::Refused(r),
-        },
-        RamCall::Received(_, _) => RamCall::Refused(Refusal::WrongAnswer),
-        RamCall::Write(_, _) => match spi::done_reply(Refusal::SpiWrite, answer, rx.len(), 0) {
-            Done::Good => RamCall::Done,
-            Done::Bad(r) => RamCall::Refused(r),
-        },
-        RamCall::EchoWrite => match echo_reply(answer, rx.len(), 0) {
-            Done::Good => RamCall::EchoRead,
-            Done::Bad(r) => RamCall::Refused(r),
-        },
-        RamCall::EchoRead => match echo_reply(answer, rx.len(), ECHO_LEN) {
-            Done::Good => after_echo(rx),
-            Done::Bad(r) => RamCall::Refused(r),
-        },
-        RamCall::Done => RamCall::Refused(Refusal::WrongAnswer),
-        RamCall::Refused(_) => RamCall::Refused(Refusal::WrongAnswer),
+        RamCall::Read(_, place, count) => when_done(
+            spi::done_reply(Refusal::SpiRead, answer, rx.len(), count),
+            RamCall::Received(place, count),
+        ),
+        RamCall::Write(_, _) => when_done(
+            spi::done_reply(Refusal::SpiWrite, answer, rx.len(), 0),
+            RamCall::Done,
+        ),
+        RamCall::EchoWrite => when_done(echo_reply(answer, rx.len(), 0), RamCall::EchoRead),
+        RamCall::EchoRead => when_done(echo_reply(answer, rx.len(), ECHO_LEN), after_echo(rx)),
+        _ => RamCall::Refused(Refusal::WrongAnswer),
     }
 }
 
@@ -158,13 +153,10 @@ pub fn ram_outcome(s: RamCall) -> Outcome
     ensures { λ r. ⌜ r ≡ outcomeOf s ⌝ }
 {
     match s {
-        RamCall::Read(_, _, _) => Outcome::Running,
         RamCall::Received(_, _) => Outcome::Done,
-        RamCall::Write(_, _) => Outcome::Running,
-        RamCall::EchoWrite => Outcome::Running,
-        RamCall::EchoRead => Outcome::Running,
         RamCall::Done => Outcome::Done,
         RamCall::Refused(r) => Outcome::Refused(r),
+        _ => Outcome::Running,
     }
 }
 
@@ -184,12 +176,7 @@ pub fn ram_fill(s: RamCall, rx: &[u8], buf: &mut [u8])
     ensures { λ _. ⌜ now (buf .exit) ≡ filledBy s (now (rx .entry)) (now (buf .entry)) ⌝ }
 {
     match s {
-        RamCall::Read(_, _, _) => {}
         RamCall::Received(place, count) => fill_part(place, count, rx, buf),
-        RamCall::Write(_, _) => {}
-        RamCall::EchoWrite => {}
-        RamCall::EchoRead => {}
-        RamCall::Done => {}
-        RamCall::Refused(_) => {}
+        _ => {}
     }
 }

@@ -1,5 +1,6 @@
 // The calls on a register as a whole: reset, read, write, checked read, and the mode that CiCON shows.
 ghost use mathlib.Core.Path.{_≡_};
+ghost use Rattle.spi.specs.Talk.{onDone, onWord, onChecked};
 ghost use Rattle.register.specs.Step.{addressed, afterMismatch, afterMode, stepOf, askOf, outcomeOf, readStart, writeStart, checkedStart};
 ghost use Rattle.register.specs.declared.RegisterCall.{RegisterCall};
 use call::Outcome;
@@ -79,10 +80,7 @@ pub fn register_ask(s: RegisterCall) -> Ask
             address: CanControl::address(),
             count: 4,
         },
-        RegisterCall::Done => Ask::Nothing,
-        RegisterCall::Word(_) => Ask::Nothing,
-        RegisterCall::OpMode(_) => Ask::Nothing,
-        RegisterCall::Refused(_) => Ask::Nothing,
+        _ => Ask::Nothing,
     }
 }
 
@@ -96,10 +94,41 @@ fn after_mismatch(address: u16, left: u8) -> RegisterCall
     }
 }
 
-fn after_mode(w: u32) -> RegisterCall
-    ensures { λ r. ⌜ r ≡ afterMode w ⌝ }
+fn ended(reply: Done) -> RegisterCall
+    ensures { λ r. ⌜ r ≡ onDone RegisterCall.Refused reply RegisterCall.Done ⌝ }
 {
-    RegisterCall::OpMode(CanControl(w).opmod())
+    match reply {
+        Done::Good => RegisterCall::Done,
+        Done::Bad(r) => RegisterCall::Refused(r),
+    }
+}
+
+fn when_read(reply: OneWord) -> RegisterCall
+    ensures { λ r. ⌜ r ≡ onWord RegisterCall.Refused reply RegisterCall.Word ⌝ }
+{
+    match reply {
+        OneWord::Word(w) => RegisterCall::Word(w),
+        OneWord::Bad(r) => RegisterCall::Refused(r),
+    }
+}
+
+fn when_mode_read(reply: OneWord) -> RegisterCall
+    ensures { λ r. ⌜ r ≡ onWord RegisterCall.Refused reply afterMode ⌝ }
+{
+    match reply {
+        OneWord::Word(w) => RegisterCall::OpMode(CanControl(w).opmod()),
+        OneWord::Bad(r) => RegisterCall::Refused(r),
+    }
+}
+
+fn when_checked(address: u16, left: u8, reply: CheckedWord) -> RegisterCall
+    ensures { λ r. ⌜ r ≡ onChecked RegisterCall.Refused reply (afterMismatch address left) RegisterCall.Word ⌝ }
+{
+    match reply {
+        CheckedWord::Word(w) => RegisterCall::Word(w),
+        CheckedWord::Mismatch => after_mismatch(address, left),
+        CheckedWord::Bad(r) => RegisterCall::Refused(r),
+    }
 }
 
 // A failed reset is told as 2, every other failed exchange as 1: a register write too.
@@ -107,36 +136,16 @@ pub fn register_step(s: RegisterCall, answer: Answer, rx: &[u8]) -> RegisterCall
     ensures { λ r. ⌜ r ≡ stepOf s answer (now (rx .entry)) ⌝ }
 {
     match s {
-        RegisterCall::Reset => match spi::done_reply(Refusal::SpiWrite, answer, rx.len(), 0) {
-            Done::Good => RegisterCall::Done,
-            Done::Bad(r) => RegisterCall::Refused(r),
-        },
-        RegisterCall::Read(_) => match spi::word_reply(Refusal::SpiRead, answer, rx) {
-            OneWord::Word(w) => RegisterCall::Word(w),
-            OneWord::Bad(r) => RegisterCall::Refused(r),
-        },
-        RegisterCall::Write(_, _) => match spi::done_reply(Refusal::SpiRead, answer, rx.len(), 0) {
-            Done::Good => RegisterCall::Done,
-            Done::Bad(r) => RegisterCall::Refused(r),
-        },
-        RegisterCall::Checked(address, left) => match spi::crc_reply(
-            Refusal::SpiRead,
+        RegisterCall::Reset => ended(spi::done_reply(Refusal::SpiWrite, answer, rx.len(), 0)),
+        RegisterCall::Read(_) => when_read(spi::word_reply(Refusal::SpiRead, answer, rx)),
+        RegisterCall::Write(_, _) => ended(spi::done_reply(Refusal::SpiRead, answer, rx.len(), 0)),
+        RegisterCall::Checked(address, left) => when_checked(
             address,
-            answer,
-            rx,
-        ) {
-            CheckedWord::Word(w) => RegisterCall::Word(w),
-            CheckedWord::Mismatch => after_mismatch(address, left),
-            CheckedWord::Bad(r) => RegisterCall::Refused(r),
-        },
-        RegisterCall::Mode => match spi::word_reply(Refusal::SpiRead, answer, rx) {
-            OneWord::Word(w) => after_mode(w),
-            OneWord::Bad(r) => RegisterCall::Refused(r),
-        },
-        RegisterCall::Done => RegisterCall::Refused(Refusal::WrongAnswer),
-        RegisterCall::Word(_) => RegisterCall::Refused(Refusal::WrongAnswer),
-        RegisterCall::OpMode(_) => RegisterCall::Refused(Refusal::WrongAnswer),
-        RegisterCall::Refused(_) => RegisterCall::Refused(Refusal::WrongAnswer),
+            left,
+            spi::crc_reply(Refusal::SpiRead, address, answer, rx),
+        ),
+        RegisterCall::Mode => when_mode_read(spi::word_reply(Refusal::SpiRead, answer, rx)),
+        _ => RegisterCall::Refused(Refusal::WrongAnswer),
     }
 }
 
@@ -144,14 +153,10 @@ pub fn register_outcome(s: RegisterCall) -> Outcome
     ensures { λ r. ⌜ r ≡ outcomeOf s ⌝ }
 {
     match s {
-        RegisterCall::Reset => Outcome::Running,
-        RegisterCall::Read(_) => Outcome::Running,
-        RegisterCall::Write(_, _) => Outcome::Running,
-        RegisterCall::Checked(_, _) => Outcome::Running,
-        RegisterCall::Mode => Outcome::Running,
         RegisterCall::Done => Outcome::Done,
         RegisterCall::Word(w) => Outcome::Word(w),
         RegisterCall::OpMode(m) => Outcome::Mode(m),
         RegisterCall::Refused(r) => Outcome::Refused(r),
+        _ => Outcome::Running,
     }
 }

@@ -1,7 +1,10 @@
 -- `register::register_ask` meets its contract.
 -- Assumes nothing.
+use mathlib.Core.List.{[]}
 use borrow.Author.Needs.{needs}
+use Rattle.spi.specs.declared.ask.Answer.{Answer}
 use Rattle.register.specs.Step.{askOf}
+use Rattle.register.proofs.Arms.{others}
 use Rattle.register.proofs.register_ask.Statement.{statement}
 use Rattle.register.proofs.register_ask.Tie as tie
 
@@ -9,14 +12,10 @@ pub register-ask-spec : {M : Type 1} → statement M
 unfolding askOf
 register-ask-spec =
     tie.close
-    (tie.spec (search needs) (search needs) (search needs) (search needs) (search needs) (λ c κs. search needs) (search needs) (search needs)
-    (search needs) (search needs)
+    (tie.spec (search needs) (search needs) (search needs) (search needs) (search needs) (λ c κs. search needs)
     (λ c. simp (c .enum-told .given .1))
     (λ c. simp (c .before .s .given .1))
     (λ c. simp (c .before .s2 .given .1))
     (λ c. simp (c .before .s3 .given .1))
     (λ c. simp (c .address .ensures, c .before .enum-told2 .given .1))
-    (λ c. simp (c .enum-told3 .given .1))
-    (λ c. simp (c .enum-told4 .given .1))
-    (λ c. simp (c .enum-told5 .given .1))
-    (λ c. simp (c .enum-told6 .given .1)))
+    (λ c. others Answer.Waited [] (c .before .args .s) .1 (c .match .keys6)))

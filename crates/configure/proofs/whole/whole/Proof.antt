@@ -8,9 +8,9 @@ use Rattle.configure.proofs.whole.whole.Tie as tie
 pub whole-spec : {M : Type 1} → statement M
 whole-spec =
     tie.close
-    (tie.spec (λ c κs. search needs) (λ c κs. search needs) (λ c κs. search needs) (λ c κs. search needs) (λ c κs. search needs) (λ c κs. search needs) (λ c κs. search needs) (λ c κs. search needs) (λ c κs. search needs) (λ c κs. search needs)
-    (λ c κs. timing-told _ (c .before .before .before .before .before .before .before .before .before .before .before .before .before .before .before .pre .0) .0) (λ c κs. search needs)
-    (λ c κs. timing-told _ (c .before .before .before .before .before .before .before .before .before .before .before .before .before .before .before .before .before .pre .0) .1) (λ c κs. search needs)
-    (λ c κs. timing-told _ (c .before .before .before .before .before .before .before .before .before .before .before .before .before .before .before .before .before .before .before .pre .0) .2) (λ c κs. search needs) (λ c κs. search needs) (λ c κs. search needs) (λ c κs. search needs) (λ c κs. search needs) (λ c κs. search needs) (λ c κs. search needs)
-    (λ c κs. c .before .before .before .before .before .before .before .before .before .before .before .before .before .before .before .before .before .before .before .before .before .before .before .before .before .before .before .pre .1) (λ c κs. search needs) (λ c κs. search needs) (λ c κs. search needs) (λ c κs. search needs) (λ c κs. search needs)
-    (λ c. simp (c .slot15 .ensures, c .before .interrupt-change .ensures, c .before .before .slot14 .ensures, c .before .before .before .rtxat-change .ensures, c .before .before .before .before .slot13 .ensures, c .before .before .before .before .before .dncnt-change .ensures, c .before .before .before .before .before .before .slot12 .ensures, c .before .before .before .before .before .before .before .counter-change .ensures, c .before .before .before .before .before .before .before .before .slot11 .ensures, c .before .before .before .before .before .before .before .before .before .txqen-change .ensures, c .before .before .before .before .before .before .before .before .before .before .slot10 .ensures, c .before .before .before .before .before .before .before .before .before .before .before .stef-change .ensures, c .before .before .before .before .before .before .before .before .before .before .before .before .slot9 .ensures, c .before .before .before .before .before .before .before .before .before .before .before .before .before .delay-change .ensures, c .before .before .before .before .before .before .before .before .before .before .before .before .before .before .slot8 .ensures, c .before .before .before .before .before .before .before .before .before .before .before .before .before .before .before .data-change .ensures, c .before .before .before .before .before .before .before .before .before .before .before .before .before .before .before .before .slot7 .ensures, c .before .before .before .before .before .before .before .before .before .before .before .before .before .before .before .before .before .nominal-change .ensures, c .before .before .before .before .before .before .before .before .before .before .before .before .before .before .before .before .before .before .slot6 .ensures, c .before .before .before .before .before .before .before .before .before .before .before .before .before .before .before .before .before .before .before .io-change .ensures, c .before .before .before .before .before .before .before .before .before .before .before .before .before .before .before .before .before .before .before .before .slot5 .ensures, c .before .before .before .before .before .before .before .before .before .before .before .before .before .before .before .before .before .before .before .before .before .pll-poll .ensures, c .before .before .before .before .before .before .before .before .before .before .before .before .before .before .before .before .before .before .before .before .before .before .slot4 .ensures, c .before .before .before .before .before .before .before .before .before .before .before .before .before .before .before .before .before .before .before .before .before .before .before .oscillator-change .ensures, c .before .before .before .before .before .before .before .before .before .before .before .before .before .before .before .before .before .before .before .before .before .before .before .before .slot3 .ensures, c .before .before .before .before .before .before .before .before .before .before .before .before .before .before .before .before .before .before .before .before .before .before .before .before .before .slot2 .ensures, c .before .before .before .before .before .before .before .before .before .before .before .before .before .before .before .before .before .before .before .before .before .before .before .before .before .before .slot .ensures, c .before .before .before .before .before .before .before .before .before .before .before .before .before .before .before .before .before .before .before .before .before .before .before .before .before .before .before .mode-change .ensures)))
+    (tie.spec (λ c κs. search needs) (λ c κs. search needs) (λ c κs. search needs) (λ c κs. search needs)
+    (λ c κs. timing-told _ (c .before .before .before .before .before .before .pre .0) .0)
+    (λ c κs. timing-told _ (c .before .before .before .before .before .before .before .pre .0) .1)
+    (λ c κs. timing-told _ (c .before .before .before .before .before .before .before .before .pre .0) .2) (λ c κs. search needs) (λ c κs. search needs) (λ c κs. search needs)
+    (λ c κs. c .before .before .before .before .before .before .before .before .before .before .before .before .pre .1) (λ c κs. search needs) (λ c κs. search needs)
+    (λ c. simp (c .interrupt-change .ensures, c .before .rtxat-change .ensures, c .before .before .dncnt-change .ensures, c .before .before .before .counter-change .ensures, c .before .before .before .before .txqen-change .ensures, c .before .before .before .before .before .stef-change .ensures, c .before .before .before .before .before .before .delay-change .ensures, c .before .before .before .before .before .before .before .data-change .ensures, c .before .before .before .before .before .before .before .before .nominal-change .ensures, c .before .before .before .before .before .before .before .before .before .io-change .ensures, c .before .before .before .before .before .before .before .before .before .before .pll-poll .ensures, c .before .before .before .before .before .before .before .before .before .before .before .oscillator-change .ensures, c .before .before .before .before .before .before .before .before .before .before .before .before .mode-change .ensures)))

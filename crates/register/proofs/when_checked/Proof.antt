@@ -1,0 +1,13 @@
+-- `register::when_checked` meets its contract.
+-- Assumes nothing.
+use borrow.Author.Needs.{needs}
+use Rattle.register.proofs.when_checked.Statement.{statement}
+use Rattle.register.proofs.when_checked.Tie as tie
+
+pub when-checked-spec : {M : Type 1} → statement M
+when-checked-spec =
+    tie.close
+    (tie.spec (search needs) (search needs) (λ c κs. search needs) (search needs)
+    (λ c. simp (c .before .reply .given .1))
+    (λ c. simp (c .after-mismatch .ensures, c .before .enum-told .given .1))
+    (λ c. simp (c .before .reply2 .given .1)))

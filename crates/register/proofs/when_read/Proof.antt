@@ -1,0 +1,12 @@
+-- `register::when_read` meets its contract.
+-- Assumes nothing.
+use borrow.Author.Needs.{needs}
+use Rattle.register.proofs.when_read.Statement.{statement}
+use Rattle.register.proofs.when_read.Tie as tie
+
+pub when-read-spec : {M : Type 1} → statement M
+when-read-spec =
+    tie.close
+    (tie.spec (search needs) (search needs)
+    (λ c. simp (c .before .reply .given .1))
+    (λ c. simp (c .before .reply2 .given .1)))
