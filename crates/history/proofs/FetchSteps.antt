@@ -167,7 +167,7 @@ module _ (c : Model) (o : Sound c) (t : List Said) (l : Listed c t) (e : Each Te
       reads-control =
           let rx : List ℕ = leBytes (wordOf c (Register.Control n)) in
           rw (turned want n held FetchAt.Control p u t k c _ _ _ (hear-control [] c n i) (fetch-control c n want))
-          (by-if (After c held rx) (sending (frozenAt c n)) (λ x. refuses held rx Refusal.FifoNotRx tt) (λ x. stays held h rx FetchAt.Status refl x))
+          (by-if (After c held rx) (sending (frozenAt c n)) (λ x. refuses held rx Refusal.FifoNotRx refl) (λ x. stays held h rx FetchAt.Status refl x))
 
       reads-status : Receives c n → Exchanged FetchAt.Status
       reads-status g =
@@ -303,7 +303,7 @@ module _ (c : Model) (o : Sound c) (t : List Said) (l : Listed c t) (e : Each Te
       failed-at (FetchAt.Refused r) g = absurd g
 
       pub fetch-failed : (a : FetchAt) → FetchMid c want n held a → Inv (goesOn t k (at held a) (heard false (at held a) c))
-      fetch-failed a g = rw (failed want n held a p u t k c, failed-at a g) (refuses (fetch.heldAt a held []) [] Refusal.SpiRead tt)
+      fetch-failed a g = rw (failed want n held a p u t k c, failed-at a g) (refuses (fetch.heldAt a held []) [] Refusal.SpiRead refl)
 
 -- ---- the beginning, refused or not
 
@@ -322,12 +322,12 @@ module _ (c : Model) (o : Sound c) (t : List Said) (l : Listed c t) (e : Each Te
   unfolding fetch.lentAt
   lent-begins want b n buf =
       by-if (Begun want n buf) (isFifo n)
-      (λ i. by-if (Begun want n buf) (ltb (length buf) 64) (λ x. refused want n buf Refusal.BufferTooSmall tt) (λ x. begins want n buf i (b buf (ltb-false _ _ x))))
-      (λ i. refused want n buf Refusal.BadNumber tt)
+      (λ i. by-if (Begun want n buf) (ltb (length buf) 64) (λ x. refused want n buf Refusal.BufferTooSmall refl) (λ x. begins want n buf i (b buf (ltb-false _ _ x))))
+      (λ i. refused want n buf Refusal.BadNumber refl)
 
   pub fetch-begins : (want : Want) (n : ℕ) (buf : List ℕ) → Inv (settled c t (fetched want n buf) (started (fetched want n buf)) [])
   unfolding ofFetch fetch.hasNextStart fetch.lentStart fetch.firstAt
   fetch-begins Want.HasNext n buf =
-      by-if (Begun Want.HasNext n buf) (isFifo n) (λ i. begins Want.HasNext n buf i tt) (λ i. refused Want.HasNext n buf Refusal.BadNumber tt)
+      by-if (Begun Want.HasNext n buf) (isFifo n) (λ i. begins Want.HasNext n buf i tt) (λ i. refused Want.HasNext n buf Refusal.BadNumber refl)
   fetch-begins Want.Peek n buf = lent-begins Want.Peek (λ x b. b) n buf
   fetch-begins Want.Get n buf = lent-begins Want.Get (λ x b. b) n buf

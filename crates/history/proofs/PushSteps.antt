@@ -160,9 +160,9 @@ module _ (c : Model) (o : Sound c) (t : List Said) (l : Listed c t) (e : Each Te
       rw (turned n (length payload) bs p f also PushAt.Control refl t k c _ _ _ (hear-control _ c n i) (next-control c n (length payload) (length bs)))
       (by-if P (sending (frozenAt c n))
       (λ x. by-if P (ltb (payloadOf (frozenAt c n)) (length payload))
-      (λ y. ends rx Refusal.FifoTooSmall tt)
+      (λ y. ends rx Refusal.FifoTooSmall refl)
       (λ y. stays rx (PushAt.Status _) refl refl (record { word = w; tx = x; fits = object-fits c n header seq payload bs coded x (ltb-false _ _ y) })))
-      (λ x. ends rx Refusal.FifoNotTx tt))
+      (λ x. ends rx Refusal.FifoNotTx refl))
 
   reads-status : (w : ℕ) → PushMid c n m bs (PushAt.Status w) → Exchanged (PushAt.Status w)
   reads-status w g =
@@ -170,7 +170,7 @@ module _ (c : Model) (o : Sound c) (t : List Said) (l : Listed c t) (e : Each Te
       rw (turned n (length payload) bs p f also (PushAt.Status w) refl t k c _ _ _ (hear-status _ c n i) (next-status c n (length payload) (length bs) o (g .tx) w))
       (by-if (λ a. After c a rx) (ltb (fifoAt c n .count) (depth (frozenAt c n)))
       (λ x. stays rx (PushAt.Address w) refl refl (g, ltb-true _ _ x))
-      (λ x. ends rx Refusal.FifoFull tt))
+      (λ x. ends rx Refusal.FifoFull refl))
 
   reads-address : (w : ℕ) → PushMid c n m bs (PushAt.Address w) → Exchanged (PushAt.Address w)
   reads-address w g =
@@ -221,11 +221,11 @@ module _ (c : Model) (o : Sound c) (t : List Said) (l : Listed c t) (e : Each Te
 
   -- an exchange that fails is 2 at the RAM write, 1 elsewhere
   pub push-failed : (a : PushAt) → PushMid c n m bs a → Inv (goesOn t k (at a) (heard false (at a) c))
-  push-failed PushAt.Control g = rw (failed n (length payload) bs p f also PushAt.Control refl t k c) (ends [] Refusal.SpiRead tt)
-  push-failed (PushAt.Status w) g = rw (failed n (length payload) bs p f also (PushAt.Status w) refl t k c) (ends [] Refusal.SpiRead tt)
-  push-failed (PushAt.Address w) g = rw (failed n (length payload) bs p f also (PushAt.Address w) refl t k c) (ends [] Refusal.SpiRead tt)
-  push-failed (PushAt.Write w a) g = rw (failed n (length payload) bs p f also (PushAt.Write w a) refl t k c) (ends [] Refusal.SpiWrite tt)
-  push-failed (PushAt.Commit w) g = rw (failed n (length payload) bs p f also (PushAt.Commit w) refl t k c) (ends [] Refusal.SpiRead tt)
+  push-failed PushAt.Control g = rw (failed n (length payload) bs p f also PushAt.Control refl t k c) (ends [] Refusal.SpiRead refl)
+  push-failed (PushAt.Status w) g = rw (failed n (length payload) bs p f also (PushAt.Status w) refl t k c) (ends [] Refusal.SpiRead refl)
+  push-failed (PushAt.Address w) g = rw (failed n (length payload) bs p f also (PushAt.Address w) refl t k c) (ends [] Refusal.SpiRead refl)
+  push-failed (PushAt.Write w a) g = rw (failed n (length payload) bs p f also (PushAt.Write w a) refl t k c) (ends [] Refusal.SpiWrite refl)
+  push-failed (PushAt.Commit w) g = rw (failed n (length payload) bs p f also (PushAt.Commit w) refl t k c) (ends [] Refusal.SpiRead refl)
   push-failed PushAt.Done g = absurd g
   push-failed (PushAt.Refused x) g = absurd g
 
@@ -242,12 +242,12 @@ NotRefused (Encoding.object bs) = Unit {0}
 
 dlc-caused : (d : Dlc) → NotBad (byDlc d)
 dlc-caused (Dlc.Is n) = tt
-dlc-caused Dlc.Bad = tt
+dlc-caused Dlc.Bad = refl
 
 check-caused : (h : Header) (seq n : ℕ) → NotBad (checkOf h seq n)
 unfolding checkOf
 check-caused h seq n =
-    by-if NotBad (ltb (topId (h .extended)) (h .id)) (λ x. tt) (λ x. by-if NotBad (leb (2 ^ 23) seq) (λ y. tt) (λ y. dlc-caused (dlcOf (h .fdf) n)))
+    by-if NotBad (ltb (topId (h .extended)) (h .id)) (λ x. refl) (λ x. by-if NotBad (leb (2 ^ 23) seq) (λ y. refl) (λ y. dlc-caused (dlcOf (h .fdf) n)))
 
 coded-caused : (m : Message) (x : Checked) → NotBad x → NotRefused (coded x m)
 coded-caused m (Checked.Dlc d) h = tt
@@ -256,7 +256,7 @@ coded-caused m (Checked.Bad r) h = h
 encoding-caused : (n : ℕ) (header : Header) (seq : ℕ) (payload : List ℕ) → NotRefused (push.encodingFor n header seq payload)
 unfolding push.encodingFor encoding
 encoding-caused n header seq payload =
-    by-if NotRefused (isFifo n) (λ x. coded-caused (push.toSend header seq payload) (checkOf header seq (length payload)) (check-caused header seq (length payload))) (λ x. tt)
+    by-if NotRefused (isFifo n) (λ x. coded-caused (push.toSend header seq payload) (checkOf header seq (length payload)) (check-caused header seq (length payload))) (λ x. refl)
 
 pub encoded-for : (n : ℕ) (header : Header) (seq : ℕ) (payload bs : List ℕ) → push.encodingFor n header seq payload ≡ Encoding.object bs
     → (isFifo n ≡ true) × (encoding (push.toSend header seq payload) ≡ Encoding.object bs)

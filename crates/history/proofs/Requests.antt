@@ -126,5 +126,5 @@ module _ (n : ℕ) (p : Plan) where
   request-ordinary (reads i e) l = absurd (false≢true (sym (ap (λ (y : Plan). isOver (outcomeOf y)) e) ∙ l))
   request-ordinary (writes i w s e) l = absurd (false≢true (sym (ap (λ (y : Plan). isOver (outcomeOf y)) e) ∙ l))
   request-ordinary (ends e) l = subst (λ (x : PlanAt). Ordinary (outcomeAt x)) (sym e) tt
-  request-ordinary (fails e) l = subst (λ (x : PlanAt). Ordinary (outcomeAt x)) (sym e) tt
-  request-ordinary (turned e) l = subst (λ (x : PlanAt). Ordinary (outcomeAt x)) (sym e) tt
+  request-ordinary (fails e) l = subst (λ (x : PlanAt). Ordinary (outcomeAt x)) (sym e) refl
+  request-ordinary (turned e) l = subst (λ (x : PlanAt). Ordinary (outcomeAt x)) (sym e) refl

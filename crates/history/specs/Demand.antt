@@ -13,6 +13,8 @@ use Rattle.configuration.specs.CanControl.{REQOP}
 use Rattle.fifo.specs.Control.{payloadOf, isFifo}
 use Rattle.parts.specs.Parts.{put}
 use Rattle.spi.specs.declared.refusal.Refusal.{Refusal}
+use Rattle.spi.specs.Refusals.{numbered}
+use Rattle.operation.specs.Laws.{among}
 use Rattle.header.specs.declared.Header.{Header}
 use Rattle.message.specs.Message.{Message, Encoding, Decoding, holds, bad, short}
 use Rattle.call.specs.declared.Outcome.{Outcome}
@@ -112,7 +114,7 @@ PushedIff =
 
 -- ---- 3. get exactly, and peek
 
--- what is said of a message read: what is told of it, and its payload at the front of the lent buffer
+-- what is said of a message read: what is told of it, and its payload at the front of the lent buffer; by the lists every slot held has one
 abbrev pub tells : Command → Decoding → List ℕ → Said
 tells k (holds m) buf = called k (Outcome.Message (foundOf m)) (put buf 0 (m .payload))
 tells k (bad r) buf = called k (Outcome.Refused r) buf
@@ -190,29 +192,7 @@ RequestFails =
 -- ---- 6. no push, request, transmit, has-next, peek or get answers 3, 23, 25 or 26
 
 abbrev pub NotCaused : Refusal → Type 0
-NotCaused Refusal.SpiRead = Unit {0}
-NotCaused Refusal.SpiWrite = Unit {0}
-NotCaused (Refusal.InvalidRamAddress a) = ⊥
-NotCaused (Refusal.InvalidReadLength n) = Unit {0}
-NotCaused (Refusal.InvalidWriteLength n) = Unit {0}
-NotCaused Refusal.FifoNotTx = Unit {0}
-NotCaused Refusal.FifoTooSmall = Unit {0}
-NotCaused Refusal.FifoFull = Unit {0}
-NotCaused Refusal.FifoNotRx = Unit {0}
-NotCaused Refusal.CrcMismatch = Unit {0}
-NotCaused Refusal.ConfigurationModeTimeout = Unit {0}
-NotCaused Refusal.ChangeOpModeTimeout = Unit {0}
-NotCaused Refusal.SpiFailedRamEcho = Unit {0}
-NotCaused Refusal.PllNotReady = Unit {0}
-NotCaused Refusal.BadNumber = Unit {0}
-NotCaused Refusal.BadIdentifier = Unit {0}
-NotCaused Refusal.BadPayload = Unit {0}
-NotCaused Refusal.BadDlc = ⊥
-NotCaused Refusal.BadSetting = Unit {0}
-NotCaused Refusal.BadUserAddress = ⊥
-NotCaused Refusal.WrongAnswer = ⊥
-NotCaused Refusal.NoLayout = Unit {0}
-NotCaused Refusal.BufferTooSmall = Unit {0}
+NotCaused r = among (3 ∷ 23 ∷ 25 ∷ 26 ∷ []) (getD (numbered r) 0 0) ≡ false
 
 abbrev pub Ordinary : Outcome → Type 0
 Ordinary Outcome.Running = ⊥
