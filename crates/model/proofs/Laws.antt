@@ -1,12 +1,17 @@
 -- What exchanges change, and what they leave.
 -- Assumes nothing.
 use mathlib.Core.Path.{_≡_, refl, sym, ap, subst, _∙_}
-use mathlib.Core.Bool.{Bool, true, false}
+use mathlib.Core.Bool.{Bool, true, false, not, _&&_}
 use mathlib.Core.List.{List, [], _∷_}
 use Prim.Native.Nat.{ℕ}
 use lib.ListN.{getD}
+use lib.Dec.{eqb}
 use Rattle.laws.specs.If.{if_then_else_}
 use Rattle.field.specs.Field.{Field, read}
+use Rattle.configuration.specs.CanControl.{REQOP}
+use Rattle.spi.specs.declared.refusal.Refusal.{Refusal}
+use Rattle.spi.specs.Refusals.{numbered}
+use Rattle.operation.specs.declared.place.Register.{Register}
 use Rattle.operation.specs.declared.operation.Operation.{Operation}
 use Rattle.operation.specs.Operation.{asked}
 use Rattle.ring.specs.Registers.{frozenFields, control}
@@ -14,10 +19,10 @@ use Rattle.ring.specs.Laws.{Alike}
 use Rattle.ring.proofs.Laws.{frozen-kept}
 use Rattle.state.specs.declared.Model.{Model}
 use Rattle.state.specs.Model.{frozenAt, fifoAt}
-use Rattle.bank.specs.Registers.{wordOf, registerWritten}
+use Rattle.bank.specs.Registers.{wordOf, settled, denied, granted, conSet, turnedAll, conWritten, registerWritten}
 use Rattle.bank.proofs.Laws.{frozen-outside}
-use Rattle.model.specs.Exchange.{Reply, failed, received, noLayout, performed, exchange}
-use Rattle.model.specs.Laws.{reads, ReadingKeeps, OthersFail, FailureKeeps, FrozenOutside}
+use Rattle.model.specs.Exchange.{Reply, failed, received, noLayout, doneWriting, performed, exchange}
+use Rattle.model.specs.Laws.{reads, ReadingKeeps, OthersFail, FailureKeeps, FrozenOutside, replyNumbers, Answers27, OthersAnswerNone}
 
 keeps : (o : Operation) (s : List ℕ) (want : ℕ) (m : Model) → reads o ≡ true → performed o s want m .model ≡ m
 unfolding performed
@@ -79,3 +84,43 @@ frozen-outside-all s want m c h n =
     alike frozenFields _ _ (frozenAt m n)
     (subst (λ (k : ℕ). Alike frozenFields (control (frozenAt d n) (fifoAt d n)) k) e (frozen-kept (frozenAt d n) (fifoAt d n)))
     (frozen-kept (frozenAt m n) (fifoAt m n))
+
+-- a write of CiCON, by its three tests
+told : (q c g : Bool) (a b d e f : Model)
+    → replyNumbers (doneWriting (if q then if c then settled a else settled b else if c then if g then settled d else denied e else settled f) .reply)
+    ≡ (if c && not q && not g then numbered Refusal.NoLayout else [])
+told true true g a b d e f = refl
+told true false g a b d e f = refl
+told false true true a b d e f = refl
+told false true false a b d e f = refl
+told false false g a b d e f = refl
+
+pub answers-27 : Answers27
+unfolding exchange performed registerWritten conWritten
+answers-27 s want w m e =
+    rw e
+    (told (eqb (read REQOP w) 4) (m .fixed .configuring) (granted (m .fixed) w)
+    (conSet m w true) (conSet (turnedAll true m) w true) (conSet (turnedAll false m) w false) (conSet m w true) (conSet m w false))
+
+no-number : (o : Operation) (s : List ℕ) (want : ℕ) (m : Model)
+    → ((w : ℕ) → o ≡ Operation.Write Register.Con w → ⊥) → replyNumbers (performed o s want m .reply) ≡ []
+unfolding performed registerWritten
+no-number (Operation.Write Register.Con w) s want m h = absurd (h w refl)
+no-number (Operation.Write Register.Osc w) s want m h = refl
+no-number (Operation.Write (Register.Plain k) w) s want m h = refl
+no-number (Operation.Write (Register.Filter k) w) s want m h = refl
+no-number (Operation.Write (Register.Object k) w) s want m h = refl
+no-number (Operation.Write (Register.Mask k) w) s want m h = refl
+no-number (Operation.Write (Register.Control n) w) s want m h = refl
+no-number (Operation.Write (Register.Status n) w) s want m h = refl
+no-number (Operation.Write (Register.Address n) w) s want m h = refl
+no-number (Operation.Read r) s want m h = refl
+no-number (Operation.Checked r) s want m h = refl
+no-number (Operation.ReadRam a) s want m h = refl
+no-number (Operation.WriteRam a) s want m h = refl
+no-number Operation.Reset s want m h = refl
+no-number Operation.None s want m h = refl
+
+pub others-answer-none : OthersAnswerNone
+unfolding exchange
+others-answer-none s want m h = no-number (asked s want) s want m h

@@ -2,16 +2,22 @@
 -- Assumes nothing.
 use Prim.Native.Nat.{ℕ}
 use mathlib.Core.Path.{_≡_}
-use mathlib.Core.Bool.{Bool, true, false}
-use mathlib.Core.List.{List}
+use mathlib.Core.Bool.{Bool, true, false, not, _&&_}
+use mathlib.Core.List.{List, []}
+use lib.Dec.{eqb}
+use Rattle.laws.specs.If.{if_then_else_}
+use Rattle.field.specs.Field.{read}
+use Rattle.configuration.specs.CanControl.{REQOP}
+use Rattle.spi.specs.declared.refusal.Refusal.{Refusal}
+use Rattle.spi.specs.Refusals.{numbered}
 use Rattle.operation.specs.declared.place.Register.{Register}
 use Rattle.operation.specs.declared.operation.Operation.{Operation}
 use Rattle.operation.specs.Operation.{asked}
 use Rattle.ring.specs.Registers.{frozenFields}
 use Rattle.ring.specs.Laws.{Alike}
 use Rattle.state.specs.declared.Model.{Model}
-use Rattle.bank.specs.Registers.{wordOf}
-use Rattle.model.specs.Exchange.{failed, exchange}
+use Rattle.bank.specs.Registers.{wordOf, granted}
+use Rattle.model.specs.Exchange.{Reply, failed, received, noLayout, exchange}
 
 -- reading a register, plain or checked, and reading RAM
 abbrev pub reads : Operation → Bool
@@ -41,3 +47,21 @@ abbrev pub FrozenOutside : Type 0
 FrozenOutside =
     (s : List ℕ) (want : ℕ) (m : Model) → m .fixed .configuring ≡ false → (asked s want ≡ Operation.Reset → ⊥) → (n : ℕ)
     → Alike frozenFields (wordOf (exchange s want m .model) (Register.Control n)) (wordOf m (Register.Control n))
+
+-- document 01's number of how an exchange comes back
+abbrev pub replyNumbers : Reply → List ℕ
+replyNumbers failed = []
+replyNumbers (received bs) = []
+replyNumbers noLayout = numbered Refusal.NoLayout
+
+-- a CiCON write answers 27 exactly if it asks to leave Configuration and that is not granted
+abbrev pub Answers27 : Type 0
+Answers27 =
+    (s : List ℕ) (want w : ℕ) (m : Model) → asked s want ≡ Operation.Write Register.Con w
+    → replyNumbers (exchange s want m .reply)
+    ≡ (if m .fixed .configuring && not (eqb (read REQOP w) 4) && not (granted (m .fixed) w) then numbered Refusal.NoLayout else [])
+
+-- no other exchange answers 27
+abbrev pub OthersAnswerNone : Type 0
+OthersAnswerNone =
+    (s : List ℕ) (want : ℕ) (m : Model) → ((w : ℕ) → asked s want ≡ Operation.Write Register.Con w → ⊥) → replyNumbers (exchange s want m .reply) ≡ []
