@@ -1,0 +1,70 @@
+#!/usr/bin/env python3
+"""scenarios.py SEED COUNT: COUNT random scenarios for drive and second.py, as a script (docs/SCRIPTS.md); the same for the same seed.
+A scenario sets up some FIFOs, leaves Configuration, and then calls, delivers, sends, fails and looks, with good arguments and bad ones."""
+import random, sys
+
+seed, count = int(sys.argv[1]), int(sys.argv[2])
+r = random.Random(seed)
+out = []
+
+def hexed(n): return ''.join('%02x' % r.randrange(256) for _ in range(n)) or '-'
+def le(w): return w.to_bytes(4, 'little').hex()
+def rare(n): return r.randrange(n) == 0
+def flags(): return ''.join(c for c in 'fber' if not r.randrange(3)) or '-'
+def length(fl):
+    if rare(20): return r.randrange(80)
+    return r.choice([12, 16, 20, 24, 32, 48, 64]) if 'f' in fl and r.randrange(2) else r.randrange(9)
+def ident():
+    if rare(25): return r.choice(['s800', 'x20000000', 'sffffffff', 'xffffffff'])
+    return 's%x' % r.randrange(0x800) if r.randrange(2) else 'x%x' % r.randrange(1 << 29)
+def number(fifos): return r.choice([0, 32, 255, 1, 31]) if rare(15) else r.choice(fifos)
+def step(fifos):
+    if r.randrange(2): return 'send %d' % number(fifos)
+    fl = flags()
+    return 'deliver %d %s %s %08x %s' % (number(fifos), ident(), fl, r.randrange(1 << 32), hexed(length(fl)))
+def control(): # PLSIZE, FSIZE, TXAT, priority, then the low bits; FIFOs are small, so that they fill up
+    return r.choice([0, 0, 1, 3, 7]) << 29 | r.randrange(4) << 24 | r.randrange(128) << 16 | r.randrange(2) << 10 | r.choice([0, 0x200]) | r.randrange(256)
+def address():
+    return r.choice([0, 4, 8, 0xC, 0x14, 0x1C, 0xE00, 0xE04, 0x10, 0x400, 0xBFC, 0xC00, 0x5C + 4 * r.randrange(93), 0x1D0 + 4 * r.randrange(72)])
+
+def message(fifos):
+    fl = flags()
+    seq = r.choice([0, 1, 0x7fffff, 0x800000]) if rare(10) else r.randrange(1 << 23)
+    return '%d %s %s %d %s' % (number(fifos), ident(), fl, seq, hexed(length(fl)))
+def call(fifos):
+    k = r.randrange(40)
+    if k < 9: return 'push ' + message(fifos)
+    if k < 13: return 'request %d' % number(fifos)
+    if k < 17: return 'transmit ' + message(fifos)
+    if k < 19: return 'has_next %d' % number(fifos)
+    if k < 23: return 'peek %d' % number(fifos)
+    if k < 31: return 'get %d' % number(fifos)
+    if k < 33: return 'checked_read %x' % address()
+    if k == 33: return 'read_ram %x %d' % (0x400 + r.randrange(0x800), r.randrange(40))
+    if k == 34: return 'write_register %x %08x' % (r.choice([0x10, 0x1C, 0xE04, 0x1F0]), r.randrange(1 << 32))
+    if k == 35: return 'read_register %x' % address()
+    if k == 36: return r.choice(['set_op_mode %d' % r.randrange(9), 'get_op_mode', 'verify_long', 'reset'] if rare(4) else ['get_op_mode'])
+    if k == 37: return 'configure_fifo %d %d %d rx %d %d %d %d %d' % (number(fifos), r.randrange(40), r.randrange(9), *[r.randrange(2) for _ in range(5)])
+    if k == 38: return 'configure_filter %d %d %s %s %s' % (r.randrange(33), number(fifos), r.choice(['std', 'ext', 'both']), ident(), ident())
+    return 'modify_register %x %08x %08x' % (0x5C + 12 * (r.choice(fifos) - 1), r.randrange(1 << 11), r.randrange(1 << 11))
+
+def action(fifos):
+    k = r.randrange(30)
+    if k < 7: out.append(step(fifos))
+    elif k < 12: out.append('held %d' % number(fifos))
+    elif k < 14: out.append('raw 3%03x 4' % (0x5C + 4 * r.randrange(93)))
+    elif k == 14: out.append('raw %s %d' % (hexed(r.randrange(8)), r.randrange(8)))
+    else:
+        out.append('call ' + call(fifos))
+        for _ in range(r.choice([0, 0, 0, 1, 1, 2, 3])):
+            at = 1 + r.randrange(9)
+            out.append('@%d %s' % (at, 'fail' if rare(4) else 'answer ' + hexed(r.choice([0, 4, 4, 4, 8, 3])) if rare(6) else step(fifos)))
+
+for _ in range(count):
+    out.append('new')
+    fifos = sorted(r.sample(range(1, 32), 1 + r.randrange(4)))
+    for n in fifos: out.append('raw 2%03x%s 0' % (0x5C + 12 * (n - 1), le(control())))
+    out.append('raw 2000%s 0' % le(0x00000760 | r.choice([0, 1, 6]) << 24 | (r.choice([0x80000, 0x100000]) if rare(12) else 0)))
+    for _ in range(10 + r.randrange(40)): action(fifos)
+    for n in fifos: out.append('held %d' % n)
+sys.stdout.write('\n'.join(out) + '\n')
