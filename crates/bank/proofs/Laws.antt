@@ -1,7 +1,7 @@
 -- What writing a register changes, and what it leaves.
 -- Assumes nothing.
 use mathlib.Core.Path.{_≡_, refl, sym, subst}
-use mathlib.Core.Bool.{Bool, true, false, not, _&&_}
+use mathlib.Core.Bool.{true, false, not, _&&_}
 use Prim.Native.Nat.{ℕ, _≤_}
 use native.Mathlib.Omega.{arith}
 use lib.Dec.{eqb, leb}
@@ -19,7 +19,7 @@ use Rattle.state.specs.declared.Fixed.{Fixed}
 use Rattle.state.specs.declared.Model.{Model}
 use Rattle.bank.specs.declared.writing.Written.{Written}
 use Rattle.bank.specs.Registers.{granted, conSet, settled, denied, turnedAll, conWritten, controlWritten, statusWritten, registerWritten}
-use Rattle.bank.specs.Laws.{FrozenOutside, Laid, Leaves, Leaving}
+use Rattle.bank.specs.Laws.{FrozenOutside, Laid, Leaving}
 
 -- CiCON's write changes no control word
 con-frozen : (m : Model) (w : ℕ) → conWritten m w .model .fixed .frozen ≡ m .fixed .frozen

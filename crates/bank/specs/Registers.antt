@@ -2,7 +2,7 @@
 -- Assumes nothing.
 use Prim.Native.Nat.{ℕ}
 use mathlib.Core.Bool.{Bool, true, false, _&&_, not}
-use mathlib.Core.List.{List, map}
+use mathlib.Core.List.{map}
 use lib.ListN.{getD, set}
 use lib.Dec.{leb, eqb}
 use Rattle.laws.specs.If.{if_then_else_}
@@ -15,7 +15,6 @@ use Rattle.ring.specs.Ring.{shown, configured, commanded, turned, overflowed}
 use Rattle.ring.specs.Registers.{control, status}
 use Rattle.ring.specs.Layout.{end, slotAt}
 use Rattle.state.specs.declared.Fixed.{Fixed}
-use Rattle.state.specs.declared.Setup.{Setup}
 use Rattle.state.specs.declared.Model.{Model}
 use Rattle.bank.specs.declared.writing.Written.{Written}
 use Rattle.state.specs.Model.{fifoAt, frozenAt, withFixed, withSetup, withFifo}

@@ -12,7 +12,6 @@ use Rattle.field.specs.Settings.{_:=_, settings}
 use Rattle.fifo.specs.Control.{CiFIFOCON, TXEN, FSIZE, PLSIZE, storedSize}
 use Rattle.fifo.specs.UserAddress.{CiFIFOUA}
 use Rattle.ring.specs.Layout.{end}
-use Rattle.state.specs.declared.Fixed.{Fixed}
 use Rattle.bank.specs.Registers.{granted}
 use Rattle.bit_timing.specs.Signed.{sevenOf}
 use Rattle.spi.specs.Instruction.{commandOf}

@@ -70,61 +70,39 @@ fn at_now(s: Call, at: CallAt) -> Call
     }
 }
 
-fn plan_stepped(s: Call, answer: Answer, rx: &[u8]) -> Call
+fn plan_stepped(mut s: Call, answer: Answer, rx: &[u8]) -> Call
     ensures { λ r. ⌜ r ≡ stepAt CallAt.Plan s answer (now (rx .entry)) ⌝ }
 {
     let plan = s.plan;
-    let push = s.push;
-    let fetch = s.fetch;
-    Call {
-        at: CallAt::Plan,
-        plan: plan::plan_step(plan, answer, rx),
-        push: push,
-        fetch: fetch,
-    }
+    s.plan = plan::plan_step(plan, answer, rx);
+    at_now(s, CallAt::Plan)
 }
 
-fn push_stepped(s: Call, answer: Answer, rx: &[u8]) -> Call
+fn push_stepped(mut s: Call, answer: Answer, rx: &[u8]) -> Call
     ensures { λ r. ⌜ r ≡ stepAt CallAt.Push s answer (now (rx .entry)) ⌝ }
 {
-    let plan = s.plan;
     let push = s.push;
-    let fetch = s.fetch;
-    Call {
-        at: CallAt::Push,
-        plan: plan,
-        push: tx_fifo::push_step(push, answer, rx),
-        fetch: fetch,
-    }
+    s.push = tx_fifo::push_step(push, answer, rx);
+    at_now(s, CallAt::Push)
 }
 
-fn transmit_stepped(s: Call, answer: Answer, rx: &[u8]) -> Call
+fn transmit_stepped(mut s: Call, answer: Answer, rx: &[u8]) -> Call
     ensures { λ r. ⌜ r ≡ stepAt CallAt.Transmit s answer (now (rx .entry)) ⌝ }
 {
     let t = transmit::transmit_step(transmit_in(s), answer, rx);
     let plan = t.request;
     let push = t.push;
-    let fetch = s.fetch;
-    Call {
-        at: CallAt::Transmit,
-        plan: plan,
-        push: push,
-        fetch: fetch,
-    }
+    s.plan = plan;
+    s.push = push;
+    at_now(s, CallAt::Transmit)
 }
 
-fn fetch_stepped(s: Call, answer: Answer, rx: &[u8]) -> Call
+fn fetch_stepped(mut s: Call, answer: Answer, rx: &[u8]) -> Call
     ensures { λ r. ⌜ r ≡ stepAt CallAt.Fetch s answer (now (rx .entry)) ⌝ }
 {
-    let plan = s.plan;
-    let push = s.push;
     let fetch = s.fetch;
-    Call {
-        at: CallAt::Fetch,
-        plan: plan,
-        push: push,
-        fetch: rx_fifo::fetch_step(fetch, answer, rx),
-    }
+    s.fetch = rx_fifo::fetch_step(fetch, answer, rx);
+    at_now(s, CallAt::Fetch)
 }
 
 pub fn step(s: Call, answer: Answer, rx: &[u8]) -> Call

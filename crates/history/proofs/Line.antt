@@ -36,10 +36,6 @@ module _ (s : Call) (c : Model) where
   unfolding heard
   lost w = rw w
 
-  waited : (b : Bool) → waits (askOf s) ≡ true → heard b s c ≡ hears Answer.Waited [] c
-  unfolding heard
-  waited b w = rw w
-
 -- what holds of a wait, of what the chip answers and of a failure holds of whatever the driver hears
 pub heard-by : (P : Heard → Type 0) (b : Bool) (s : Call) (q : Ask) → askOf s ≡ q → (c : Model)
     → (waits q ≡ true → P (hears Answer.Waited [] c)) → P (spoken q (bodyOf s []) c) → P (hears Answer.Failed [] c) → P (heard b s c)

@@ -64,12 +64,6 @@ module _ (n size : ℕ) (bs : List ℕ) (p : Plan) (f : Fetch) where
   body false at = refl
   body true at = refl
 
-  -- no buffer is lent
-  pub filled : (also : Bool) (at : PushAt) (rx : List ℕ) → filledBy (standing also at) rx [] ≡ []
-  unfolding filledBy
-  filled false at rx = refl
-  filled true at rx = refl
-
   waits-not : (at : PushAt) → waits (push.askAt n (length bs) at) ≡ false
   waits-not PushAt.Control = refl
   waits-not (PushAt.Status w) = refl

@@ -21,7 +21,7 @@ use Rattle.state.specs.declared.Model.{Model}
 use Rattle.state.specs.Model.{frozenAt, fifoAt}
 use Rattle.bank.specs.Registers.{wordOf, settled, denied, granted, conSet, turnedAll, conWritten, registerWritten}
 use Rattle.bank.proofs.Laws.{frozen-outside}
-use Rattle.model.specs.Exchange.{Reply, failed, received, noLayout, doneWriting, performed, exchange}
+use Rattle.model.specs.Exchange.{failed, received, noLayout, doneWriting, performed, exchange}
 use Rattle.model.specs.Laws.{reads, ReadingKeeps, OthersFail, FailureKeeps, FrozenOutside, replyNumbers, Answers27, OthersAnswerNone}
 
 keeps : (o : Operation) (s : List ℕ) (want : ℕ) (m : Model) → reads o ≡ true → performed o s want m .model ≡ m

@@ -1,15 +1,13 @@
 -- An exchange with the modelled chip.
 -- Assumes nothing.
 use Prim.Native.Nat.{ℕ}
-use mathlib.Core.Bool.{Bool, true, false}
-use mathlib.Core.List.{List, [], _∷_, _++_}
+use mathlib.Core.List.{List, [], _++_}
 use lib.ListN.{length, drop}
 use lib.Dec.{leb}
 use Rattle.laws.specs.If.{if_then_else_}
 use Rattle.words.specs.Words.{leBytes, beBytes}
 use Rattle.parts.specs.Parts.{part, put}
 use Rattle.crc.specs.Crc.{crcOf}
-use Rattle.operation.specs.declared.place.Register.{Register}
 use Rattle.operation.specs.declared.operation.Operation.{Operation}
 use Rattle.operation.specs.Operation.{asked}
 use Rattle.state.specs.declared.Model.{Model}

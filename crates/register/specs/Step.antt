@@ -21,11 +21,9 @@ use Rattle.register.specs.declared.RegisterCall.{RegisterCall}
 unfoldable pub addressed : ℕ → RegisterCall → RegisterCall
 addressed address s = if ltb address (2 ^ 12) then s else RegisterCall.Refused Refusal.BadSetting
 
--- read
 abbrev pub readStart : ℕ → RegisterCall
 readStart address = addressed address (RegisterCall.Read address)
 
--- write
 abbrev pub writeStart : (address word : ℕ) → RegisterCall
 writeStart address word = addressed address (RegisterCall.Write address word)
 

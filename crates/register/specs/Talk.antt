@@ -37,11 +37,9 @@ opModeTalk = readWord Refusal.SpiRead (CiCON .address 0) (λ w. done (Outcome.Mo
 abbrev pub atAddress : ℕ → Talk Outcome → Talk Outcome
 atAddress address t = if ltb address (2 ^ 12) then t else refused Refusal.BadSetting
 
--- read
 unfoldable pub readCall : ℕ → Talk Outcome
 readCall address = atAddress address (readTalk address)
 
--- write
 unfoldable pub writeCall : (address word : ℕ) → Talk Outcome
 writeCall address word = atAddress address (writeTalk address word)
 

@@ -40,9 +40,6 @@ module _ (d h : ℕ) (l : h < d) where
   pub place-lt : (k : ℕ) → k ≤ d → place d h k < d
   place-lt k m = place-below d d h k (le-refl d) (omega arith)
 
-  pub place-zero : place d h 0 ≡ h
-  place-zero = by-place (λ p. p ≡ h) d h 0 (λ a. omega arith) (λ a. omega arith)
-
   -- going on from the next place is going one further
   pub place-next : (k : ℕ) → k < d → place d (place d h 1) k ≡ place d h (k + 1)
   place-next k m =
@@ -77,12 +74,6 @@ module _ (ws : List ℕ) where
   base-end n h =
       let e : n - 1 + 1 ≡ n = omega arith in
       sym (rw e at (end-plus (n - 1)))
-
-  pub base-next : (n : ℕ) → 1 ≤ n → base ws (n + 1) ≡ base ws n + room (getD ws n 0)
-  unfolding base
-  base-next n h =
-      let e : n + 1 - 1 ≡ n = omega arith in
-      ap (end ws) e ∙ sym (base-end n h)
 
   pub end-mono : (i j : ℕ) → i ≤ j → end ws i ≤ end ws j
   unfolding end

@@ -126,6 +126,16 @@ fn spoilt(good: bool, n: u32) -> u32 {
     if good { n } else { 0xFFFF_FFFF }
 }
 
+// Size, payload size and mode; `good` is whether every yes or no of the mode is one.
+fn fifo_call(a: &[u64], good: bool, mode: FifoMode) -> Plan {
+    let c = FifoConfiguration {
+        size: word(a, 1),
+        plsize: spoilt(good, word(a, 2)),
+        mode: mode,
+    };
+    configure::configure_fifo(byte(a, 0), c)
+}
+
 pub fn tx_call(a: &[u64]) -> Plan {
     let t = TxFifo {
         txpri: word(a, 4),
@@ -136,12 +146,7 @@ pub fn tx_call(a: &[u64]) -> Plan {
         half: is_on(a, 9),
         notfull: is_on(a, 10),
     };
-    let c = FifoConfiguration {
-        size: word(a, 1),
-        plsize: spoilt(are_flags(a, 6, 11), word(a, 2)),
-        mode: FifoMode::Transmit(t),
-    };
-    configure::configure_fifo(byte(a, 0), c)
+    fifo_call(a, are_flags(a, 6, 11), FifoMode::Transmit(t))
 }
 
 pub fn rx_call(a: &[u64]) -> Plan {
@@ -152,12 +157,7 @@ pub fn rx_call(a: &[u64]) -> Plan {
         half: is_on(a, 7),
         notempty: is_on(a, 8),
     };
-    let c = FifoConfiguration {
-        size: word(a, 1),
-        plsize: spoilt(are_flags(a, 4, 9), word(a, 2)),
-        mode: FifoMode::Receive(r),
-    };
-    configure::configure_fifo(byte(a, 0), c)
+    fifo_call(a, are_flags(a, 4, 9), FifoMode::Receive(r))
 }
 
 fn filter_mode(n: u64) -> FilterMode {

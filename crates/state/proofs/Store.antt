@@ -2,11 +2,11 @@
 -- Assumes nothing.
 use mathlib.Core.Path.{_≡_, refl, sym, ap, _∙_}
 use mathlib.Core.Bool.{Bool, true, false}
-use mathlib.Core.List.{List, [], _++_, append-nil, map}
-use Prim.Native.Nat.{ℕ, _+_, _-_, _≤_, _<_, min}
+use mathlib.Core.List.{List, _++_, append-nil, map}
+use Prim.Native.Nat.{ℕ, _+_, _-_, _≤_, min}
 use native.Mathlib.Omega.{arith}
 use lib.Dec.{leb}
-use lib.ListN.{length, take, drop, length-map, length-append, length-take, length-drop, drop-of-length-le}
+use lib.ListN.{length, take, drop, length-map, length-append, length-drop, drop-of-length-le}
 use lib.Seq.{take-all, take-append-seam, take-append-le, take-append-add, take-length, length-take-le}
 use borrow.Author.Tests.{leb-true, leb-false}
 use Rattle.parts.specs.Parts.{put}

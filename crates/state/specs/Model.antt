@@ -1,8 +1,8 @@
 -- The modelled chip: its state after RESET, how its parts are looked at, and the few ways in which they change.
 -- Assumes nothing.
 use Prim.Native.Nat.{ℕ}
-use mathlib.Core.Bool.{true, false}
-use mathlib.Core.List.{List, [], _∷_, map}
+use mathlib.Core.Bool.{true}
+use mathlib.Core.List.{List, [], _∷_}
 use lib.ListN.{length, getD, set, take, replicate}
 use Rattle.parts.specs.Parts.{put}
 use Rattle.configuration.specs.CanControl.{CiCON}

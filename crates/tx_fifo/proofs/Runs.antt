@@ -84,16 +84,16 @@ module _ (fifo size len : ℕ) where
   step-at PushAt.Done a rx = refl
   step-at (PushAt.Refused r) a rx = refl
 
-  -- what is asked, how it ended, and that and whether it is done are what the talk says
+  -- what is asked, how it ended and whether it is done are what the talk says
   says : (at : PushAt)
-      → (askAt fifo len at ≡ asks (rest at)) × (outcomeAt at ≡ ended (λ (o : Outcome). o) (rest at)) × (rest at ≡ (if doneAt at then done Outcome.Done else rest at)) × (doneAt at ≡ finished (rest at))
-  says PushAt.Control = (refl, refl, refl, refl)
-  says (PushAt.Status w) = (refl, refl, refl, refl)
-  says (PushAt.Address w) = (refl, refl, refl, refl)
-  says (PushAt.Write w m) = (refl, refl, refl, refl)
-  says (PushAt.Commit w) = (refl, refl, refl, refl)
-  says PushAt.Done = (refl, refl, refl, refl)
-  says (PushAt.Refused r) = (refl, refl, refl, refl)
+      → (askAt fifo len at ≡ asks (rest at)) × (outcomeAt at ≡ ended (λ (o : Outcome). o) (rest at)) × (doneAt at ≡ finished (rest at))
+  says PushAt.Control = (refl, refl, refl)
+  says (PushAt.Status w) = (refl, refl, refl)
+  says (PushAt.Address w) = (refl, refl, refl)
+  says (PushAt.Write w m) = (refl, refl, refl)
+  says (PushAt.Commit w) = (refl, refl, refl)
+  says PushAt.Done = (refl, refl, refl)
+  says (PushAt.Refused r) = (refl, refl, refl)
 
 -- ---- the whole call
 
@@ -122,13 +122,9 @@ pub outcome-talk : (s : Push) → outcomeOf s ≡ ended (λ (o : Outcome). o) (t
 unfolding outcomeOf talkOf
 outcome-talk s = says (s .fifo) (s .size) (s .object .len) (s .at) .1
 
-pub done-talk : (s : Push) → isDone s ≡ true → talkOf s ≡ done Outcome.Done
-unfolding talkOf
-done-talk s e = says (s .fifo) (s .size) (s .object .len) (s .at) .2 ∙ rw e
-
 pub done-exactly : (s : Push) → isDone s ≡ finished (talkOf s)
 unfolding talkOf
-done-exactly s = says (s .fifo) (s .size) (s .object .len) (s .at) .3
+done-exactly s = says (s .fifo) (s .size) (s .object .len) (s .at) .2
 
 -- ---- five exchanges at most
 

@@ -5,7 +5,7 @@ use mathlib.Core.List.{List, [], _∷_, _++_}
 use Prim.Native.Nat.{ℕ, _+_, _*_, _/_, _%_, _^_, _<_, _≤_}
 use native.Mathlib.Nat.{add-zero}
 use native.Mathlib.Omega.{arith}
-use lib.ListN.{length, getD, drop}
+use lib.ListN.{length, drop}
 use lib.Seq.{getD-drop}
 use lib.Pow.{shr-shr, shr-mod}
 use Rattle.field.specs.Field.{fieldOf}
@@ -53,19 +53,10 @@ pub le-length : (w : ℕ) → length (leBytes w) ≡ 4
 unfolding leBytes
 le-length w = refl
 
-pub be-length : (w : ℕ) → length (beBytes w) ≡ 2
-unfolding beBytes
-be-length w = refl
-
 -- a word further on is the first of what is left
 pub le-drop : (s : List ℕ) (a : ℕ) → leAt s a ≡ leAt (drop a s) 0
 unfolding leAt
 le-drop s a = rw (getD-drop, getD-drop, getD-drop, getD-drop, add-zero a)
-
--- four bytes are a word of 32 bits
-pub le-lt : (s : List ℕ) (a : ℕ) → getD s a 0 < 256 → getD s (a + 1) 0 < 256 → getD s (a + 2) 0 < 256 → getD s (a + 3) 0 < 256 → leAt s a < 2 ^ 32
-unfolding leAt
-le-lt s a h₀ h₁ h₂ h₃ = omega arith
 
 -- rounding up: not below, less than 4 above, a multiple of 4; what is a multiple stays
 pub up-le : (n : ℕ) → n ≤ roundUp n

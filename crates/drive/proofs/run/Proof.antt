@@ -1,7 +1,6 @@
 -- `drive::run` meets its contract: the turns become fewer.
 -- Assumes nothing.
-use Prim.Native.Nat.{ℕ, _-_, _≤_, _<_}
-use native.Mathlib.Omega.{arith}
+use Rattle.reading.proofs.Turns.{fewer}
 use Rattle.drive.proofs.run.Statement.{statement}
 use Rattle.drive.proofs.run.Tie as tie
 
@@ -10,9 +9,6 @@ Inv-loop piece₀ buf₀ head₀ notes₀ lent₀ numbers₀ r₀ m₀ p₀ turn
 
 abbrev μ-loop : tie.MeasureT-loop
 μ-loop piece₀ buf₀ head₀ notes₀ lent₀ numbers₀ r₀ m₀ p₀ turns₀ piece buf head notes lent numbers r m p turns = turns
-
-fewer : (n : ℕ) → 1 ≤ n → n - 1 < n
-fewer n h = omega arith
 
 pub run-spec : {M : Type 1} → statement M
 run-spec =

@@ -8,9 +8,5 @@ use Rattle.model.proofs.crc_of.Tie as tie
 pub crc-of-spec : {M : Type 1} → statement M
 crc-of-spec =
     tie.close
-    (tie.spec
-    (λ c κs. search needs)
-    (λ c κs. search needs)
-    (λ c. search needs)
-    (λ c. search needs)
+    (tie.spec (λ c κs. search needs) (λ c κs. search needs) (λ c. search needs) (λ c. search needs)
     (λ c. simp (c .update2 .ensures, c .before .before .update .ensures, c .before .before .before .le-bytes .ensures, of-parts)))

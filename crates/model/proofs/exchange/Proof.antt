@@ -1,9 +1,14 @@
 -- `model::exchange` meets its contract.
 -- Assumes nothing.
-use mathlib.Core.Path.{_≡_, refl, sym, _∙_}
+use mathlib.Core.Path.{_≡_, sym, _∙_}
+use mathlib.Core.List.{List}
+use Prim.Native.Nat.{ℕ}
 use native.Mathlib.Omega.{arith}
 use borrow.Author.Tests.{le-leb, lt-leb}
 use denote.Ref.{now}
+use Rattle.operation.specs.declared.operation.Operation.{Operation}
+use Rattle.operation.specs.Operation.{asked}
+use Rattle.operation.specs.Laws.{Sized}
 use Rattle.operation.proofs.Sizes.{sizes}
 use Rattle.bank.specs.Registers.{registerWritten}
 use Rattle.parts.proofs.Laws.{put-none}
@@ -13,53 +18,37 @@ use borrow.Author.Needs.{needs}
 use Rattle.model.proofs.exchange.Statement.{statement}
 use Rattle.model.proofs.exchange.Tie as tie
 
+-- what an exchange wants that is read as p
+wants : (s : List ℕ) (want : ℕ) (o p : Operation) → o ≡ asked s want → o ≡ p → Sized s want p
+wants s want o p f e = rw (sym f ∙ e) at (sizes s want)
+
 pub exchange-spec : {M : Type 1} → statement M
 unfolding lent exchange performed
 exchange-spec =
     tie.close
-    (tie.spec
-    (λ c κs. search needs)
+    (tie.spec (λ c κs. search needs)
     (λ c. (rw (c .told .ensures, lt-leb _ _ (c .before .if1 .taken)), rw (lt-leb _ _ (c .before .if1 .taken))))
-    (λ c κs. search needs)
-    (λ c. search needs)
-    (λ c κs. search needs)
-    (λ c. search needs)
-    (λ c. search needs)
-    (λ c κs. search needs)
+    (λ c κs. search needs) (λ c. search needs) (λ c κs. search needs) (λ c. search needs) (λ c. search needs) (λ c κs. search needs)
     (λ c κs.
     let q = c .before .before .before .before .before in
     let a = q .before .before .before .before .args in
-    let e = sym (q .asked .ensures) ∙ c .before .before .before .r .given .1 in
-    let z : a .want ≡ 4 = rw e at (sizes (now (a .sent)) (a .want)) in
-    omega (arith, z))
-    (λ c. search needs)
-    (λ c. search needs)
-    (λ c. search needs)
+    omega (arith, wants (now (a .sent)) (a .want) _ _ (q .asked .ensures) (c .before .before .before .r .given .1)))
+    (λ c. search needs) (λ c. search needs) (λ c. search needs)
     (λ c κs.
     let q = c .before .before .before .before .before in
     let a = q .before .before .before .before .args in
-    let e = sym (q .asked .ensures) ∙ c .before .before .before .r2 .given .1 in
-    let z : a .want ≡ 6 = rw e at (sizes (now (a .sent)) (a .want)) in
-    omega (arith, z))
-    (λ c. search needs)
-    (λ c. search needs)
-    (λ c κs. search needs)
-    (λ c. search needs)
+    omega (arith, wants (now (a .sent)) (a .want) _ _ (q .asked .ensures) (c .before .before .before .r2 .given .1)))
+    (λ c. search needs) (λ c. search needs) (λ c κs. search needs) (λ c. search needs)
     (λ c κs.
     let q = c .before .before .before .before in
     let a = q .before .before .before .before .args in
-    let e = sym (q .asked .ensures) ∙ c .before .before .a .given .1 in
-    (rw e at (sizes (now (a .sent)) (a .want)), q .before .if1 .left))
-    (λ c. search needs)
-    (λ c. search needs)
+    (wants (now (a .sent)) (a .want) _ _ (q .asked .ensures) (c .before .before .a .given .1), q .before .if1 .left))
+    (λ c. search needs) (λ c. search needs)
     (λ c κs.
     let q = c .before .before .before in
     let a = q .before .before .before .before .args in
-    let e = sym (q .asked .ensures) ∙ c .before .a2 .given .1 in
-    (rw e at (sizes (now (a .sent)) (a .want))) .1)
-    (λ c. search needs)
-    (λ c. search needs)
-    (λ c. search needs)
+    wants (now (a .sent)) (a .want) _ _ (q .asked .ensures) (c .before .a2 .given .1) .1)
+    (λ c. search needs) (λ c. search needs) (λ c. search needs)
     (λ c.
     let q = c .before .before .before .before in
     let l = le-leb _ _ (q .before .if1 .left) in

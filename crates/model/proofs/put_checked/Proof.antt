@@ -15,13 +15,7 @@ pub put-checked-spec : {M : Type 1} → statement M
 unfolding checkedBytes
 put-checked-spec =
     tie.close
-    (tie.spec
-    (λ c κs. search needs)
-    (λ c κs. search needs)
-    (λ c κs. search needs)
-    (λ c. search needs)
-    (λ c κs. search needs)
-    (λ c. search needs)
+    (tie.spec (λ c κs. search needs) (λ c κs. search needs) (λ c κs. search needs) (λ c. search needs) (λ c κs. search needs) (λ c. search needs)
     (λ c.
     let first = c .before .before .before .before .before .before .before in
     let head = first .before .before in

@@ -13,13 +13,9 @@ pub put-ram-spec : {M : Type 1} → statement M
 unfolding part
 put-ram-spec =
     tie.close
-    (tie.spec
-    (λ c. search needs)
-    (λ c. search needs)
-    (λ c. search needs)
+    (tie.spec (λ c. search needs) (λ c. search needs) (λ c. search needs)
     (λ c. let e : length (c .before .before .before .before .args .m .ram) ≡ 2048 = search needs in omega (arith, e))
-    (λ c κs. search needs)
-    (λ c. search needs)
+    (λ c κs. search needs) (λ c. search needs)
     (λ c.
     let a = c .before .before .before .before .before .before .before .before .args in
     rw (c .before .before .put-at .ensures, add-sub-cancel-left (a .at) (a .want))))

@@ -12,11 +12,7 @@ use Rattle.model.proofs.wrote_ram.Tie as tie
 pub wrote-ram-spec : {M : Type 1} → statement M
 wrote-ram-spec =
     tie.close
-    (tie.spec
-    (λ c. search needs)
-    (λ c. search needs)
-    (λ c. search needs)
-    (λ c κs. search needs)
+    (tie.spec (λ c. search needs) (λ c. search needs) (λ c. search needs) (λ c κs. search needs)
     (λ c.
     let s = now (c .before .before .before .args .sent) in
     rw (c .written .ensures, take-all (length s - 2) (drop 2 s) (simp length-drop (omega arith)))))

@@ -9,8 +9,6 @@ pub address-word-spec : {M : Type 1} → statement M
 unfolding wordOf
 address-word-spec =
     tie.close
-    (tie.spec
-    (λ c. simp (c .if1 .taken))
-    (λ c κs. search needs)
-    (λ c. search needs)
+    (tie.spec (λ c. simp (c .if1 .taken))
+    (λ c κs. search needs) (λ c. search needs)
     (λ c. simp (c .shown-at .ensures .0, c .before .if1 .left)))

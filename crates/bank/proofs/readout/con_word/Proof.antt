@@ -9,7 +9,6 @@ pub con-word-spec : {M : Type 1} → statement M
 unfolding wordOf
 con-word-spec =
     tie.close
-    (tie.spec
-    (λ c κs. search needs)
+    (tie.spec (λ c κs. search needs)
     (λ c κs. c .mode .ensures .1)
     (λ c. rw (c .with-opmod .ensures, c .before .mode .ensures .0)))

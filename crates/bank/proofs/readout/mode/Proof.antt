@@ -1,7 +1,5 @@
 -- `bank::readout::mode` meets its contract.
 -- Assumes nothing.
-use native.Mathlib.Omega.{arith}
-use mathlib.Core.Path.{_∙_, sym}
 use Rattle.field.proofs.Laws.{field-lt}
 use Rattle.bank.specs.Registers.{modeOf}
 use borrow.Author.Needs.{needs}
@@ -12,7 +10,6 @@ pub mode-spec : {M : Type 1} → statement M
 unfolding modeOf
 mode-spec =
     tie.close
-    (tie.spec
-    (λ c. (rw (c .if1 .taken), search needs))
+    (tie.spec (λ c. (rw (c .if1 .taken), search needs))
     (λ c κs. search needs)
     (λ c. (rw (c .before .if1 .left) (c .reqop .ensures), rw (c .reqop .ensures) (field-lt (c .before .before .args .x .con) 24 3))))

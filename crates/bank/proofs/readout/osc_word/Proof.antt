@@ -10,7 +10,5 @@ pub osc-word-spec : {M : Type 1} → statement M
 unfolding wordOf
 osc-word-spec =
     tie.close
-    (tie.spec
-    (λ c κs. search needs)
-    (λ c κs. search needs)
+    (tie.spec (λ c κs. search needs) (λ c κs. search needs)
     (λ c. rw (c .with-pllrdy .ensures, c .before .pllen .ensures, digit-bit)))

@@ -9,9 +9,6 @@ pub status-word-spec : {M : Type 1} → statement M
 unfolding wordOf
 status-word-spec =
     tie.close
-    (tie.spec
-    (λ c. simp (c .if1 .taken))
-    (λ c κs. search needs)
-    (λ c κs. search needs)
-    (λ c κs. search needs)
+    (tie.spec (λ c. simp (c .if1 .taken))
+    (λ c κs. search needs) (λ c κs. search needs) (λ c κs. search needs)
     (λ c. simp (c .status .ensures, c .before .fifo-at .ensures, c .before .before .frozen-at .ensures, c .before .before .before .if1 .left)))

@@ -10,8 +10,7 @@ pub granted-spec : {M : Type 1} → statement M
 unfolding granted
 granted-spec =
     tie.close
-    (tie.spec
-    (λ c κs. search needs)
+    (tie.spec (λ c κs. search needs)
     (λ c. simp (sym (c .before .txqen .ensures) ∙ c .if1 .taken))
     (λ c κs. search needs)
     (λ c. simp (sym (c .before .stef .ensures) ∙ c .if2 .taken, sym (c .before .before .before .txqen .ensures) ∙ c .before .before .if1 .left))

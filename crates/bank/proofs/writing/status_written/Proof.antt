@@ -10,10 +10,7 @@ pub status-written-spec : {M : Type 1} → statement M
 unfolding statusWritten
 status-written-spec =
     tie.close
-    (tie.spec
-    (λ c κs. search needs)
+    (tie.spec (λ c κs. search needs)
     (λ c. simp (sym (c .before .rxovif .ensures) ∙ c .if1 .taken))
-    (λ c κs. search needs)
-    (λ c κs. search needs)
-    (λ c κs. search needs)
+    (λ c κs. search needs) (λ c κs. search needs) (λ c κs. search needs)
     (λ c. simp (c .with-fifo .ensures, c .before .overflowed .ensures, c .before .before .fifo-at .ensures, sym (c .before .before .before .before .rxovif .ensures) ∙ c .before .before .before .if1 .left)))

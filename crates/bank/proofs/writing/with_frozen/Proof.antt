@@ -7,8 +7,5 @@ use Rattle.bank.proofs.writing.with_frozen.Tie as tie
 pub with-frozen-spec : {M : Type 1} → statement M
 with-frozen-spec =
     tie.close
-    (tie.spec
-    (λ c. search needs)
-    (λ c κs. search needs)
-    (λ c κs. search needs)
+    (tie.spec (λ c. search needs) (λ c κs. search needs) (λ c κs. search needs)
     (λ c. rw (c .with-fixed .ensures, c .before .before .set-word .ensures)))

@@ -1,7 +1,6 @@
 -- `classes::tests::is_bad_dlc` meets its contract.
 -- Assumes nothing.
 use borrow.Author.Tests.{lt-ltb, le-ltb}
-use borrow.Author.Needs.{needs}
 use Rattle.classes.specs.Classes.{isBadDlc}
 use Rattle.classes.proofs.tests.is_bad_dlc.Statement.{statement}
 use Rattle.classes.proofs.tests.is_bad_dlc.Tie as tie

@@ -1,7 +1,6 @@
 -- `fifo::control::is_fifo` meets its contract.
 -- Assumes nothing.
 use borrow.Author.Tests.{le-leb, lt-leb}
-use borrow.Author.Needs.{needs}
 use Rattle.fifo.specs.Control.{isFifo}
 use Rattle.fifo.proofs.control.is_fifo.Statement.{statement}
 use Rattle.fifo.proofs.control.is_fifo.Tie as tie
