@@ -10,12 +10,15 @@ const RAM_START: usize = 0x400;
 
 const RAM_END: usize = 0xC00;
 
-// A length above the RAM's end is told first, so the sum cannot wrap.
+// An address or a length above the RAM's end is told first, so the sum cannot wrap, of however many bits a usize is.
 pub fn in_range(address: u32, n: usize) -> bool
     ensures { λ r. ⌜ r ≡ inRange address n ⌝ }
 {
     let a = address as usize;
     if a < RAM_START {
+        return false;
+    }
+    if RAM_END < a {
         return false;
     }
     if RAM_END < n {

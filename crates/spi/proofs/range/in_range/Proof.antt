@@ -14,5 +14,6 @@ in-range-spec =
     tie.close
     (tie.spec (λ c. simp (lt-leb _ _ (c .if1 .taken)))
     (λ c. let a = c .before .before .args in simp (le-leb _ _ (c .before .if1 .left), lt-leb (a .address + a .n) 0xC00 (omega arith)))
+    (λ c. let a = c .before .before .before .args in simp (le-leb _ _ (c .before .before .if1 .left), lt-leb (a .address + a .n) 0xC00 (omega arith)))
     (search needs)
-    (λ c. simp (le-leb _ _ (c .before .if1 .left))))
+    (λ c. simp (le-leb _ _ (c .before .before .if1 .left))))
