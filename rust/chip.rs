@@ -1,41 +1,66 @@
-//! The modelled chip as a [`Line`], and the other side of it: the bus.
+//! The modelled chip and its bus, to run your own code against (feature `chip`): the chip is a [`Line`].
 use crate::mcp::{Failed, Line};
-use crate::proved::{bus, model, state};
+use crate::proved::{bus, fifo as fifos, model, state};
+use crate::{Header, Refusal};
 
-pub use crate::proved::bus::{Delivery, Sending};
-pub use crate::proved::header::Header;
-pub use crate::proved::message::{Frame, Payload, Reading};
+/// What a frame that arrived came to: `Delivered`, refused (20, 21, 22), or turned down by a cause.
+pub use crate::proved::bus::Delivery;
+/// What a send came to: a frame, a message that is no frame, nothing to send, or refused (20).
+pub use crate::proved::bus::Sending;
+/// What a slot in RAM holds. Beside every reading but `Whole` the frame has no content.
+pub use crate::proved::message::Decoded;
+/// A message: header, SEQ (0 in one received), timestamp and payload.
+pub use crate::proved::message::Frame;
+/// The first `len` bytes; those behind are 0.
+pub use crate::proved::message::Payload;
+/// Whether a slot holds a whole message.
+pub use crate::proved::message::Reading;
+/// The chip's state: registers, FIFOs and RAM.
 pub use crate::proved::state::Model;
 
-/// A chip, and how many exchanges it was asked for.
+/// A chip, and what is told of its exchanges.
+#[derive(Clone, Debug, PartialEq, Eq)]
 pub struct Chip {
+    /// Its state.
     pub model: Model,
+    /// How many exchanges it was asked for.
     pub exchanges: u32,
+    /// How many of them asked to leave Configuration and were not granted (27), because the FIFOs do not fit into RAM or the transmit
+    /// queue or event FIFO is on. Such a write is done on the line, so no call is told: `set_op_mode` polls in vain and is refused 12.
+    pub no_layout: u32,
 }
 
 impl Chip {
     /// After a reset, with RAM of zeros.
     pub fn new() -> Chip {
-        Chip { model: state::reset([0; 2048]), exchanges: 0 }
+        Chip { model: state::reset([0; 2048]), exchanges: 0, no_layout: 0 }
     }
 
-    /// The chip sends from a FIFO, where one message is requested there.
+    /// The chip sends the oldest message of a FIFO, if sending is requested there. The frame has no content but beside `Sending::Frame`.
     pub fn send(&mut self, fifo: u8) -> (Sending, Frame) {
         let sent = bus::send(self.model, fifo);
         self.model = sent.model;
         (sent.sending, sent.frame)
     }
 
-    /// A frame arrives for a FIFO.
+    /// A frame arrives for a FIFO, at this time.
     pub fn deliver(&mut self, fifo: u8, header: Header, time: u32, payload: &[u8]) -> Delivery {
         let delivered = bus::deliver(self.model, fifo, header, time, payload);
         self.model = delivered.model;
         delivered.delivery
     }
 
-    /// How many messages a FIFO holds.
-    pub fn held(&self, fifo: u8) -> u8 {
-        bus::held_len(self.model, fifo)
+    /// How many messages a FIFO holds. Refused: 20.
+    pub fn held(&self, fifo: u8) -> Result<u8, Refusal> {
+        match fifos::is_fifo(fifo) {
+            true => Ok(bus::held_len(self.model, fifo)),
+            false => Err(Refusal::BadNumber),
+        }
+    }
+
+    /// The message `k` places behind a FIFO's oldest, decoded from RAM, or `None` where it holds fewer. Refused: 20.
+    pub fn held_at(&self, fifo: u8, k: u8) -> Result<Option<Decoded>, Refusal> {
+        Ok((k < self.held(fifo)?).then(|| bus::held_at(self.model, fifo, k)))
     }
 }
 
@@ -45,14 +70,19 @@ impl Default for Chip {
     }
 }
 
+/// An exchange that the chip does not know fails and changes nothing.
 impl Line for Chip {
     fn transfer(&mut self, tx: &[u8], rx: &mut [u8]) -> Result<(), Failed> {
-        self.exchanges = self.exchanges.wrapping_add(1);
         let exchanged = model::exchange(self.model, tx, rx.len(), rx);
         self.model = exchanged.model;
+        self.exchanges = self.exchanges.wrapping_add(1);
         match exchanged.heard {
             model::Heard::Failed => Err(Failed),
-            model::Heard::Received | model::Heard::NoLayout => Ok(()),
+            model::Heard::Received => Ok(()),
+            model::Heard::NoLayout => {
+                self.no_layout = self.no_layout.wrapping_add(1);
+                Ok(())
+            }
         }
     }
 

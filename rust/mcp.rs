@@ -5,32 +5,38 @@ use crate::{
     Stamp,
 };
 
-/// An exchange was not carried out.
+/// An exchange was not carried out. What went wrong is the line's to remember.
 #[derive(Clone, Copy, Debug, PartialEq, Eq)]
 pub struct Failed;
 
 /// The user's SPI, with the chip select, and a wait.
 pub trait Line {
-    /// One exchange under one chip select: all of `tx` goes out, then all of `rx` is clocked in.
+    /// One exchange under one chip select: all of `tx` goes out, then all of `rx` is clocked in. `tx` is exactly what the call sends,
+    /// 2 bytes or more; `rx` is exactly what it wants, and empty where that is nothing. `Ok` says that every byte went
+    /// and came, `Err` that nothing was carried out: what is promised of refused calls holds where that is so.
     fn transfer(&mut self, tx: &[u8], rx: &mut [u8]) -> Result<(), Failed>;
 
-    /// Waits for at least so long.
+    /// Waits for at least so long: 500, where a mode or the PLL is polled.
     fn wait(&mut self, microseconds: u32);
 }
 
 /// A message from a receive FIFO; its payload is the first `len` bytes of the buffer that was lent.
 #[derive(Clone, Copy, Debug, PartialEq, Eq)]
 pub struct Received {
+    /// Identifier and flags.
     pub header: Header,
+    /// The timestamp, where the FIFO keeps one (RXTSEN).
     pub time: Option<u32>,
+    /// How many bytes of payload, 0 to 64.
     pub len: usize,
 }
 
 /// The length of a wait that a call asks for.
 const WAIT: u32 = 500;
 
-/// Runs a call over a line to its end. `lent` is what a RAM write sends; `buf` is what a RAM read, a peek or a get fills, once it is
-/// done; `tx` and `rx` are scratch. A call for which `tx` or `rx` is too short is answered as if its exchange had failed.
+/// Runs a call over a line to its end, whatever the line answers. `lent` is what a RAM write sends; `buf` is what a RAM read, a peek or
+/// a get fills, once it is done; `tx` and `rx` are scratch, and a call for which one of them is too short is answered as if its exchange
+/// had failed, with nothing sent: 74 and 64 bytes are enough for all calls but `verify_long` (130 and 128) and those on RAM.
 pub fn run<L: Line>(line: &mut L, call: Call, lent: &[u8], buf: &mut [u8], tx: &mut [u8], rx: &mut [u8]) -> Outcome {
     let mut call = call;
     let mut want = 0;
@@ -63,19 +69,31 @@ pub fn run<L: Line>(line: &mut L, call: Call, lent: &[u8], buf: &mut [u8], tx: &
     outcome(call)
 }
 
-/// The driver over a line. A refusal of a method is one of document 01's; [`crate::number`] gives its number.
+/// The driver over a line.
+///
+/// A method runs its call to the end: it is done, or refused for a reason of document 01's table, whose number [`crate::number`] gives.
+/// A refused call has asked for no exchange after the one that it was refused at, and has changed no byte of what was lent to it. What
+/// is wrong with a call's own numbers is found before its first exchange (20, 21, 22, 24, 28, and 3, 4, 5 of RAM calls). A failed
+/// exchange is 1, of a RAM write or the reset 2, and 11 instead in `configure`, `configure_osc`, `configure_io`, `configure_bit_timing`,
+/// `set_op_mode` and the two echo tests. 26 and 27 are no method's: the loop gives every answer as it was asked for, and 27 is the
+/// modelled chip's.
+///
+/// Between two exchanges of a call nobody else may use the chip; nothing is kept here from one call to the next.
+#[derive(Debug)]
 pub struct Mcp<L: Line> {
+    /// The line that every call goes over.
     pub line: L,
 }
 
 impl<L: Line> Mcp<L> {
+    /// The driver over this line. It asks for no exchange.
     pub fn new(line: L) -> Mcp<L> {
         Mcp { line }
     }
 
-    /// Every call but those on RAM: no body is longer than 128 bytes (`verify_long`), nor is what is wanted.
+    /// Every call but `verify_long` and those on RAM: the longest body is a push's object, 72 bytes, and a payload's 64 are the most wanted.
     fn short(&mut self, call: Call, buf: &mut [u8]) -> Outcome {
-        run(&mut self.line, call, &[], buf, &mut [0; 130], &mut [0; 128])
+        run(&mut self.line, call, &[], buf, &mut [0; 74], &mut [0; 64])
     }
 
     fn done(&mut self, call: Call) -> Result<(), Refusal> {
@@ -104,99 +122,119 @@ impl<L: Line> Mcp<L> {
         }
     }
 
+    /// Resets the chip, which is then in Configuration. Refused: 2.
     pub fn reset(&mut self) -> Result<(), Refusal> {
         self.done(of_register(reset_start()))
     }
 
+    /// The word of a register. Refused: 24 for an address of more than 12 bits; 1.
     pub fn read_register(&mut self, address: u16) -> Result<u32, Refusal> {
         self.word(of_register(read_start(address)))
     }
 
+    /// Writes the word of a register. Refused: 24 for an address of more than 12 bits; 1.
     pub fn write_register(&mut self, address: u16, word: u32) -> Result<(), Refusal> {
         self.done(of_register(write_start(address, word)))
     }
 
-    /// The bits of `clear` to 0, then those of `set` to 1.
+    /// Reads a register and writes it with the bits of `clear` at 0, then those of `set` at 1. Refused as a write is.
     pub fn modify_register(&mut self, address: u16, clear: u32, set: u32) -> Result<(), Refusal> {
         self.done(of_plan(modify_start(address, clear, set)))
     }
 
-    /// A read whose CRC is tested, three tries.
+    /// The word of a register, whose CRC is tested, in at most three tries. Refused: 24; 1; 10 where the third try mismatched too.
     pub fn checked_read(&mut self, address: u16) -> Result<u32, Refusal> {
         self.word(of_register(checked_start(address)))
     }
 
-    /// Fills `buf` from RAM, all of it or none. It has 2,048 bytes on the stack, as `write_ram` has.
+    /// Fills `buf` from the chip's RAM at 0x400 to 0xBFF, all of it, or where it is refused none. It has 2,048 bytes of scratch on the
+    /// stack. Refused: 3 where the part is not in RAM; 4 for a length that is no multiple of 4; 1.
     pub fn read_ram(&mut self, address: u32, buf: &mut [u8]) -> Result<(), Refusal> {
         let call = of_ram(read_ram_start(address, buf.len(), 0, buf.len()));
         done(run(&mut self.line, call, &[], buf, &mut [0; 2], &mut [0; 2048]))
     }
 
+    /// Writes bytes to the chip's RAM. It has 2,050 bytes of scratch on the stack. Refused: 3, as a read; 5 for the length; 2.
     pub fn write_ram(&mut self, address: u32, bytes: &[u8]) -> Result<(), Refusal> {
         let call = of_ram(write_ram_start(address, bytes.len()));
         done(run(&mut self.line, call, bytes, &mut [], &mut [0; 2050], &mut []))
     }
 
+    /// The short echo test, each bit by itself through the RAM's first word: 64 exchanges. Refused: 11; 13 where a word differed.
     pub fn verify(&mut self) -> Result<(), Refusal> {
         self.done(of_plan(verify_start()))
     }
 
+    /// The long echo test, 32 words through RAM at once: 2 exchanges. Refused: 11; 13 where a byte differed.
     pub fn verify_long(&mut self) -> Result<(), Refusal> {
-        self.done(of_ram(verify_long_start()))
+        done(run(&mut self.line, of_ram(verify_long_start()), &[], &mut [], &mut [0; 130], &mut [0; 128]))
     }
 
+    /// Asks for a mode and polls for it: 0 CAN FD, 1 Sleep, 2 internal loopback, 3 listen only, 4 Configuration, 5 external loopback,
+    /// 6 CAN 2.0, 7 restricted. Refused: 24 above 7; 11; 12 where five polls did not show it.
     pub fn set_op_mode(&mut self, mode: u32) -> Result<(), Refusal> {
         self.done(of_plan(set_op_mode(mode)))
     }
 
+    /// The mode that the chip is in. Refused: 1.
     pub fn get_op_mode(&mut self) -> Result<u32, Refusal> {
         self.word(of_register(get_op_mode_start()))
     }
 
+    /// Takes the chip to Configuration, tries the RAM (`verify`) and sets up all but FIFOs and filters; transmit queue and event FIFO are
+    /// turned off. Refused: 24; 11, also where five polls did not show the mode; 13; 14 where three polls did not show the PLL ready.
     pub fn configure(&mut self, settings: Settings) -> Result<(), Refusal> {
         self.done(of_plan(configure_all(settings)))
     }
 
+    /// Sets the oscillator. Refused: 11; 14.
     pub fn configure_osc(&mut self, c: OscillatorConfiguration) -> Result<(), Refusal> {
         self.done(of_plan(configure_osc(c)))
     }
 
+    /// Sets the IO pins. Refused: 11.
     pub fn configure_io(&mut self, c: IoConfiguration) -> Result<(), Refusal> {
         self.done(of_plan(configure_io(c)))
     }
 
+    /// Sets both bit rates and the transmitter delay compensation. Refused: 24; 11.
     pub fn configure_bit_timing(&mut self, c: BitTimeConfiguration) -> Result<(), Refusal> {
         self.done(of_plan(configure_bit_timing(c)))
     }
 
+    /// Sets a FIFO up, 1 to 31. Size, payload size, direction and RXTSEN take effect only in Configuration. Refused: 20; 24; 1.
     pub fn configure_fifo(&mut self, fifo: u8, c: FifoConfiguration) -> Result<(), Refusal> {
         self.done(of_plan(configure_fifo(fifo, c)))
     }
 
+    /// Sets a filter up, 0 to 31, and turns it on. Refused: 20, also for the FIFO that it gives to; 21; 1.
     pub fn configure_filter(&mut self, filter: u8, c: FilterConfiguration) -> Result<(), Refusal> {
         self.done(of_plan(configure_filter(filter, c)))
     }
 
+    /// Turns a filter off. Refused: 20; 1.
     pub fn disable_filter(&mut self, filter: u8) -> Result<(), Refusal> {
         self.done(of_plan(disable_filter(filter)))
     }
 
-    /// Puts a message into a FIFO that sends.
+    /// Puts a message into a FIFO that sends. Refused: 20, 21, 24 (SEQ has 23 bits), 22; then 6, 7, 8, 25, 3, and 1 or 2 for a failed
+    /// exchange. Done says that the message is in the chip; where it is refused the FIFO holds what it held.
     pub fn push(&mut self, fifo: u8, header: Header, seq: u32, payload: &[u8]) -> Result<(), Refusal> {
         self.done(of_push(push_start(fifo, header, seq, payload)))
     }
 
-    /// Asks for a FIFO's messages to be sent.
+    /// Asks for what a FIFO holds to be sent. Refused: 20; 1.
     pub fn request(&mut self, fifo: u8) -> Result<(), Refusal> {
         self.done(of_plan(request_start(fifo)))
     }
 
-    /// Push, then request.
+    /// Push, then request. Refused as these are. 1 does not say whether the message was accepted before the request failed: where that
+    /// matters, push and request.
     pub fn transmit(&mut self, fifo: u8, header: Header, seq: u32, payload: &[u8]) -> Result<(), Refusal> {
         self.done(of_transmit(transmit_start(fifo, header, seq, payload)))
     }
 
-    /// Whether a receive FIFO holds a message.
+    /// Whether a receive FIFO holds a message. Refused: 20; 9; 1.
     pub fn has_next(&mut self, fifo: u8) -> Result<bool, Refusal> {
         match self.short(of_fetch(has_next_start(fifo)), &mut []) {
             Outcome::Yes => Ok(true),
@@ -205,12 +243,13 @@ impl<L: Line> Mcp<L> {
         }
     }
 
-    /// The oldest message of a receive FIFO, which stays there. `buf` has 64 bytes at least.
+    /// The oldest message of a receive FIFO, which stays there, or `None` where it holds none. The payload goes to the front of `buf`,
+    /// which needs 64 bytes, also for shorter ones; every other byte stays. Refused: 20, 28; then 9, 25, 3, 23, 3, and 1.
     pub fn peek(&mut self, fifo: u8, buf: &mut [u8]) -> Result<Option<Received>, Refusal> {
         self.message(of_fetch(peek_start(fifo, buf.len())), buf)
     }
 
-    /// The oldest message of a receive FIFO, taken from there. `buf` has 64 bytes at least.
+    /// As `peek`, and the message is taken from the FIFO. Where it is refused, the FIFO still holds it.
     pub fn get(&mut self, fifo: u8, buf: &mut [u8]) -> Result<Option<Received>, Refusal> {
         self.message(of_fetch(get_start(fifo, buf.len())), buf)
     }
@@ -231,6 +270,7 @@ fn refusal(outcome: Outcome) -> Refusal {
     }
 }
 
+/// The number, the name and what it carries: `refused 3: InvalidRamAddress(3072)`.
 impl core::fmt::Display for Refusal {
     fn fmt(&self, f: &mut core::fmt::Formatter<'_>) -> core::fmt::Result {
         write!(f, "refused {}: {:?}", crate::number(*self), self)

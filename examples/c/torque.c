@@ -1,5 +1,5 @@
 /* The wheel engineer's question, asked of the modelled chip from C: when push says 0, is my torque command in the chip, and will
- * exactly that go out? */
+ * exactly that go out? What is held and sent is written as `drive examples/torque.script` of the project writes it. */
 #include "masevuru.h"
 #include <stdio.h>
 #include <stdlib.h>
@@ -26,33 +26,59 @@ static void must(const char *what, int answer)
     }
 }
 
-static uint32_t held(bench *b)
+static void tell(const char *call, int answer)
 {
-    uint32_t count = 0;
-    must("held", mcp_chip_held(&b->chip, 1, &count));
-    return count;
+    if (answer == MCP_DONE)
+        printf("%s: ok\n", call);
+    else
+        printf("%s: refused %d\n", call, answer);
 }
 
+static void tell_frame(const mcp_frame *f)
+{
+    const mcp_header *h = &f->header;
+    printf("frame %s %03x ", h->extended ? "ext" : "std", (unsigned)h->id);
+    printf("%s%s%s%s", h->fdf ? "f" : "", h->brs ? "b" : "", h->esi ? "e" : "", h->rtr ? "r" : "");
+    printf("%s %u ", h->fdf || h->brs || h->esi || h->rtr ? "" : "-", (unsigned)f->seq);
+    for (unsigned i = 0; i < f->len; i++)
+        printf("%02x", f->payload[i]);
+    printf(f->len ? "\n" : "-\n");
+}
+
+/* What FIFO 1 holds, decoded from the chip's RAM. */
+static void held(const bench *b)
+{
+    mcp_frame frame;
+    uint32_t count;
+    must("held", mcp_chip_held(&b->chip, 1, &count));
+    printf("held 1 %u\n", (unsigned)count);
+    for (uint32_t k = 0; k < count; k++) {
+        must("held_at", mcp_chip_held_at(&b->chip, 1, k, &frame));
+        printf("+ ");
+        if (frame.kind == MCP_FRAME)
+            tell_frame(&frame);
+        else
+            printf("no frame\n");
+    }
+}
+
+/* The chip's turn on the bus. */
 static void send(bench *b)
 {
-    uint8_t payload[64];
-    mcp_message message;
-    uint32_t seq;
-    must("send", mcp_chip_send(&b->chip, 1, payload, sizeof payload, &message, &seq));
-    if (!message.found) {
-        printf("bus: nothing sent\n");
-        return;
-    }
-    printf("bus: frame %03x ", (unsigned)message.header.id);
-    for (int i = 0; i < message.len; i++)
-        printf("%02x", payload[i]);
-    printf("\n");
+    mcp_frame frame;
+    must("send", mcp_chip_send(&b->chip, 1, &frame));
+    printf("bus send 1 = ");
+    if (frame.kind == MCP_FRAME)
+        tell_frame(&frame);
+    else
+        printf(frame.kind == MCP_NO_FRAME ? "no frame\n" : "nothing sent\n");
 }
 
 int main(void)
 {
     static bench b;
-    const mcp_line line = { transfer, mcp_chip_wait, &b };
+    const mcp_line line = { .transfer = transfer, .wait = mcp_chip_wait, .context = &b };
+    /* 500 kbit/s and 2 Mbit/s at 40 MHz; four messages of up to 8 bytes; mode 6 is CAN 2.0. */
     const mcp_settings settings = { .bittime = { .nominal = { 0, 62, 15, 15 }, .data = { 0, 14, 3, 3, 0 } } };
     const mcp_fifo sender = { .size = 4, .plsize = 0, .transmit = 1 };
     const mcp_header torque = { .id = 0x123 };
@@ -62,20 +88,18 @@ int main(void)
     must("configure_fifo", mcp_configure_fifo(&line, 1, &sender));
     must("set_op_mode", mcp_set_op_mode(&line, 6));
 
-    must("push", mcp_push(&line, 1, &torque, 5, (const uint8_t[]){ 0x00, 0xC8, 0xFF, 0x38 }, 4));
-    printf("push: ok, FIFO 1 holds %u\n", (unsigned)held(&b));
-    must("request", mcp_request(&line, 1));
+    /* A torque command, SEQ 5. */
+    tell("push", mcp_push(&line, 1, &torque, 5, (const uint8_t[]){ 0x00, 0xC8, 0xFF, 0x38 }, 4));
+    held(&b);
+    tell("request", mcp_request(&line, 1));
     send(&b);
     send(&b);
 
-    /* The same with the RAM write failing, the fourth exchange of a push. */
+    /* Another, SEQ 6, with the RAM write failing: the fourth exchange of a push. */
     b.fail_at = b.exchanges + 4;
-    int answer = mcp_push(&line, 1, &torque, 6, (const uint8_t[]){ 0x00, 0xC8, 0xFF, 0x39 }, 4);
-    if (answer == MCP_DONE)
-        printf("push: ok\n");
-    else
-        printf("push: refused %d, FIFO 1 holds %u\n", answer, (unsigned)held(&b));
-    must("request", mcp_request(&line, 1));
+    tell("push", mcp_push(&line, 1, &torque, 6, (const uint8_t[]){ 0x00, 0xC8, 0xFF, 0x39 }, 4));
+    held(&b);
+    tell("request", mcp_request(&line, 1));
     send(&b);
     return 0;
 }

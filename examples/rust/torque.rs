@@ -1,25 +1,30 @@
 //! The wheel engineer's question, asked of the modelled chip: when push says Ok, is my torque command in the chip, and will exactly
-//! that go out?
-use masevuru::chip::{Chip, Sending};
+//! that go out? What is held and sent is written as `drive examples/torque.script` of the project writes it.
+use masevuru::chip::{Chip, Frame, Reading, Sending};
 use masevuru::*;
 
 /// A line on which one exchange can be made to fail.
 struct Bench {
     chip: Chip,
+    exchanges: u32,
     fail_at: u32,
 }
 
 impl Line for Bench {
     fn transfer(&mut self, tx: &[u8], rx: &mut [u8]) -> Result<(), Failed> {
-        if self.chip.exchanges + 1 == self.fail_at {
-            self.chip.exchanges += 1;
+        self.exchanges += 1;
+        if self.exchanges == self.fail_at {
             return Err(Failed);
         }
         self.chip.transfer(tx, rx)
     }
-    fn wait(&mut self, _: u32) {}
+
+    fn wait(&mut self, microseconds: u32) {
+        self.chip.wait(microseconds);
+    }
 }
 
+/// 500 kbit/s and 2 Mbit/s at 40 MHz.
 fn settings() -> Settings {
     Settings {
         oscillator: OscillatorConfiguration { pll: false, divide: false },
@@ -36,39 +41,76 @@ fn settings() -> Settings {
     }
 }
 
+/// Four messages of up to 8 bytes.
+fn sender() -> FifoConfiguration {
+    let tx = TxFifo { txpri: 0, txat: 0, rtren: false, txatie: false, empty: false, half: false, notfull: false };
+    FifoConfiguration { size: 4, plsize: 0, mode: FifoMode::Transmit(tx) }
+}
+
 fn main() -> Result<(), Refusal> {
-    let sender = FifoMode::Transmit(TxFifo { txpri: 0, txat: 0, rtren: false, txatie: false, empty: false, half: false, notfull: false });
     let torque = Header { extended: false, id: 0x123, rtr: false, brs: false, fdf: false, esi: false };
-    let mut mcp = Mcp::new(Bench { chip: Chip::new(), fail_at: 0 });
+    let mut mcp = Mcp::new(Bench { chip: Chip::new(), exchanges: 0, fail_at: 0 });
     mcp.reset()?;
     mcp.configure(settings())?;
-    mcp.configure_fifo(1, FifoConfiguration { size: 4, plsize: 0, mode: sender })?;
-    mcp.set_op_mode(6)?;
+    mcp.configure_fifo(1, sender())?;
+    mcp.set_op_mode(6)?; // CAN 2.0
 
-    mcp.push(1, torque, 5, &[0x00, 0xC8, 0xFF, 0x38])?;
-    println!("push: ok, FIFO 1 holds {}", mcp.line.chip.held(1));
-    mcp.request(1)?;
-    tell(mcp.line.chip.send(1));
-    tell(mcp.line.chip.send(1));
+    // A torque command, SEQ 5.
+    tell("push", mcp.push(1, torque, 5, &[0x00, 0xC8, 0xFF, 0x38]));
+    held(&mcp.line.chip)?;
+    tell("request", mcp.request(1));
+    send(&mut mcp.line.chip);
+    send(&mut mcp.line.chip);
 
-    // The same with the RAM write failing, the fourth exchange of a push.
-    mcp.line.fail_at = mcp.line.chip.exchanges + 4;
-    match mcp.push(1, torque, 6, &[0x00, 0xC8, 0xFF, 0x39]) {
-        Ok(()) => println!("push: ok"),
-        Err(r) => println!("push: refused {}, FIFO 1 holds {}", number(r), mcp.line.chip.held(1)),
-    }
-    mcp.request(1)?;
-    tell(mcp.line.chip.send(1));
+    // Another, SEQ 6, with the RAM write failing: the fourth exchange of a push.
+    mcp.line.fail_at = mcp.line.exchanges + 4;
+    tell("push", mcp.push(1, torque, 6, &[0x00, 0xC8, 0xFF, 0x39]));
+    held(&mcp.line.chip)?;
+    tell("request", mcp.request(1));
+    send(&mut mcp.line.chip);
     Ok(())
 }
 
-fn tell((sending, frame): (Sending, masevuru::chip::Frame)) {
-    match sending {
-        Sending::Frame => {
-            print!("bus: frame {:03x} ", frame.header.id);
-            frame.payload.bytes[..frame.payload.len].iter().for_each(|b| print!("{b:02x}"));
-            println!();
-        }
-        _ => println!("bus: nothing sent"),
+fn tell(call: &str, answer: Result<(), Refusal>) {
+    match answer {
+        Ok(()) => println!("{call}: ok"),
+        Err(r) => println!("{call}: refused {}", number(r)),
     }
+}
+
+/// What FIFO 1 holds, decoded from the chip's RAM.
+fn held(chip: &Chip) -> Result<(), Refusal> {
+    println!("held 1 {}", chip.held(1)?);
+    let mut k = 0;
+    while let Some(slot) = chip.held_at(1, k)? {
+        match slot.reading {
+            Reading::Whole => println!("+ {}", told(slot.frame)),
+            _ => println!("+ no frame"),
+        }
+        k += 1;
+    }
+    Ok(())
+}
+
+/// The chip's turn on the bus.
+fn send(chip: &mut Chip) {
+    match chip.send(1) {
+        (Sending::Frame, frame) => println!("bus send 1 = {}", told(frame)),
+        (Sending::NoFrame, _) => println!("bus send 1 = no frame"),
+        (Sending::Nothing, _) => println!("bus send 1 = nothing sent"),
+        (Sending::Refused(r), _) => println!("bus send 1 = refused {}", number(r)),
+    }
+}
+
+fn told(frame: Frame) -> String {
+    let (h, payload) = (frame.header, &frame.payload.bytes[..frame.payload.len]);
+    let letters = [(h.fdf, 'f'), (h.brs, 'b'), (h.esi, 'e'), (h.rtr, 'r')];
+    let flags = letters.iter().filter(|(is, _)| *is).map(|(_, letter)| letter).collect();
+    let bytes = payload.iter().map(|b| format!("{b:02x}")).collect();
+    let kind = if h.extended { "ext" } else { "std" };
+    format!("frame {kind} {:03x} {} {} {}", h.id, or_none(flags), frame.seq, or_none(bytes))
+}
+
+fn or_none(text: String) -> String {
+    if text.is_empty() { "-".into() } else { text }
 }

@@ -1,19 +1,86 @@
 //! The modelled chip from C: memory of the caller's that `mcp_chip_new` makes a chip of.
-use crate::{bytes, bytes_mut, fifo_number, there, CHeader, CMessage, NULL};
+use crate::{bytes, bytes_mut, fifo_number, layout, there, CHeader, NULL};
 use core::ffi::{c_int, c_void};
-use masevuru::chip::{Chip, Delivery, Sending};
-use masevuru::{number, Line, Received, Refusal, Stamp};
+use core::mem::{align_of, offset_of, size_of};
+use masevuru::chip::{Chip, Decoded, Delivery, Frame, Reading, Sending};
+use masevuru::{number, Line, Refusal, Stamp};
 
 #[repr(C)]
 pub struct CChip {
     words: [u32; 700],
 }
 
-const _: () = assert!(core::mem::size_of::<Chip>() <= core::mem::size_of::<CChip>());
-const _: () = assert!(core::mem::align_of::<Chip>() <= core::mem::align_of::<CChip>());
+const _: () = assert!(size_of::<Chip>() <= size_of::<CChip>() && align_of::<Chip>() <= align_of::<CChip>());
+
+/// All zeros but for `kind` where there is no frame.
+#[repr(C)]
+pub struct CFrame {
+    header: CHeader,
+    seq: u32,
+    time: u32,
+    kind: u8,
+    stamped: u8,
+    len: u8,
+    payload: [u8; 64],
+}
+
+layout! {
+    CChip 2800, words 0;
+    CFrame 88, header 0, seq 12, time 16, kind 20, stamped 21, len 22, payload 23;
+}
+
+/// What `kind` says: MCP_NOTHING, MCP_FRAME and MCP_NO_FRAME.
+const NOTHING: u8 = 0;
+const FRAME: u8 = 1;
+const NO_FRAME: u8 = 2;
+
+impl CFrame {
+    fn none(kind: u8) -> CFrame {
+        CFrame { header: CHeader::default(), seq: 0, time: 0, kind, stamped: 0, len: 0, payload: [0; 64] }
+    }
+
+    fn of(frame: Frame) -> CFrame {
+        let (stamped, time) = match frame.stamp {
+            Stamp::At(t) => (1, t),
+            Stamp::None => (0, 0),
+        };
+        CFrame {
+            header: CHeader::of(frame.header),
+            seq: frame.seq,
+            time,
+            kind: FRAME,
+            stamped,
+            len: frame.payload.len as u8,
+            payload: frame.payload.bytes,
+        }
+    }
+
+    fn held(held: Option<Decoded>) -> CFrame {
+        match held {
+            Some(Decoded { reading: Reading::Whole, frame }) => CFrame::of(frame),
+            Some(_) => CFrame::none(NO_FRAME),
+            None => CFrame::none(NOTHING),
+        }
+    }
+}
 
 unsafe fn chip<'a>(p: *mut CChip) -> Option<&'a mut Chip> {
     p.cast::<Chip>().as_mut()
+}
+
+unsafe fn looked_at<'a>(p: *const CChip) -> Option<&'a Chip> {
+    p.cast::<Chip>().as_ref()
+}
+
+/// The number of an answer; what is told goes to `out`.
+unsafe fn told<T>(answer: Result<T, Refusal>, out: *mut T) -> c_int {
+    match answer {
+        Ok(t) => {
+            out.write(t);
+            0
+        }
+        Err(r) => number(r) as c_int,
+    }
 }
 
 #[no_mangle]
@@ -27,38 +94,23 @@ pub unsafe extern "C" fn mcp_chip_new(p: *mut CChip) -> c_int {
 
 #[no_mangle]
 pub unsafe extern "C" fn mcp_chip_transfer(p: *mut c_void, tx: *const u8, tx_len: usize, rx: *mut u8, rx_len: usize) -> c_int {
-    (|| chip(p.cast())?.transfer(bytes(tx, tx_len)?, bytes_mut(rx, rx_len)?).ok().map(|()| 0))().unwrap_or(NULL)
+    (|| Some(chip(p.cast())?.transfer(bytes(tx, tx_len)?, bytes_mut(rx, rx_len)?).map_or(1, |()| 0)))().unwrap_or(NULL)
 }
 
 #[no_mangle]
 pub unsafe extern "C" fn mcp_chip_wait(_: *mut c_void, _: u32) {}
 
 #[no_mangle]
-pub unsafe extern "C" fn mcp_chip_send(p: *mut CChip, fifo: u32, buf: *mut u8, room: usize, message: *mut CMessage, seq: *mut u32) -> c_int {
+pub unsafe extern "C" fn mcp_chip_send(p: *mut CChip, fifo: u32, frame: *mut CFrame) -> c_int {
     (|| {
-        let (chip, buf) = (chip(p)?, bytes_mut(buf, room)?);
-        there(message)?;
-        there(seq)?;
-        if buf.len() < 64 {
-            return Some(number(Refusal::BufferTooSmall) as c_int);
-        }
-        let (sending, frame) = chip.send(fifo_number(fifo));
-        let payload = &frame.payload.bytes[..frame.payload.len];
-        let found = match sending {
-            Sending::Refused(r) => return Some(number(r) as c_int),
-            Sending::Frame => {
-                buf[..payload.len()].copy_from_slice(payload);
-                let time = match frame.stamp {
-                    Stamp::At(t) => Some(t),
-                    Stamp::None => None,
-                };
-                Some(Received { header: frame.header, time, len: payload.len() })
-            }
-            Sending::NoFrame | Sending::Nothing => None,
+        there(frame)?;
+        let sent = match chip(p)?.send(fifo_number(fifo)) {
+            (Sending::Frame, f) => Ok(CFrame::of(f)),
+            (Sending::NoFrame, _) => Ok(CFrame::none(NO_FRAME)),
+            (Sending::Nothing, _) => Ok(CFrame::none(NOTHING)),
+            (Sending::Refused(r), _) => Err(r),
         };
-        message.write(CMessage::of(found));
-        seq.write(frame.seq);
-        Some(0)
+        Some(told(sent, frame))
     })()
     .unwrap_or(NULL)
 }
@@ -75,17 +127,16 @@ pub unsafe extern "C" fn mcp_chip_deliver(
 ) -> c_int {
     (|| {
         there(turned_down)?;
-        let (chip, header, payload) = (chip(p)?, header.as_ref()?.header(), bytes(payload, len)?);
-        let why = match chip.deliver(fifo_number(fifo), header, time, payload) {
-            Delivery::Refused(r) => return Some(number(r) as c_int),
-            Delivery::Delivered => 0,
-            Delivery::Configuration => 1,
-            Delivery::NotReceiving => 2,
-            Delivery::TooLong => 3,
-            Delivery::Full => 4,
+        let (header, payload) = (header.as_ref()?.header(), bytes(payload, len)?);
+        let why = match chip(p)?.deliver(fifo_number(fifo), header, time, payload) {
+            Delivery::Delivered => Ok(0),
+            Delivery::Configuration => Ok(1),
+            Delivery::NotReceiving => Ok(2),
+            Delivery::TooLong => Ok(3),
+            Delivery::Full => Ok(4),
+            Delivery::Refused(r) => Err(r),
         };
-        turned_down.write(why);
-        Some(0)
+        Some(told(why, turned_down))
     })()
     .unwrap_or(NULL)
 }
@@ -94,8 +145,27 @@ pub unsafe extern "C" fn mcp_chip_deliver(
 pub unsafe extern "C" fn mcp_chip_held(p: *const CChip, fifo: u32, count: *mut u32) -> c_int {
     (|| {
         there(count)?;
-        count.write(p.cast::<Chip>().as_ref()?.held(fifo_number(fifo)) as u32);
-        Some(0)
+        Some(told(looked_at(p)?.held(fifo_number(fifo)).map(u32::from), count))
+    })()
+    .unwrap_or(NULL)
+}
+
+/// No FIFO holds more than 32: a place wider than Rust's is one where none is held.
+#[no_mangle]
+pub unsafe extern "C" fn mcp_chip_held_at(p: *const CChip, fifo: u32, k: u32, frame: *mut CFrame) -> c_int {
+    (|| {
+        there(frame)?;
+        let k = u8::try_from(k).unwrap_or(u8::MAX);
+        Some(told(looked_at(p)?.held_at(fifo_number(fifo), k).map(CFrame::held), frame))
+    })()
+    .unwrap_or(NULL)
+}
+
+#[no_mangle]
+pub unsafe extern "C" fn mcp_chip_no_layout(p: *const CChip, count: *mut u32) -> c_int {
+    (|| {
+        there(count)?;
+        Some(told(Ok(looked_at(p)?.no_layout), count))
     })()
     .unwrap_or(NULL)
 }

@@ -1,13 +1,20 @@
-/* junk [CALLS [SEED]]: random calls with random numbers, NULLs and lengths over a line that fails, answers junk, fills only part of
- * what was wanted, and otherwise is the modelled chip. No call may panic (which ends the program), write outside its buffers, or answer
- * what document 01 doesn't know. Prints how often each number was answered. */
+/* junk [CALLS [SEED]]: random calls with random numbers, NULLs and lengths over a line that fails, answers junk, fills only part of what was
+ * wanted, and otherwise is the modelled chip. No call may panic (which ends the program), send what is no instruction, go on after a
+ * failed exchange, change a byte where it is refused, write outside what it was lent, or answer what document 01 does not have for it.
+ * Prints how often each number was answered. */
 #include "masevuru.h"
 #include <stdio.h>
 #include <stdlib.h>
 #include <string.h>
 
+static unsigned long calls_made;
+#define IS(what) ((what) ? (void)0 : (printf("call %lu, junk.c:%d: not so: %s\n", calls_made, __LINE__, #what), exit(1)))
+
 static mcp_chip chip;
 static uint64_t seed = 0x9E3779B97F4A7C15u;
+static unsigned asked; /* exchanges of this call */
+static int failed;     /* one of them was not carried out */
+static int calm;       /* the line is the chip alone */
 
 static uint64_t next(void)
 {
@@ -31,60 +38,141 @@ static uint32_t number(void)
     }
 }
 
-static int transfer(void *context, const uint8_t *tx, size_t tx_len, uint8_t *rx, size_t rx_len)
+/* RESET, WRITE, READ and READ_CRC as document 01 has them; no other opcode is ever sent. */
+static int is_instruction(const uint8_t *tx, size_t tx_len, size_t rx_len)
 {
-    (void)context;
-    switch (next() % 16) {
-    case 0: return (int)(next() % 3) - 2 ? 1 : -1;
-    case 1: /* short: only the first bytes come */
-        for (size_t i = 0, n = next() % (rx_len + 1); i < n; i++)
-            rx[i] = (uint8_t)next();
+    if (tx_len < 2)
         return 0;
-    case 2: memset(rx, 0xFF, rx_len); return 0;
-    default: return mcp_chip_transfer(&chip, tx, tx_len, rx, rx_len);
+    switch (tx[0] >> 4) {
+    case 0: return tx_len == 2 && tx[0] == 0 && tx[1] == 0 && rx_len == 0;
+    case 2: return tx_len <= 2050 && tx_len % 4 == 2 && rx_len == 0;
+    case 3: return tx_len == 2 && rx_len <= 2048 && rx_len % 4 == 0;
+    case 11: return tx_len == 3 && tx[2] == 4 && rx_len == 6;
+    default: return 0;
     }
 }
 
-static void wait(void *context, uint32_t microseconds)
+static int transfer(void *context, const uint8_t *tx, size_t tx_len, uint8_t *rx, size_t rx_len)
 {
-    (void)context;
-    if (microseconds != 500)
-        abort();
+    int r = 0;
+    IS(context == &chip && !failed && is_instruction(tx, tx_len, rx_len));
+    asked++;
+    switch (calm ? 3 : next() % 16) {
+    case 0: r = next() % 2 ? 1 : -1; break;
+    case 1: /* short: only the first bytes come */
+        for (size_t i = 0, n = next() % (rx_len + 1); i < n; i++)
+            rx[i] = (uint8_t)next();
+        break;
+    case 2:
+        for (size_t i = 0; i < rx_len; i++)
+            rx[i] = 0xFF;
+        break;
+    default: r = mcp_chip_transfer(context, tx, tx_len, rx, rx_len);
+    }
+    failed = r != 0;
+    return r;
 }
+
+static void wait(void *context, uint32_t microseconds) { IS(context == &chip && !failed && microseconds == 500); }
+
+/* The calls, and how many exchanges each asks for at most, whatever is answered. */
+enum { RESET, READ, WRITE, MODIFY, CHECKED, READ_RAM, WRITE_RAM, VERIFY, VERIFY_LONG, SET_MODE, GET_MODE, CONFIGURE, OSC, IO, TIMING, FIFO,
+       FILTER, DISABLE, PUSH, REQUEST, TRANSMIT, HAS_NEXT, PEEK, GET, SEND, DELIVER, HELD, HELD_AT, KINDS };
+static const unsigned bound[KINDS] = { 1, 1, 1, 2, 3, 1, 1, 64, 2, 7, 1, 96, 5, 2, 6, 2, 8, 2, 5, 2, 7, 2, 7, 9, 0, 0, 0, 0 };
+
+/* Whether document 01 has a number for a call: what a failed exchange is; what is tested before the first; what comes later. */
+static int is_answer(int call, int r)
+{
+    static const struct { int failed[2], others[9]; } has[KINDS] = {
+        [RESET] = { { 2 }, { 0 } }, [READ] = { { 1 }, { 24 } }, [WRITE] = { { 1 }, { 24 } }, [MODIFY] = { { 1 }, { 24 } },
+        [CHECKED] = { { 1 }, { 24, 10 } }, [READ_RAM] = { { 1 }, { 3, 4 } }, [WRITE_RAM] = { { 2 }, { 3, 5 } },
+        [VERIFY] = { { 11 }, { 13 } }, [VERIFY_LONG] = { { 11 }, { 13 } }, [SET_MODE] = { { 11 }, { 24, 12 } }, [GET_MODE] = { { 1 }, { 0 } },
+        [CONFIGURE] = { { 11 }, { 24, 11, 13, 14 } }, [OSC] = { { 11 }, { 14 } }, [IO] = { { 11 }, { 0 } }, [TIMING] = { { 11 }, { 24 } },
+        [FIFO] = { { 1 }, { 20, 24 } }, [FILTER] = { { 1 }, { 20, 21, 24 } }, [DISABLE] = { { 1 }, { 20 } },
+        [PUSH] = { { 1, 2 }, { 20, 21, 24, 22, 6, 7, 8, 25, 3 } }, [REQUEST] = { { 1 }, { 20 } },
+        [TRANSMIT] = { { 1, 2 }, { 20, 21, 24, 22, 6, 7, 8, 25, 3 } }, [HAS_NEXT] = { { 1 }, { 20, 9 } },
+        [PEEK] = { { 1 }, { 20, 28, 9, 25, 3, 23 } }, [GET] = { { 1 }, { 20, 28, 9, 25, 3, 23 } },
+        [SEND] = { { 0 }, { 20 } }, [DELIVER] = { { 0 }, { 20, 21, 22 } }, [HELD] = { { 0 }, { 20 } }, [HELD_AT] = { { 0 }, { 20 } },
+    };
+    if (failed)
+        return r > 0 && (r == has[call].failed[0] || r == has[call].failed[1]);
+    for (int i = 0; i < 9; i++)
+        if (r == has[call].others[i]) return 1;
+    return r == 0;
+}
+
+/* Tested before the first exchange: of 3, 4 and 5 those of the RAM calls. */
+static int is_first(int call, int r)
+{
+    return r == 20 || r == 21 || r == 22 || r == 24 || r == 28 || r == 4 || r == 5 || (r == 3 && (call == READ_RAM || call == WRITE_RAM));
+}
+
+/* A chip outside Configuration with four FIFOs, two of which send, so that calls have something to do. */
+static void settle(void)
+{
+    const mcp_line line = { .transfer = transfer, .wait = wait, .context = &chip };
+    const mcp_settings settings = { .dncnt = 0 };
+    asked = 0, failed = 0, calm = 1;
+    IS(mcp_chip_new(&chip) == 0 && mcp_configure(&line, &settings) == 0);
+    for (uint32_t n = 1; n <= 4; n++) {
+        const mcp_fifo fifo = { .size = 1 + next() % 4, .plsize = next() % 8, .transmit = n % 2, .rxtsen = next() % 2 };
+        IS(mcp_configure_fifo(&line, n, &fifo) == 0);
+    }
+    IS(mcp_set_op_mode(&line, 0) == 0);
+    calm = 0;
+}
+
+static void fill(void *p, size_t n)
+{
+    for (size_t i = 0; i < n; i++)
+        ((uint8_t *)p)[i] = (uint8_t)next();
+}
+
+/* All that calls write to, as it is before a call and after. */
+static struct {
+    uint8_t to[4096 + 8];
+    mcp_message message;
+    mcp_frame frame;
+    uint32_t word, value;
+    uint8_t flag;
+} out, before;
 
 int main(int argc, char **argv)
 {
     unsigned long calls = argc > 1 ? strtoul(argv[1], NULL, 0) : 100000, counts[30] = { 0 };
-    static uint8_t from[4096 + 8], to[4096 + 8];
+    static const uint8_t lengths[16] = { 0, 1, 2, 3, 4, 5, 6, 7, 8, 12, 16, 20, 24, 32, 48, 64 };
+    static uint8_t from[4096];
     if (argc > 2)
         seed ^= strtoull(argv[2], NULL, 0);
+    fill(from, sizeof from);
     mcp_chip_new(&chip);
-    for (unsigned long i = 0; i < calls; i++) {
-        mcp_line line = { transfer, wait, NULL };
+    memset(&before, 0x5A, sizeof before);
+    for (calls_made = 0; calls_made < calls; calls_made++) {
+        mcp_line line = { transfer, wait, &chip, &out.value };
         mcp_header header;
         mcp_settings settings;
         mcp_fifo fifo;
         mcp_filter filter;
-        mcp_message message;
-        uint32_t a = number(), b = number(), c = number(), word;
-        uint8_t flag;
+        uint32_t a = number(), b = number(), c = number();
         size_t len = next() % 2 ? next() % 68 : next() % 4096;
-        size_t lent = next() % 32 ? len : (size_t)-1; /* longer than any buffer: only ever with NULL */
-        uint8_t *p = lent == len && next() % 32 ? to : NULL;
-        uint8_t *q = lent == len && next() % 32 ? from : NULL;
+        size_t lent = next() % 32 ? len : (size_t)-1 - next() % 3; /* longer than any object is told as NULL is */
+        uint8_t *p = next() % 32 ? out.to : NULL;
+        uint8_t *q = next() % 32 ? from : NULL;
         const mcp_header *h = next() % 32 ? &header : NULL;
         const mcp_line *l = next() % 64 ? &line : NULL;
-        mcp_message *m = next() % 32 ? &message : NULL;
-        uint32_t *w = next() % 32 ? &word : NULL;
-        int r;
+        mcp_message *m = next() % 32 ? &out.message : NULL;
+        mcp_frame *f = next() % 32 ? &out.frame : NULL;
+        uint32_t *w = next() % 32 ? &out.word : NULL;
+        int call = (int)(next() % KINDS), none, no_to, no_from, r;
         if (next() % 64 == 0) line.transfer = NULL;
         if (next() % 64 == 0) line.wait = NULL;
-        for (size_t k = 0; k < sizeof header; k++) ((uint8_t *)&header)[k] = (uint8_t)next();
-        for (size_t k = 0; k < sizeof settings; k++) ((uint8_t *)&settings)[k] = (uint8_t)next();
-        for (size_t k = 0; k < sizeof fifo; k++) ((uint8_t *)&fifo)[k] = (uint8_t)next();
-        for (size_t k = 0; k < sizeof filter; k++) ((uint8_t *)&filter)[k] = (uint8_t)next();
+        if (next() % 4 == 0) line.value = NULL;
+        fill(&header, sizeof header);
+        fill(&settings, sizeof settings);
+        fill(&fifo, sizeof fifo);
+        fill(&filter, sizeof filter);
         if (next() % 4) { /* such as are taken */
-            header.id %= header.extended ? 0x20000000 : 0x800;
+            header.id %= 0x800;
             settings.bittime = (mcp_bittime){ { a % 256, b % 256, c % 128, a % 128 }, { a % 256, b % 32, c % 16, a % 16, b % 128 } };
             settings.dncnt %= 32;
             fifo.size = a % 40;
@@ -96,42 +184,69 @@ int main(int argc, char **argv)
             filter.object.id %= 0x800;
             filter.mask.id %= 0x800;
             b %= 0x800000;
-            a %= next() % 2 ? 34 : 0x1000;
+            a %= next() % 2 ? 6 : next() % 2 ? 34 : 0x1000;
+            if (next() % 2) header.fdf = header.extended = 0;
+            if (lent == len && (call == PUSH || call == TRANSMIT || call == DELIVER)) lent = len = lengths[next() % 16];
+            if (lent == len && (call == PEEK || call == GET)) lent = len |= 64;
         }
-        memset(to, 0x5A, sizeof to);
-        switch (next() % 27) {
-        case 0: r = mcp_reset(l); break;
-        case 1: r = mcp_read_register(l, a, w); break;
-        case 2: r = mcp_write_register(l, a, b); break;
-        case 3: r = mcp_modify_register(l, a, b, c); break;
-        case 4: r = mcp_checked_read(l, a, w); break;
-        case 5: r = mcp_read_ram(l, c, p, lent); break;
-        case 6: r = mcp_write_ram(l, c, q, lent); break;
-        case 7: r = mcp_verify(l); break;
-        case 8: r = mcp_verify_long(l); break;
-        case 9: r = mcp_set_op_mode(l, c % 9); break;
-        case 10: r = mcp_get_op_mode(l, w); break;
-        case 11: r = mcp_configure(l, &settings); break;
-        case 12: r = mcp_configure_osc(l, &settings.oscillator); break;
-        case 13: r = mcp_configure_io(l, &settings.io); break;
-        case 14: r = mcp_configure_bit_timing(l, &settings.bittime); break;
-        case 15: r = mcp_configure_fifo(l, a, &fifo); break;
-        case 16: r = mcp_configure_filter(l, a, &filter); break;
-        case 17: r = mcp_disable_filter(l, a); break;
-        case 18: r = mcp_push(l, a, h, b, q, lent); break;
-        case 19: r = mcp_request(l, a); break;
-        case 20: r = mcp_transmit(l, a, h, b, q, lent); break;
-        case 21: r = mcp_has_next(l, a, &flag); break;
-        case 22: r = mcp_peek(l, a, p, lent, m); break;
-        case 23: r = mcp_get(l, a, p, lent, m); break;
-        case 24: r = mcp_chip_send(&chip, a, p, lent, m, w); break;
-        case 25: r = mcp_chip_deliver(&chip, a, h, c, q, lent, w); break;
-        default: r = mcp_chip_held(&chip, a, w); break;
+        no_to = lent && (!p || lent != len), no_from = lent && (!q || lent != len);
+        none = call < SEND && (!l || !line.transfer || !line.wait); /* whether a pointer is NULL that must not be */
+        if (calls_made % 64 == 0)
+            settle();
+        out = before;
+        asked = 0, failed = 0;
+        switch (call) {
+        case RESET: r = mcp_reset(l); break;
+        case READ: r = mcp_read_register(l, a, w); none |= !w; break;
+        case WRITE: r = mcp_write_register(l, a, b); break;
+        case MODIFY: r = mcp_modify_register(l, a, b, c); break;
+        case CHECKED: r = mcp_checked_read(l, a, w); none |= !w; break;
+        case READ_RAM: r = mcp_read_ram(l, c, p, lent); none |= no_to; break;
+        case WRITE_RAM: r = mcp_write_ram(l, c, q, lent); none |= no_from; break;
+        case VERIFY: r = mcp_verify(l); break;
+        case VERIFY_LONG: r = mcp_verify_long(l); break;
+        case SET_MODE: r = mcp_set_op_mode(l, c % 9); break;
+        case GET_MODE: r = mcp_get_op_mode(l, w); none |= !w; break;
+        case CONFIGURE: r = mcp_configure(l, &settings); break;
+        case OSC: r = mcp_configure_osc(l, &settings.oscillator); break;
+        case IO: r = mcp_configure_io(l, &settings.io); break;
+        case TIMING: r = mcp_configure_bit_timing(l, &settings.bittime); break;
+        case FIFO: r = mcp_configure_fifo(l, a, &fifo); break;
+        case FILTER: r = mcp_configure_filter(l, a, &filter); break;
+        case DISABLE: r = mcp_disable_filter(l, a); break;
+        case PUSH: r = mcp_push(l, a, h, b, q, lent); none |= !h || no_from; break;
+        case REQUEST: r = mcp_request(l, a); break;
+        case TRANSMIT: r = mcp_transmit(l, a, h, b, q, lent); none |= !h || no_from; break;
+        case HAS_NEXT: r = mcp_has_next(l, a, &out.flag); break;
+        case PEEK: r = mcp_peek(l, a, p, lent, m); none |= !m || no_to; break;
+        case GET: r = mcp_get(l, a, p, lent, m); none |= !m || no_to; break;
+        case SEND: r = mcp_chip_send(&chip, a, f); none |= !f; break;
+        case DELIVER: r = mcp_chip_deliver(&chip, a, h, c, q, lent, w); none |= !h || !w || no_from; break;
+        case HELD: r = mcp_chip_held(&chip, a, w); none |= !w; break;
+        default: r = mcp_chip_held_at(&chip, a, b, f); none |= !f; break;
         }
-        for (size_t k = len; k < sizeof to; k++)
-            if (to[k] != 0x5A) return printf("call %lu wrote at %zu of %zu\n", i, k, len), 1;
-        if (r < -1 || r > 28 || (r > 14 && r < 20) || r == 26 || r == 27)
-            return printf("call %lu answered %d\n", i, r), 1;
+        IS(none ? r == MCP_NULL && asked == 0 : is_answer(call, r));
+        IS(asked <= bound[call]);
+        IS(!is_first(call, r) || asked == 0);
+        if (line.value && (r == 3 || r == 4 || r == 5)) {
+            /* the caller's own, or where an object of at most 72 bytes is not inside RAM */
+            IS(r != 3 ? out.value == len : is_first(call, r) ? out.value == c : out.value > 0xC00 - 72 && out.value < 0x10010);
+            out.value = before.value;
+        }
+        if (r) {
+            IS(!memcmp(&out, &before, sizeof out));
+        } else {
+            size_t filled = call == READ_RAM ? len : 0;
+            if (call == PEEK || call == GET) {
+                IS(out.message.found <= 1 && out.message.stamped <= out.message.found && out.message.len <= 64 * out.message.found);
+                filled = out.message.len;
+            }
+            IS(!memcmp(out.to + filled, before.to + filled, sizeof out.to - filled));
+            IS(call == HAS_NEXT ? out.flag <= 1 : out.flag == 0x5A);
+            IS((call != SEND && call != HELD_AT) || (out.frame.kind <= MCP_NO_FRAME && out.frame.len <= 64));
+            IS((call != DELIVER || out.word <= MCP_FULL) && (call != HELD || out.word <= 32) && (call != GET_MODE || out.word <= 7));
+            IS(out.value == before.value);
+        }
         counts[r + 1]++;
     }
     for (int r = 0; r < 30; r++)

@@ -5,6 +5,7 @@
 #![allow(clippy::missing_safety_doc)]
 
 use core::ffi::{c_int, c_void};
+use core::mem::{offset_of, size_of};
 use masevuru::*;
 
 #[cfg(feature = "chip")]
@@ -28,6 +29,7 @@ pub struct CLine {
     transfer: Option<unsafe extern "C" fn(*mut c_void, *const u8, usize, *mut u8, usize) -> c_int>,
     wait: Option<unsafe extern "C" fn(*mut c_void, u32)>,
     context: *mut c_void,
+    value: *mut u32,
 }
 
 impl Line for CLine {
@@ -47,7 +49,7 @@ impl Line for CLine {
 }
 
 #[repr(C)]
-#[derive(Clone, Copy)]
+#[derive(Clone, Copy, Default)]
 pub struct CHeader {
     id: u32,
     extended: u8,
@@ -74,7 +76,9 @@ impl CHeader {
     }
 }
 
+/// All zeros where no message was found.
 #[repr(C)]
+#[derive(Default)]
 pub struct CMessage {
     header: CHeader,
     time: u32,
@@ -85,23 +89,13 @@ pub struct CMessage {
 
 impl CMessage {
     fn of(r: Option<Received>) -> CMessage {
-        let none = CMessage {
-            header: CHeader { id: 0, extended: 0, rtr: 0, brs: 0, fdf: 0, esi: 0 },
-            time: 0,
-            found: 0,
-            stamped: 0,
-            len: 0,
-        };
-        match r {
-            Some(r) => CMessage {
-                header: CHeader::of(r.header),
-                time: r.time.unwrap_or(0),
-                found: 1,
-                stamped: r.time.is_some() as u8,
-                len: r.len as u8,
-            },
-            None => none,
-        }
+        r.map_or(CMessage::default(), |r| CMessage {
+            header: CHeader::of(r.header),
+            time: r.time.unwrap_or(0),
+            found: 1,
+            stamped: r.time.is_some() as u8,
+            len: r.len as u8,
+        })
     }
 }
 
@@ -123,9 +117,28 @@ pub struct CIo {
 
 #[repr(C)]
 #[derive(Clone, Copy)]
+pub struct CNominal {
+    brp: u32,
+    tseg1: u32,
+    tseg2: u32,
+    sjw: u32,
+}
+
+#[repr(C)]
+#[derive(Clone, Copy)]
+pub struct CData {
+    brp: u32,
+    tseg1: u32,
+    tseg2: u32,
+    sjw: u32,
+    tdco: u32,
+}
+
+#[repr(C)]
+#[derive(Clone, Copy)]
 pub struct CBittime {
-    nominal: [u32; 4],
-    data: [u32; 5],
+    nominal: CNominal,
+    data: CData,
 }
 
 #[repr(C)]
@@ -177,6 +190,33 @@ pub struct CFilter {
     mask: CIdentifier,
 }
 
+/// The size of each structure and the place of each field, with the numbers of the header's MCP_LAYOUT.
+macro_rules! layout {
+    ($($type:ident $size:expr, $($field:ident $at:expr),*;)*) => { $(
+        const _: () = assert!(size_of::<$type>() == $size $(&& offset_of!($type, $field) == $at)*);
+    )* };
+}
+pub(crate) use layout;
+
+/// The size of a pointer.
+const P: usize = size_of::<*const c_void>();
+
+layout! {
+    CLine 4 * P, transfer 0, wait P, context 2 * P, value 3 * P;
+    CHeader 12, id 0, extended 4, rtr 5, brs 6, fdf 7, esi 8;
+    CMessage 20, header 0, time 12, found 16, stamped 17, len 18;
+    COscillator 2, pll 0, divide 1;
+    CIo 4, xstbyen 0, txcanod 1, sof 2, intod 3;
+    CNominal 16, brp 0, tseg1 4, tseg2 8, sjw 12;
+    CData 20, brp 0, tseg1 4, tseg2 8, sjw 12, tdco 16;
+    CBittime 36, nominal 0, data 16;
+    CSettings 52, oscillator 0, io 2, bittime 8, dncnt 44, counter 48, canerrors 49, spierror 50, eccerror 51;
+    CFifo 28, size 0, plsize 4, txpri 8, txat 12, transmit 16, rtren 17, txatie 18, tx_empty 19, tx_half 20, tx_notfull 21, rxtsen 22,
+        rxovie 23, rx_full 24, rx_half 25, rx_notempty 26;
+    CIdentifier 8, id 0, extended 4;
+    CFilter 24, fifo 0, mode 4, object 8, mask 16;
+}
+
 impl COscillator {
     fn settings(self) -> OscillatorConfiguration {
         OscillatorConfiguration { pll: self.pll != 0, divide: self.divide != 0 }
@@ -191,10 +231,10 @@ impl CIo {
 
 impl CBittime {
     fn settings(self) -> BitTimeConfiguration {
-        let ([brp, tseg1, tseg2, sjw], [dbrp, dtseg1, dtseg2, dsjw, tdco]) = (self.nominal, self.data);
+        let (n, d) = (self.nominal, self.data);
         BitTimeConfiguration {
-            nominal: NominalBitTime { brp, tseg1, tseg2, sjw },
-            data: DataBitTime { brp: dbrp, tseg1: dtseg1, tseg2: dtseg2, sjw: dsjw, tdco },
+            nominal: NominalBitTime { brp: n.brp, tseg1: n.tseg1, tseg2: n.tseg2, sjw: n.sjw },
+            data: DataBitTime { brp: d.brp, tseg1: d.tseg1, tseg2: d.tseg2, sjw: d.sjw, tdco: d.tdco },
         }
     }
 }
@@ -239,13 +279,27 @@ impl CFifo {
     }
 }
 
+impl CIdentifier {
+    fn identifier(self) -> Identifier {
+        Identifier { extended: self.extended != 0, id: self.id }
+    }
+}
+
 impl CFilter {
     fn settings(self, mode: FilterMode) -> FilterConfiguration {
-        FilterConfiguration {
-            fifo: fifo_number(self.fifo),
-            mode,
-            object: Identifier { extended: self.object.extended != 0, id: self.object.id },
-            mask: Identifier { extended: self.mask.extended != 0, id: self.mask.id },
+        FilterConfiguration { fifo: fifo_number(self.fifo), mode, object: self.object.identifier(), mask: self.mask.identifier() }
+    }
+
+    /// A mode that there is not is 24, behind what else is wrong with the call (20, 21).
+    fn configure(self, m: &mut Mcp<CLine>, filter: u8) -> Result<(), Refusal> {
+        match self.mode {
+            0 => m.configure_filter(filter, self.settings(FilterMode::Standard)),
+            1 => m.configure_filter(filter, self.settings(FilterMode::Extended)),
+            2 => m.configure_filter(filter, self.settings(FilterMode::Both)),
+            _ => match calls::outcome(calls::of_plan(calls::configure_filter(filter, self.settings(FilterMode::Both)))) {
+                calls::Outcome::Refused(r) => Err(r),
+                _ => Err(Refusal::BadSetting),
+            },
         }
     }
 }
@@ -263,7 +317,7 @@ fn register_address(a: u32) -> u16 {
     u16::try_from(a).unwrap_or(0xFFFF)
 }
 
-/// The bytes at a pointer; none where it is NULL and the length isn't 0, or where no slice is so long.
+/// The bytes at a pointer; none where it is NULL and the length isn't 0, or where no object is so long.
 unsafe fn bytes<'a>(p: *const u8, len: usize) -> Option<&'a [u8]> {
     match (p.is_null(), len) {
         (_, 0) => Some(&[]),
@@ -282,6 +336,7 @@ unsafe fn bytes_mut<'a>(p: *mut u8, len: usize) -> Option<&'a mut [u8]> {
     }
 }
 
+/// The driver over a copy of the line: what is at the pointer is not looked at again.
 unsafe fn mcp(line: *const CLine) -> Option<Mcp<CLine>> {
     let line = *line.as_ref()?;
     line.transfer?;
@@ -294,91 +349,81 @@ fn there<T>(p: *mut T) -> Option<()> {
     (!p.is_null()).then_some(())
 }
 
-/// The answer of a call; what it found goes to `out`.
-unsafe fn told<T, U>(r: Result<T, Refusal>, out: *mut U, as_c: impl FnOnce(T) -> U) -> c_int {
-    match r {
-        Ok(t) => {
-            out.write(as_c(t));
-            0
-        }
-        Err(r) => number(r) as c_int,
+/// The number of a call's answer; what a refusal carries goes to the line's `value`.
+unsafe fn told(line: &CLine, answer: Result<(), Refusal>) -> c_int {
+    let Err(r) = answer else { return 0 };
+    let carried = match r {
+        Refusal::InvalidRamAddress(address) => Some(address),
+        Refusal::InvalidReadLength(n) | Refusal::InvalidWriteLength(n) => Some(n as u32), // in range, so 2,048 at most
+        _ => None,
+    };
+    if let (Some(value), false) = (carried, line.value.is_null()) {
+        line.value.write(value);
     }
+    number(r) as c_int
 }
 
-fn ended(r: Result<(), Refusal>) -> c_int {
-    r.map_or_else(|r| number(r) as c_int, |()| 0)
-}
-
-/// `$name(values) = body`: an exported function, whose body answers None where a pointer is NULL that must not be.
+/// `$name($m, values) = body`: an exported function. `$m` is the driver over the line; the body ends in the call's answer, and in None (`?`)
+/// before it makes the call where a pointer is NULL that must not be.
 macro_rules! exported {
-    ($($name:ident($line:ident $(, $value:ident: $type:ty)*) = $body:expr;)*) => { $(
+    ($($name:ident($m:ident $(, $value:ident: $type:ty)*) = $body:expr;)*) => { $(
         #[no_mangle]
         pub unsafe extern "C" fn $name(line: *const CLine $(, $value: $type)*) -> c_int {
-            (|| { let mut $line = mcp(line)?; Some($body) })().unwrap_or(NULL)
+            (|| {
+                let mut $m = mcp(line)?;
+                let answer: Result<(), Refusal> = $body;
+                Some(told(&$m.line, answer))
+            })()
+            .unwrap_or(NULL)
         }
     )* };
 }
 
 exported! {
-    mcp_reset(m) = ended(m.reset());
+    mcp_reset(m) = m.reset();
     mcp_read_register(m, address: u32, word: *mut u32) = {
         there(word)?;
-        told(m.read_register(register_address(address)), word, |w| w)
+        m.read_register(register_address(address)).map(|w| word.write(w))
     };
-    mcp_write_register(m, address: u32, word: u32) = ended(m.write_register(register_address(address), word));
-    mcp_modify_register(m, address: u32, clear: u32, set: u32) = ended(m.modify_register(register_address(address), clear, set));
+    mcp_write_register(m, address: u32, word: u32) = m.write_register(register_address(address), word);
+    mcp_modify_register(m, address: u32, clear: u32, set: u32) = m.modify_register(register_address(address), clear, set);
     mcp_checked_read(m, address: u32, word: *mut u32) = {
         there(word)?;
-        told(m.checked_read(register_address(address)), word, |w| w)
+        m.checked_read(register_address(address)).map(|w| word.write(w))
     };
-    mcp_read_ram(m, address: u32, buf: *mut u8, len: usize) = ended(m.read_ram(address, bytes_mut(buf, len)?));
-    mcp_write_ram(m, address: u32, from: *const u8, len: usize) = ended(m.write_ram(address, bytes(from, len)?));
-    mcp_verify(m) = ended(m.verify());
-    mcp_verify_long(m) = ended(m.verify_long());
-    mcp_set_op_mode(m, mode: u32) = ended(m.set_op_mode(mode));
+    mcp_read_ram(m, address: u32, buf: *mut u8, len: usize) = m.read_ram(address, bytes_mut(buf, len)?);
+    mcp_write_ram(m, address: u32, from: *const u8, len: usize) = m.write_ram(address, bytes(from, len)?);
+    mcp_verify(m) = m.verify();
+    mcp_verify_long(m) = m.verify_long();
+    mcp_set_op_mode(m, mode: u32) = m.set_op_mode(mode);
     mcp_get_op_mode(m, mode: *mut u32) = {
         there(mode)?;
-        told(m.get_op_mode(), mode, |w| w)
+        m.get_op_mode().map(|w| mode.write(w))
     };
-    mcp_configure(m, settings: *const CSettings) = ended(m.configure(settings.as_ref()?.settings()));
-    mcp_configure_osc(m, oscillator: *const COscillator) = ended(m.configure_osc(oscillator.as_ref()?.settings()));
-    mcp_configure_io(m, io: *const CIo) = ended(m.configure_io(io.as_ref()?.settings()));
-    mcp_configure_bit_timing(m, bittime: *const CBittime) = ended(m.configure_bit_timing(bittime.as_ref()?.settings()));
-    mcp_configure_fifo(m, fifo: u32, settings: *const CFifo) = {
-        ended(m.configure_fifo(fifo_number(fifo), settings.as_ref()?.settings()))
-    };
-    mcp_configure_filter(m, filter: u32, settings: *const CFilter) = {
-        let settings = *settings.as_ref()?;
-        let filter = filter_number(filter);
-        match settings.mode {
-            0 => ended(m.configure_filter(filter, settings.settings(FilterMode::Standard))),
-            1 => ended(m.configure_filter(filter, settings.settings(FilterMode::Extended))),
-            2 => ended(m.configure_filter(filter, settings.settings(FilterMode::Both))),
-            // 20 and 21 come before 24
-            _ => match calls::outcome(calls::of_plan(calls::configure_filter(filter, settings.settings(FilterMode::Both)))) {
-                calls::Outcome::Refused(r) => number(r) as c_int,
-                _ => number(Refusal::BadSetting) as c_int,
-            },
-        }
-    };
-    mcp_disable_filter(m, filter: u32) = ended(m.disable_filter(filter_number(filter)));
+    mcp_configure(m, settings: *const CSettings) = m.configure(settings.as_ref()?.settings());
+    mcp_configure_osc(m, oscillator: *const COscillator) = m.configure_osc(oscillator.as_ref()?.settings());
+    mcp_configure_io(m, io: *const CIo) = m.configure_io(io.as_ref()?.settings());
+    mcp_configure_bit_timing(m, bittime: *const CBittime) = m.configure_bit_timing(bittime.as_ref()?.settings());
+    mcp_configure_fifo(m, fifo: u32, settings: *const CFifo) = m.configure_fifo(fifo_number(fifo), settings.as_ref()?.settings());
+    mcp_configure_filter(m, filter: u32, settings: *const CFilter) = settings.as_ref()?.configure(&mut m, filter_number(filter));
+    mcp_disable_filter(m, filter: u32) = m.disable_filter(filter_number(filter));
     mcp_push(m, fifo: u32, header: *const CHeader, seq: u32, payload: *const u8, len: usize) = {
-        ended(m.push(fifo_number(fifo), header.as_ref()?.header(), seq, bytes(payload, len)?))
+        m.push(fifo_number(fifo), header.as_ref()?.header(), seq, bytes(payload, len)?)
     };
-    mcp_request(m, fifo: u32) = ended(m.request(fifo_number(fifo)));
+    mcp_request(m, fifo: u32) = m.request(fifo_number(fifo));
     mcp_transmit(m, fifo: u32, header: *const CHeader, seq: u32, payload: *const u8, len: usize) = {
-        ended(m.transmit(fifo_number(fifo), header.as_ref()?.header(), seq, bytes(payload, len)?))
+        m.transmit(fifo_number(fifo), header.as_ref()?.header(), seq, bytes(payload, len)?)
     };
     mcp_has_next(m, fifo: u32, next: *mut u8) = {
         there(next)?;
-        told(m.has_next(fifo_number(fifo)), next, |n| n as u8)
+        m.has_next(fifo_number(fifo)).map(|n| next.write(n as u8))
     };
     mcp_peek(m, fifo: u32, buf: *mut u8, room: usize, message: *mut CMessage) = {
         there(message)?;
-        told(m.peek(fifo_number(fifo), bytes_mut(buf, room)?), message, CMessage::of)
+        m.peek(fifo_number(fifo), bytes_mut(buf, room)?).map(|r| message.write(CMessage::of(r)))
     };
     mcp_get(m, fifo: u32, buf: *mut u8, room: usize, message: *mut CMessage) = {
         there(message)?;
-        told(m.get(fifo_number(fifo), bytes_mut(buf, room)?), message, CMessage::of)
+        m.get(fifo_number(fifo), bytes_mut(buf, room)?).map(|r| message.write(CMessage::of(r)))
     };
 }

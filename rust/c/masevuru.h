@@ -1,8 +1,15 @@
 /* Masevuru: a proved driver for Microchip's CAN FD controller MCP2518FD, from C.
  *
- * A call runs to its end over the two functions of a line, and answers document 01's number of its refusal, 0 where it is done, or
- * MCP_NULL. Nothing is kept between calls: two lines may be used at once, one line by one call at a time. A structure that a call
- * writes is written only where it answers 0. */
+ * A call runs to its end over the two functions of a line. It answers 0 where it is done; document 01's number where it is refused; or
+ * MCP_NULL, which is none of these. A refused call has asked for no exchange after the one that it was refused at, and has changed no
+ * byte that was lent to it; what a call writes elsewhere (*word, *message and so on) is written only where it answers 0.
+ *
+ * What the caller keeps to:
+ * - A pointer is NULL or points to what its type says, as many as the length beside it, and aligned.
+ * - What a call writes to overlaps nothing else that it was given, and nobody else touches what a call was given until it has returned:
+ *   not the line's functions, no interrupt, no other task. What they share with others is at the line's context.
+ * - One call at a time on one chip, and none from inside a line's functions. Nothing is kept between calls, in the library or elsewhere:
+ *   calls on two chips may run at once. */
 #ifndef MASEVURU_H
 #define MASEVURU_H
 
@@ -15,65 +22,76 @@ extern "C" {
 
 enum {
     MCP_DONE = 0,
-    MCP_SPI_READ = 1,
-    MCP_SPI_WRITE = 2,
-    MCP_INVALID_RAM_ADDRESS = 3,
-    MCP_INVALID_READ_LENGTH = 4,
+    MCP_SPI_READ = 1,                    /* a read, or a register write, failed */
+    MCP_SPI_WRITE = 2,                   /* a RAM write or the reset failed */
+    MCP_INVALID_RAM_ADDRESS = 3,         /* an access does not lie in 0x400 to 0xBFF; carries the address */
+    MCP_INVALID_READ_LENGTH = 4,         /* in range, but no multiple of 4; carries the length */
     MCP_INVALID_WRITE_LENGTH = 5,
-    MCP_FIFO_NOT_TX = 6,
-    MCP_FIFO_TOO_SMALL = 7,
-    MCP_FIFO_FULL = 8,
-    MCP_FIFO_NOT_RX = 9,
-    MCP_CRC_MISMATCH = 10,
-    MCP_CONFIGURATION_MODE_TIMEOUT = 11,
-    MCP_CHANGE_OP_MODE_TIMEOUT = 12,
-    MCP_SPI_FAILED_RAM_ECHO = 13,
-    MCP_PLL_NOT_READY = 14,
-    MCP_BAD_NUMBER = 20,
-    MCP_BAD_IDENTIFIER = 21,
-    MCP_BAD_PAYLOAD = 22,
-    MCP_BAD_DLC = 23,
-    MCP_BAD_SETTING = 24,
-    MCP_BAD_USER_ADDRESS = 25,
-    MCP_WRONG_ANSWER = 26,
-    MCP_NO_LAYOUT = 27,
-    MCP_BUFFER_TOO_SMALL = 28,
-    /* Not of document 01: a pointer is NULL that must not be. Nothing was done. NULL with a length of 0 is an empty buffer. */
+    MCP_FIFO_NOT_TX = 6,                 /* push on a FIFO that receives */
+    MCP_FIFO_TOO_SMALL = 7,              /* the payload is longer than the FIFO's */
+    MCP_FIFO_FULL = 8,                   /* push on a full FIFO */
+    MCP_FIFO_NOT_RX = 9,                 /* has-next, peek or get on a FIFO that sends */
+    MCP_CRC_MISMATCH = 10,               /* three checked reads in a row mismatched */
+    MCP_CONFIGURATION_MODE_TIMEOUT = 11, /* mcp_configure: five polls without the mode; of the calls marked (11): a failed exchange */
+    MCP_CHANGE_OP_MODE_TIMEOUT = 12,     /* mcp_set_op_mode: five polls without the mode */
+    MCP_SPI_FAILED_RAM_ECHO = 13,        /* an echo differed */
+    MCP_PLL_NOT_READY = 14,              /* three polls without PLLRDY */
+    MCP_BAD_NUMBER = 20,                 /* FIFO not 1 to 31, filter not 0 to 31 */
+    MCP_BAD_IDENTIFIER = 21,             /* standard above 0x7FF, extended above 0x1FFFFFFF */
+    MCP_BAD_PAYLOAD = 22,                /* a length that no message has */
+    MCP_BAD_DLC = 23,                    /* a classic frame was received with a DLC above 8 */
+    MCP_BAD_SETTING = 24,                /* FIFO size 0, or a number wider than its field */
+    MCP_BAD_USER_ADDRESS = 25,           /* the chip's user address is above 0xFBFF */
+    MCP_WRONG_ANSWER = 26,               /* never answered here: the loop gives each answer as it was asked for */
+    MCP_NO_LAYOUT = 27,                  /* never answered here: see mcp_chip_no_layout */
+    MCP_BUFFER_TOO_SMALL = 28,           /* the buffer for a payload has fewer than 64 bytes */
+    /* A pointer is NULL that must not be, one of the line's functions too, or a length is above PTRDIFF_MAX, as no object has it. Nothing
+     * was done. This is told before any refusal. NULL with a length of 0 is an empty buffer. */
     MCP_NULL = -1
 };
 
-/* One exchange under one chip select: all of tx goes out, then rx_len bytes are clocked into rx. 0 where it went well; anything else
- * where it was not carried out. It must not longjmp or throw. */
+/* One exchange under one chip select: all of tx goes out, then rx_len bytes are clocked into rx. tx_len is 2 or more; where rx_len is 0
+ * nothing is clocked in and rx is not to be used. tx and rx are the call's own memory, and are gone when it has returned. 0 says that
+ * every byte went and came; anything else that nothing was carried out: what is promised of refused calls holds where that is so. It must
+ * not longjmp or throw. */
 typedef int (*mcp_transfer)(void *context, const uint8_t *tx, size_t tx_len, uint8_t *rx, size_t rx_len);
 
-/* Waits for at least so long. */
+/* Waits for at least so long: 500, where a mode or the PLL is polled. */
 typedef void (*mcp_wait)(void *context, uint32_t microseconds);
 
+/* value is NULL, or where a call that answers 3, 4 or 5 puts the address or the length that the refusal carries: of a push, a peek or a
+ * get, where in RAM the message would have been. No other answer changes it. */
 typedef struct {
     mcp_transfer transfer;
     mcp_wait wait;
     void *context;
+    uint32_t *value;
 } mcp_line;
 
-/* A flag is 0 or anything else. */
+/* A flag is 0 or anything else, here and below. A payload has 0 to 8 bytes, with fdf also 12, 16, 20, 24, 32, 48 or 64. */
 typedef struct {
     uint32_t id;
     uint8_t extended, rtr, brs, fdf, esi;
 } mcp_header;
 
-/* What peek and get found. found is 0 where the FIFO holds no message; time is that of a FIFO with timestamps (stamped); the payload
- * is the first len bytes of the buffer that was lent. */
+/* What peek and get found. found is 0, as everything else, where the FIFO holds no message; time is that of a FIFO with timestamps
+ * (stamped); the payload is the first len bytes of the buffer that was lent, whose other bytes stay. */
 typedef struct {
     mcp_header header;
     uint32_t time;
     uint8_t found, stamped, len;
 } mcp_message;
 
+/* divide: the system clock is half of the oscillator's or the PLL's. */
 typedef struct { uint8_t pll, divide; } mcp_oscillator;
 typedef struct { uint8_t xstbyen, txcanod, sof, intod; } mcp_io;
+
+/* Fields as CiNBTCFG and CiDBTCFG have them, one less than what they count; tdco: its seven bits, 127 is -1. */
 typedef struct { uint32_t brp, tseg1, tseg2, sjw; } mcp_nominal;
 typedef struct { uint32_t brp, tseg1, tseg2, sjw, tdco; } mcp_data;
 typedef struct { mcp_nominal nominal; mcp_data data; } mcp_bittime;
+
+/* counter: the time base counter; dncnt: DNCNT, 0 to leave it; canerrors to eccerror: interrupts beside those of transmit and receive. */
 typedef struct {
     mcp_oscillator oscillator;
     mcp_io io;
@@ -82,7 +100,8 @@ typedef struct {
     uint8_t counter, canerrors, spierror, eccerror;
 } mcp_settings;
 
-/* transmit: a FIFO that sends has the fields txpri to notfull, one that receives rxtsen to notempty. size: how many messages. */
+/* size: how many messages, 1 to 32 (above 32 is 32); plsize 0 to 7: of up to 8, 12, 16, 20, 24, 32, 48 or 64 bytes. A FIFO that sends
+ * (transmit) has txpri, txat and the fields rtren to tx_notfull, one that receives rxtsen to rx_notempty; the others are not looked at. */
 typedef struct {
     uint32_t size, plsize, txpri, txat;
     uint8_t transmit;
@@ -90,57 +109,134 @@ typedef struct {
     uint8_t rxtsen, rxovie, rx_full, rx_half, rx_notempty;
 } mcp_fifo;
 
+/* The frames that a filter takes. */
 enum { MCP_STANDARD = 0, MCP_EXTENDED = 1, MCP_BOTH = 2 };
 
+/* Frames that match object where mask has ones go to fifo. */
 typedef struct { uint32_t id; uint8_t extended; } mcp_identifier;
 typedef struct {
     uint32_t fifo, mode;
     mcp_identifier object, mask;
 } mcp_filter;
 
-int mcp_reset(const mcp_line *line);
-int mcp_read_register(const mcp_line *line, uint32_t address, uint32_t *word);
-int mcp_write_register(const mcp_line *line, uint32_t address, uint32_t word);
-int mcp_modify_register(const mcp_line *line, uint32_t address, uint32_t clear, uint32_t set);
-int mcp_checked_read(const mcp_line *line, uint32_t address, uint32_t *word);
-int mcp_read_ram(const mcp_line *line, uint32_t address, uint8_t *buf, size_t len);
-int mcp_write_ram(const mcp_line *line, uint32_t address, const uint8_t *bytes, size_t len);
-int mcp_verify(const mcp_line *line);
-int mcp_verify_long(const mcp_line *line);
-int mcp_set_op_mode(const mcp_line *line, uint32_t mode);
-int mcp_get_op_mode(const mcp_line *line, uint32_t *mode);
-int mcp_configure(const mcp_line *line, const mcp_settings *settings);
-int mcp_configure_osc(const mcp_line *line, const mcp_oscillator *oscillator);
-int mcp_configure_io(const mcp_line *line, const mcp_io *io);
-int mcp_configure_bit_timing(const mcp_line *line, const mcp_bittime *bittime);
-int mcp_configure_fifo(const mcp_line *line, uint32_t fifo, const mcp_fifo *settings);
-int mcp_configure_filter(const mcp_line *line, uint32_t filter, const mcp_filter *settings);
-int mcp_disable_filter(const mcp_line *line, uint32_t filter);
-int mcp_push(const mcp_line *line, uint32_t fifo, const mcp_header *header, uint32_t seq, const uint8_t *payload, size_t len);
-int mcp_request(const mcp_line *line, uint32_t fifo);
-int mcp_transmit(const mcp_line *line, uint32_t fifo, const mcp_header *header, uint32_t seq, const uint8_t *payload, size_t len);
-int mcp_has_next(const mcp_line *line, uint32_t fifo, uint8_t *next);
-int mcp_peek(const mcp_line *line, uint32_t fifo, uint8_t *buf, size_t room, mcp_message *message);
-int mcp_get(const mcp_line *line, uint32_t fifo, uint8_t *buf, size_t room, mcp_message *message);
+/* Behind each call: its refusals, beside 1 for a failed exchange (2 of a RAM write and the reset; 11 where (11) stands). */
 
-/* The modelled chip: in a library built with the feature chip. A chip is plain memory of the caller's, and has to be made by
- * mcp_chip_new before anything else is done with it. */
+int mcp_reset(const mcp_line *line);
+int mcp_read_register(const mcp_line *line, uint32_t address, uint32_t *word);                          /* 24 */
+int mcp_write_register(const mcp_line *line, uint32_t address, uint32_t word);                          /* 24 */
+/* The register with the bits of clear at 0, then those of set at 1. */
+int mcp_modify_register(const mcp_line *line, uint32_t address, uint32_t clear, uint32_t set);          /* 24 */
+/* The CRC is tested, in at most three tries. */
+int mcp_checked_read(const mcp_line *line, uint32_t address, uint32_t *word);                           /* 24; 10 */
+
+/* All of buf or bytes, or nothing; about 2 kB of the stack. A length of 0 in range is an exchange. */
+int mcp_read_ram(const mcp_line *line, uint32_t address, uint8_t *buf, size_t len);                     /* 3, 4 */
+int mcp_write_ram(const mcp_line *line, uint32_t address, const uint8_t *bytes, size_t len);            /* 3, 5 */
+
+/* Each bit by itself through the RAM's first word, 64 exchanges; 32 words through RAM at once, 2 exchanges. */
+int mcp_verify(const mcp_line *line);                                                                   /* (11) 13 */
+int mcp_verify_long(const mcp_line *line);                                                              /* (11) 13 */
+
+/* 0 CAN FD, 1 Sleep, 2 internal loopback, 3 listen only, 4 Configuration, 5 external loopback, 6 CAN 2.0, 7 restricted. */
+int mcp_set_op_mode(const mcp_line *line, uint32_t mode);                                               /* (11) 24; 12 */
+int mcp_get_op_mode(const mcp_line *line, uint32_t *mode);
+
+/* Takes the chip to Configuration, tries the RAM and sets up all but FIFOs and filters; transmit queue and event FIFO are turned off. */
+int mcp_configure(const mcp_line *line, const mcp_settings *settings);                                  /* (11) 24; 11, 13, 14 */
+int mcp_configure_osc(const mcp_line *line, const mcp_oscillator *oscillator);                          /* (11) 14 */
+int mcp_configure_io(const mcp_line *line, const mcp_io *io);                                           /* (11) */
+int mcp_configure_bit_timing(const mcp_line *line, const mcp_bittime *bittime);                         /* (11) 24 */
+/* Size, payload size, direction and rxtsen take effect only in Configuration. */
+int mcp_configure_fifo(const mcp_line *line, uint32_t fifo, const mcp_fifo *settings);                  /* 20, 24 */
+int mcp_configure_filter(const mcp_line *line, uint32_t filter, const mcp_filter *settings);            /* 20, 21, 24 */
+int mcp_disable_filter(const mcp_line *line, uint32_t filter);                                          /* 20 */
+
+/* 0 says that the message is in the chip; where it is refused, the FIFO holds what it held. seq has 23 bits. */
+int mcp_push(const mcp_line *line, uint32_t fifo, const mcp_header *header, uint32_t seq,
+             const uint8_t *payload, size_t len);                                                       /* 20, 21, 24, 22; 6, 7, 8, 25, 3 */
+/* What the FIFO holds is to be sent. */
+int mcp_request(const mcp_line *line, uint32_t fifo);                                                   /* 20 */
+/* Push, then request. 1 does not say whether the message was accepted before the request failed. */
+int mcp_transmit(const mcp_line *line, uint32_t fifo, const mcp_header *header, uint32_t seq,
+                 const uint8_t *payload, size_t len);                                                   /* as push */
+
+/* *next is 1 where the FIFO holds a message, else 0. */
+int mcp_has_next(const mcp_line *line, uint32_t fifo, uint8_t *next);                                   /* 20; 9 */
+/* The oldest message, which stays in the FIFO, or is taken from it. buf has 64 bytes, also for shorter messages. Where a get is refused the
+ * FIFO still holds the message. */
+int mcp_peek(const mcp_line *line, uint32_t fifo, uint8_t *buf, size_t room, mcp_message *message);     /* 20, 28; 9, 25, 3, 23 */
+int mcp_get(const mcp_line *line, uint32_t fifo, uint8_t *buf, size_t room, mcp_message *message);      /* as peek */
+
+/* The modelled chip, to test your own code against: in a library built with the feature chip. A chip is plain memory of the caller's, and
+ * has to be made by mcp_chip_new, as after a reset with RAM of zeros, before anything else is done with it. It may be copied. */
 typedef struct { uint32_t words[700]; } mcp_chip;
 
 int mcp_chip_new(mcp_chip *chip);
 
-/* The chip as a line: for the calls above, or to be called by a transfer of your own that makes some exchanges fail. */
+/* The chip as a line, the chip being the context; or to be called by a transfer of your own, which makes some exchanges fail or answers
+ * otherwise. 1: the chip does not know such an exchange, and nothing changed. */
 int mcp_chip_transfer(void *chip, const uint8_t *tx, size_t tx_len, uint8_t *rx, size_t rx_len);
 void mcp_chip_wait(void *chip, uint32_t microseconds);
 
-/* The chip sends from a FIFO: message->found is 1 where a frame went out, whose payload is then in buf. */
-int mcp_chip_send(mcp_chip *chip, uint32_t fifo, uint8_t *buf, size_t room, mcp_message *message, uint32_t *seq);
+/* A message in the chip or on the bus: all zeros but kind where that is not MCP_FRAME. seq is 0 in one received. */
+enum {
+    MCP_NOTHING = 0, /* nothing was sent, nothing is held there */
+    MCP_FRAME = 1,
+    MCP_NO_FRAME = 2 /* a message that no frame can be: a classic DLC above 8, or a payload beyond the slot */
+};
+typedef struct {
+    mcp_header header;
+    uint32_t seq, time;
+    uint8_t kind, stamped, len, payload[64];
+} mcp_frame;
 
-/* A frame arrives for a FIFO. *turned_down: 0 where it was delivered, else 1 Configuration, 2 not receiving, 3 too long, 4 full. */
-int mcp_chip_deliver(mcp_chip *chip, uint32_t fifo, const mcp_header *header, uint32_t time, const uint8_t *payload, size_t len,
-                     uint32_t *turned_down);
+/* The chip sends the oldest message of a FIFO, if sending is requested there. */
+int mcp_chip_send(mcp_chip *chip, uint32_t fifo, mcp_frame *frame);                                     /* 20 */
 
-int mcp_chip_held(const mcp_chip *chip, uint32_t fifo, uint32_t *count);
+/* A frame arrives for a FIFO. */
+enum { MCP_DELIVERED = 0, MCP_IN_CONFIGURATION = 1, MCP_NOT_RECEIVING = 2, MCP_TOO_LONG = 3, MCP_FULL = 4 };
+int mcp_chip_deliver(mcp_chip *chip, uint32_t fifo, const mcp_header *header, uint32_t time,
+                     const uint8_t *payload, size_t len, uint32_t *turned_down);                        /* 20, 21, 22 */
+
+/* How many messages a FIFO holds, and the one k places behind the oldest, decoded from the chip's RAM. */
+int mcp_chip_held(const mcp_chip *chip, uint32_t fifo, uint32_t *count);                                /* 20 */
+int mcp_chip_held_at(const mcp_chip *chip, uint32_t fifo, uint32_t k, mcp_frame *frame);                /* 20 */
+
+/* How often leaving Configuration was asked for and not granted (27), because the FIFOs do not fit into RAM or the transmit queue or event
+ * FIFO is on. Such a write is done on the line, so no call is told: mcp_set_op_mode polls in vain and answers 12. */
+int mcp_chip_no_layout(const mcp_chip *chip, uint32_t *count);
+
+/* The sizes and places that the library was built with; a compiler that lays structures out otherwise stops here. */
+#define MCP_AT(type, field, place) (offsetof(type, field) == (place))
+#define MCP_LAYOUT(type, size, places) typedef char type##_layout[sizeof(type) == (size) && (places) ? 1 : -1]
+MCP_LAYOUT(mcp_line, 4 * sizeof(void *), MCP_AT(mcp_line, transfer, 0) && MCP_AT(mcp_line, wait, sizeof(void *)) &&
+    MCP_AT(mcp_line, context, 2 * sizeof(void *)) && MCP_AT(mcp_line, value, 3 * sizeof(void *)));
+MCP_LAYOUT(mcp_header, 12, MCP_AT(mcp_header, id, 0) && MCP_AT(mcp_header, extended, 4) && MCP_AT(mcp_header, rtr, 5) &&
+    MCP_AT(mcp_header, brs, 6) && MCP_AT(mcp_header, fdf, 7) && MCP_AT(mcp_header, esi, 8));
+MCP_LAYOUT(mcp_message, 20, MCP_AT(mcp_message, header, 0) && MCP_AT(mcp_message, time, 12) && MCP_AT(mcp_message, found, 16) &&
+    MCP_AT(mcp_message, stamped, 17) && MCP_AT(mcp_message, len, 18));
+MCP_LAYOUT(mcp_oscillator, 2, MCP_AT(mcp_oscillator, pll, 0) && MCP_AT(mcp_oscillator, divide, 1));
+MCP_LAYOUT(mcp_io, 4, MCP_AT(mcp_io, xstbyen, 0) && MCP_AT(mcp_io, txcanod, 1) && MCP_AT(mcp_io, sof, 2) && MCP_AT(mcp_io, intod, 3));
+MCP_LAYOUT(mcp_nominal, 16, MCP_AT(mcp_nominal, brp, 0) && MCP_AT(mcp_nominal, tseg1, 4) && MCP_AT(mcp_nominal, tseg2, 8) &&
+    MCP_AT(mcp_nominal, sjw, 12));
+MCP_LAYOUT(mcp_data, 20, MCP_AT(mcp_data, brp, 0) && MCP_AT(mcp_data, tseg1, 4) && MCP_AT(mcp_data, tseg2, 8) &&
+    MCP_AT(mcp_data, sjw, 12) && MCP_AT(mcp_data, tdco, 16));
+MCP_LAYOUT(mcp_bittime, 36, MCP_AT(mcp_bittime, nominal, 0) && MCP_AT(mcp_bittime, data, 16));
+MCP_LAYOUT(mcp_settings, 52, MCP_AT(mcp_settings, oscillator, 0) && MCP_AT(mcp_settings, io, 2) && MCP_AT(mcp_settings, bittime, 8) &&
+    MCP_AT(mcp_settings, dncnt, 44) && MCP_AT(mcp_settings, counter, 48) && MCP_AT(mcp_settings, canerrors, 49) &&
+    MCP_AT(mcp_settings, spierror, 50) && MCP_AT(mcp_settings, eccerror, 51));
+MCP_LAYOUT(mcp_fifo, 28, MCP_AT(mcp_fifo, size, 0) && MCP_AT(mcp_fifo, plsize, 4) && MCP_AT(mcp_fifo, txpri, 8) &&
+    MCP_AT(mcp_fifo, txat, 12) && MCP_AT(mcp_fifo, transmit, 16) && MCP_AT(mcp_fifo, rtren, 17) && MCP_AT(mcp_fifo, txatie, 18) &&
+    MCP_AT(mcp_fifo, tx_empty, 19) && MCP_AT(mcp_fifo, tx_half, 20) && MCP_AT(mcp_fifo, tx_notfull, 21) && MCP_AT(mcp_fifo, rxtsen, 22) &&
+    MCP_AT(mcp_fifo, rxovie, 23) && MCP_AT(mcp_fifo, rx_full, 24) && MCP_AT(mcp_fifo, rx_half, 25) && MCP_AT(mcp_fifo, rx_notempty, 26));
+MCP_LAYOUT(mcp_identifier, 8, MCP_AT(mcp_identifier, id, 0) && MCP_AT(mcp_identifier, extended, 4));
+MCP_LAYOUT(mcp_filter, 24, MCP_AT(mcp_filter, fifo, 0) && MCP_AT(mcp_filter, mode, 4) && MCP_AT(mcp_filter, object, 8) &&
+    MCP_AT(mcp_filter, mask, 16));
+MCP_LAYOUT(mcp_chip, 2800, MCP_AT(mcp_chip, words, 0));
+MCP_LAYOUT(mcp_frame, 88, MCP_AT(mcp_frame, header, 0) && MCP_AT(mcp_frame, seq, 12) && MCP_AT(mcp_frame, time, 16) &&
+    MCP_AT(mcp_frame, kind, 20) && MCP_AT(mcp_frame, stamped, 21) && MCP_AT(mcp_frame, len, 22) && MCP_AT(mcp_frame, payload, 23));
+#undef MCP_LAYOUT
+#undef MCP_AT
 
 #ifdef __cplusplus
 }

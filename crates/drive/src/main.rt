@@ -2,6 +2,7 @@
 // has the script; what happened is written as a transcript.
 use output::write;
 use script::Entry;
+use spoken::Fault;
 use state::Model;
 
 // The number of the line that was read last, counted from 1; whether a call waits for its @ lines, and how many bytes its own line and
@@ -34,9 +35,10 @@ fn act(m: Model, entry: Entry, line: &[u8], numbers: &[u64], lent: &[u8]) -> Mod
     }
 }
 
-fn refused(p: Place) -> Place {
+fn refused(p: Place, fault: Fault, line: &[u8]) -> Place {
     output::error(p.number);
     write(b"\n");
+    faults::told(p.number, fault, line);
     p
 }
 
@@ -64,13 +66,16 @@ fn fits(notes: &[u8], len: usize, line: &[u8]) -> bool {
 }
 
 fn noted(p: Place, line: &[u8], notes: &mut [u8]) -> Place {
-    if p.open && fits(notes, p.notes, line) {
+    if !p.open {
+        return refused(p, Fault::Alone, line);
+    }
+    if fits(notes, p.notes, line) {
         let mut q = p;
         let a = lines::put(notes, p.notes, line);
         q.notes = lines::byte(notes, a, b'\n');
         return q;
     }
-    refused(p)
+    refused(p, Fault::Room, line)
 }
 
 fn after(p: Place, entry: Entry, line: &[u8], head: &mut [u8], notes: &mut [u8]) -> Place {
@@ -78,9 +83,9 @@ fn after(p: Place, entry: Entry, line: &[u8], head: &mut [u8], notes: &mut [u8])
         Entry::Blank => p,
         Entry::Call => opened(p, line, head),
         Entry::Note => noted(p, line, notes),
-        Entry::BadNote => refused(p),
+        Entry::BadNote(f) => refused(p, f, line),
         Entry::Step(_) => closed(p),
-        Entry::Bad => refused(closed(p)),
+        Entry::Bad(f) => refused(closed(p), f, line),
     }
 }
 

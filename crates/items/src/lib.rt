@@ -1,5 +1,6 @@
 // What a line of a transcript is by itself.
-use text::Number;
+use spoken::Fault;
+use spoken::Line;
 
 pub enum Item {
     Blank,
@@ -15,77 +16,54 @@ pub enum Item {
     // Lines that are cases by themselves.
     Field,
     Crc,
-    Bad,
+    Bad(Fault),
 }
 
-fn is_bytes(w: &[u8]) -> bool {
-    let mut scratch = [0u8; 4200];
-    match text::bytes(w, &mut scratch) {
-        Number::Is(_) => true,
-        Number::Bad => false,
+// A line by a table of rows; its bytes go to `lent`.
+fn row_of(line: &[u8], table: &[u8], lent: &mut [u8]) -> Line {
+    let mut numbers = [0u64; 24];
+    spoken::row_of(line, table, &mut numbers, lent)
+}
+
+// The bytes go to `rx`.
+fn got(line: &[u8], rx: &mut [u8]) -> Item {
+    match row_of(line, b"< b", rx) {
+        Line::Row(s) => Item::Got(s.count),
+        Line::Bad(f) => Item::Bad(f),
     }
-}
-
-fn is_decimal(w: &[u8]) -> bool {
-    match text::decimal(w) {
-        Number::Is(_) => true,
-        Number::Bad => false,
-    }
-}
-
-fn when(good: bool, item: Item) -> Item {
-    if good { item } else { Item::Bad }
-}
-
-fn sent(line: &[u8]) -> Item {
-    let words = text::count(line) == 3;
-    when(
-        words && is_bytes(text::word(line, 1)) && is_decimal(text::word(line, 2)),
-        Item::Sent,
-    )
-}
-
-fn wait(line: &[u8]) -> Item {
-    when(
-        text::count(line) == 2 && is_decimal(text::word(line, 1)),
-        Item::Wait,
-    )
 }
 
 fn result(line: &[u8]) -> Item {
     let mut numbers = [0u64; 24];
     let mut scratch = [0u8; 4200];
-    when(
-        spoken::is_result(line, &mut numbers, &mut scratch),
-        Item::Result,
-    )
+    match spoken::result(line, &mut numbers, &mut scratch) {
+        Line::Row(_) => Item::Result,
+        Line::Bad(f) => Item::Bad(f),
+    }
 }
 
-// The bytes go to `rx`.
-fn got(line: &[u8], rx: &mut [u8]) -> Item {
-    if text::count(line) == 2 {
-        if let Number::Is(n) = text::bytes(text::word(line, 1), rx) {
-            return Item::Got(n as usize);
-        }
+fn by_row(row: usize) -> Item {
+    match row {
+        0 => Item::Sent,
+        1 => Item::Failed,
+        _ => Item::Wait,
     }
-    Item::Bad
+}
+
+fn other(line: &[u8]) -> Item {
+    let mut scratch = [0u8; 4200];
+    match row_of(line, b"> bd ! - wait d", &mut scratch) {
+        Line::Row(s) => by_row(s.row),
+        Line::Bad(f) => Item::Bad(f),
+    }
 }
 
 fn by_name(line: &[u8], rx: &mut [u8]) -> Item {
-    if text::is(line, 0, b">") {
-        return sent(line);
-    }
     if text::is(line, 0, b"<") {
         return got(line, rx);
     }
-    if text::is(line, 0, b"!") {
-        return when(line.len() == 1, Item::Failed);
-    }
     if text::is(line, 0, b"=") {
         return result(line);
-    }
-    if text::is(line, 0, b"wait") {
-        return wait(line);
     }
     if text::is(line, 0, b"field") {
         return Item::Field;
@@ -93,7 +71,7 @@ fn by_name(line: &[u8], rx: &mut [u8]) -> Item {
     if text::is(line, 0, b"crc") {
         return Item::Crc;
     }
-    Item::Bad
+    other(line)
 }
 
 // A line that is too long is a call that is not understood, or nothing.
@@ -105,7 +83,7 @@ pub fn item_of(line: &[u8], long: bool, rx: &mut [u8]) -> Item {
         return Item::Call;
     }
     if long {
-        return Item::Bad;
+        return Item::Bad(Fault::Long);
     }
     by_name(line, rx)
 }

@@ -1,6 +1,7 @@
 // What is made of a transcript's lines: where its reader stands, which cases agree, and what is written of the others.
 use classes::Seen;
 use items::Item;
+use spoken::Fault;
 use spoken::Line;
 use text::Number;
 
@@ -44,18 +45,19 @@ fn single(s: State, item: Item, line: &[u8], note: &mut [u8], counts: &mut [u64]
             let t = held(s, line, text::front(&out, n as usize), note);
             state::count_single(t, singles::class(item, line), note, counts);
         }
-        Number::Bad => state::count_bad(s, counts),
+        Number::Bad => state::count_bad(s, line, counts),
     }
 }
 
 // What a call's line says.
 pub fn hear(item: Item, line: &[u8], long: bool, numbers: &mut [u64], lent: &mut [u8]) -> Line {
-    if let Item::Call = item {
-        if !long {
-            return spoken::understood(line, numbers, lent);
-        }
+    if long {
+        return Line::Bad(Fault::Long);
     }
-    Line::Bad
+    if let Item::Call = item {
+        return spoken::understood(line, numbers, lent);
+    }
+    Line::Bad(Fault::Name)
 }
 
 pub fn seen_after(
@@ -100,5 +102,5 @@ pub fn settled(
 
 // After a line, `heard` being what a call's line says.
 pub fn after(s: State, item: Item, heard: Line, seen: Seen, line: &[u8]) -> State {
-    classed(state::after(s, item, heard), seen, item, line)
+    classed(state::after(s, item, heard, line), seen, item, line)
 }

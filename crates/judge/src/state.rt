@@ -4,6 +4,7 @@ use output::error;
 use output::number;
 use output::one_more;
 use output::write;
+use spoken::Fault;
 use spoken::Line;
 
 // No case is open.
@@ -163,8 +164,9 @@ pub fn closed(s: State, item: Item, note: &[u8], counts: &mut [u64]) -> State {
     t
 }
 
-fn lost(s: State) -> State {
+fn lost(s: State, fault: Fault, line: &[u8]) -> State {
     error(s.number);
+    faults::told(s.number, fault, line);
     let mut t = s;
     if s.phase != IDLE {
         t.phase = LOST;
@@ -172,7 +174,7 @@ fn lost(s: State) -> State {
     t
 }
 
-fn begun(s: State, heard: Line) -> State {
+fn begun(s: State, heard: Line, line: &[u8]) -> State {
     let mut t = s;
     t.start = s.number;
     t.phase = TURN;
@@ -183,7 +185,7 @@ fn begun(s: State, heard: Line) -> State {
             t.lent = spoken.count;
             t
         }
-        Line::Bad => lost(t),
+        Line::Bad(f) => lost(t, f, line),
     }
 }
 
@@ -203,12 +205,12 @@ fn phase_after(item: Item) -> u8 {
 }
 
 // After a line, `heard` being what a call's line says.
-pub fn after(s: State, item: Item, heard: Line) -> State {
+pub fn after(s: State, item: Item, heard: Line, line: &[u8]) -> State {
     if let Item::Call = item {
-        return begun(s, heard);
+        return begun(s, heard, line);
     }
-    if let Item::Bad = item {
-        return lost(s);
+    if let Item::Bad(f) = item {
+        return lost(s, f, line);
     }
     if is_end(item) || s.phase == LOST {
         return s;
@@ -221,7 +223,7 @@ pub fn after(s: State, item: Item, heard: Line) -> State {
         }
         return t;
     }
-    lost(s)
+    lost(s, Fault::Place, line)
 }
 
 pub fn is_lost(s: State) -> bool {
@@ -243,8 +245,9 @@ pub fn count_single(s: State, class: u8, note: &[u8], counts: &mut [u64]) {
 }
 
 // Such a line that is not understood.
-pub fn count_bad(s: State, counts: &mut [u64]) {
+pub fn count_bad(s: State, line: &[u8], counts: &mut [u64]) {
     error(s.number);
+    faults::told(s.number, Fault::Count, line);
     counted(counts, DIFFER);
 }
 

@@ -17,7 +17,7 @@ pub fn cut(v: u32, most: u32) -> u32
 }
 
 // In place of a count: none.
-pub const NONE: usize = 0xFFFF_FFFF_FFFF_FFFF;
+pub const NONE: usize = 0xFFFF_FFFF;
 
 fn one_more(n: usize) -> usize {
     if n < NONE { n + 1 } else { NONE }

@@ -1,4 +1,5 @@
 // Lines of standard input, of any number and any length.
+use libc::STDERR_FILENO;
 use libc::STDIN_FILENO;
 
 // What stands in the line's buffer: a line, the front of a line that is longer than the buffer, or nothing: the input has ended.
@@ -74,10 +75,31 @@ fn longer(line: &mut [u8], len: usize, b: u8) -> usize {
     len
 }
 
+// The line's length without a carriage return at its end. Of a line that fills its buffer the end is not there.
+fn without_return(line: &[u8], len: usize) -> usize {
+    if len == 0 {
+        return 0;
+    }
+    if line.len() <= len {
+        return len;
+    }
+    if byte_at(line, len - 1) == b'\r' {
+        return len - 1;
+    }
+    len
+}
+
 // Which bytes of a piece are left.
 struct Place {
     at: usize,
     have: usize,
+}
+
+// A read that fails ends the input, and is told.
+fn told(got: isize) {
+    if got < 0 {
+        io::write_all(STDERR_FILENO, b"standard input can not be read\n");
+    }
 }
 
 // Where the next byte stands; the next piece is read where none is left, and at the input's end there is none.
@@ -86,6 +108,7 @@ fn fetched(at: usize, have: usize, piece: &mut [u8]) -> Place {
         return Place { at: at, have: have };
     }
     let got = libc::read(STDIN_FILENO, piece);
+    told(got);
     Place {
         at: 0,
         have: io::count(got, piece),
@@ -128,8 +151,8 @@ fn last(line: &[u8], len: usize) -> Reader {
     ended(line, 0, 0, len)
 }
 
-// The next line, without the spaces at its ends and with single spaces between its words. No input has so many bytes that the
-// turns run out.
+// The next line, without the spaces at its ends and with single spaces between its words, and without a carriage return before its
+// newline. No input has so many bytes that the turns run out.
 pub fn next_line(r: Reader, piece: &mut [u8], line: &mut [u8]) -> Reader {
     let mut at = r.at;
     let mut have = r.have;
@@ -146,7 +169,7 @@ pub fn next_line(r: Reader, piece: &mut [u8], line: &mut [u8]) -> Reader {
         let b = byte_at(piece, at);
         at += 1;
         if b == b'\n' {
-            return ended(line, at, have, len);
+            return ended(line, at, have, without_return(line, len));
         }
         len = longer(line, len, b);
     }

@@ -117,7 +117,7 @@ fn call_of(line: &[u8]) -> Call {
     let mut lent = [0u8; 64];
     match spoken::understood(line, &mut numbers, &mut lent) {
         Line::Row(s) => starts::start(s.row, &numbers, text::front(&lent, s.count)),
-        Line::Bad => driver::of_register(register::reset_start()),
+        Line::Bad(_) => driver::of_register(register::reset_start()),
     }
 }
 

@@ -1,4 +1,5 @@
 // What a line of a script is.
+use spoken::Fault;
 use spoken::Line;
 use spoken::Spoken;
 use text::Number;
@@ -10,10 +11,10 @@ pub enum Entry {
     Call,
     // An @ line, understood or not: neither ends the call above it.
     Note,
-    BadNote,
+    BadNote(Fault),
     // A bus step, or what else stands between calls.
     Step(Spoken),
-    Bad,
+    Bad(Fault),
 }
 
 // Rows of the lines between calls, and of @ lines behind their first word: bus steps are the same in both.
@@ -51,18 +52,18 @@ pub fn note_of(line: &[u8], numbers: &mut [u64], lent: &mut [u8]) -> Line {
 
 fn note(line: &[u8], numbers: &mut [u64], lent: &mut [u8]) -> Entry {
     let Number::Is(_) = exchange_of(line) else {
-        return Entry::BadNote;
+        return Entry::BadNote(Fault::Exchange);
     };
     match note_of(line, numbers, lent) {
         Line::Row(_) => Entry::Note,
-        Line::Bad => Entry::BadNote,
+        Line::Bad(f) => Entry::BadNote(f),
     }
 }
 
 fn call(line: &[u8], numbers: &mut [u64], lent: &mut [u8]) -> Entry {
     match spoken::understood(line, numbers, lent) {
         Line::Row(_) => Entry::Call,
-        Line::Bad => Entry::Bad,
+        Line::Bad(f) => Entry::Bad(f),
     }
 }
 
@@ -70,7 +71,7 @@ fn step(line: &[u8], numbers: &mut [u64], lent: &mut [u8]) -> Entry {
     let table = b"send d deliver difhb raw bd held d new -";
     match spoken::row_of(line, table, numbers, lent) {
         Line::Row(s) => Entry::Step(s),
-        Line::Bad => Entry::Bad,
+        Line::Bad(f) => Entry::Bad(f),
     }
 }
 
@@ -78,8 +79,8 @@ fn step(line: &[u8], numbers: &mut [u64], lent: &mut [u8]) -> Entry {
 fn long_entry(first: u8) -> Entry {
     match first {
         b'#' => Entry::Blank,
-        b'@' => Entry::BadNote,
-        _ => Entry::Bad,
+        b'@' => Entry::BadNote(Fault::Long),
+        _ => Entry::Bad(Fault::Long),
     }
 }
 
@@ -109,7 +110,7 @@ pub fn ends(entry: Entry) -> bool {
     match entry {
         Entry::Blank => false,
         Entry::Note => false,
-        Entry::BadNote => false,
+        Entry::BadNote(_) => false,
         _ => true,
     }
 }

@@ -9,9 +9,33 @@ pub struct Spoken {
     pub count: usize,
 }
 
+// Why a line is not understood.
+pub enum Fault {
+    // No row has its name.
+    Name,
+    // The rows of its name have other numbers of words.
+    Count,
+    // The word so many behind the name is not what a row's letter stands for.
+    Word(usize, u8),
+    // It is longer than the buffer for lines.
+    Long,
+    // Of an @ line: what is behind the @ is no number; no call that is understood stands above it; the call has too many.
+    Exchange,
+    Alone,
+    Room,
+    // Of a transcript's line: it answers or ends no call, or comes where the call did something else.
+    Place,
+}
+
 pub enum Line {
     Row(Spoken),
-    Bad,
+    Bad(Fault),
+}
+
+// A row's last number, or why the row is not the line's.
+enum Tried {
+    Is(u64),
+    Bad(Fault),
 }
 
 fn put_at(numbers: &mut [u64], at: usize, n: u64) {
@@ -69,38 +93,51 @@ fn size_of(shape: &[u8]) -> usize
     shape.len()
 }
 
-// The arguments of a line as a row has them: how many bytes the last has, or Bad where the line has others.
-fn arguments(line: &[u8], shape: &[u8], numbers: &mut [u64], lent: &mut [u8]) -> Number {
+// The arguments of a line as a row has them: how many bytes the last has, or what is wrong with them.
+fn arguments(line: &[u8], shape: &[u8], numbers: &mut [u64], lent: &mut [u8]) -> Tried {
     let n = size_of(shape);
     let words = text::count(line);
     if words < 1 {
-        return Number::Bad;
+        return Tried::Bad(Fault::Count);
     }
     if words - 1 != n {
-        return Number::Bad;
+        return Tried::Bad(Fault::Count);
     }
     let mut last: u64 = 0;
     let mut i = 0;
     while i < n {
-        let Number::Is(v) = argument(shape[i], text::word(line, i + 1), lent) else {
-            return Number::Bad;
+        let letter = shape[i];
+        let Number::Is(v) = argument(letter, text::word(line, i + 1), lent) else {
+            return Tried::Bad(Fault::Word(i + 1, letter));
         };
         put_at(numbers, i, v);
         last = v;
         i += 1;
     }
-    Number::Is(last)
+    Tried::Is(last)
 }
 
 // Whether a row is the line's.
-fn try_row(line: &[u8], table: &[u8], row: usize, numbers: &mut [u64], lent: &mut [u8]) -> Number {
+fn try_row(line: &[u8], table: &[u8], row: usize, numbers: &mut [u64], lent: &mut [u8]) -> Tried {
     if 100 <= row {
-        return Number::Bad;
+        return Tried::Bad(Fault::Name);
     }
     if text::is(line, 0, text::word(table, 2 * row)) {
         return arguments(line, text::word(table, 2 * row + 1), numbers, lent);
     }
-    Number::Bad
+    Tried::Bad(Fault::Name)
+}
+
+// Of two rows' faults the one that says more.
+fn nearer(a: Fault, b: Fault) -> Fault {
+    match b {
+        Fault::Name => a,
+        Fault::Count => match a {
+            Fault::Name => b,
+            _ => a,
+        },
+        _ => b,
+    }
 }
 
 // The first row of a table that is the line's. A row is a name, the line's first word, and a letter for each word that follows it: d
@@ -108,17 +145,21 @@ fn try_row(line: &[u8], table: &[u8], row: usize, numbers: &mut [u64], lent: &mu
 // off; - is no word.
 pub fn row_of(line: &[u8], table: &[u8], numbers: &mut [u64], lent: &mut [u8]) -> Line {
     let n = text::count(table) / 2;
+    let mut fault = Fault::Name;
     let mut row = 0;
     while row < n {
-        if let Number::Is(last) = try_row(line, table, row, numbers, lent) {
-            return Line::Row(Spoken {
-                row: row,
-                count: last as usize,
-            });
+        match try_row(line, table, row, numbers, lent) {
+            Tried::Is(last) => {
+                return Line::Row(Spoken {
+                    row: row,
+                    count: last as usize,
+                });
+            }
+            Tried::Bad(f) => fault = nearer(fault, f),
         }
         row += 1;
     }
-    Line::Bad
+    Line::Bad(fault)
 }
 
 // A call's line, `call NAME ARGS...`.
@@ -129,11 +170,8 @@ pub fn understood(line: &[u8], numbers: &mut [u64], lent: &mut [u8]) -> Line {
 }
 
 // A result's line, `= RESULT`. What it says goes to the buffers.
-pub fn is_result(line: &[u8], numbers: &mut [u64], lent: &mut [u8]) -> bool {
+pub fn result(line: &[u8], numbers: &mut [u64], lent: &mut [u8]) -> Line {
     let table =
         b"ok - none - yes - no - panic - refused d refused dh refused dd word h mode d bytes b message khfsb";
-    match row_of(text::rest(line, 1), table, numbers, lent) {
-        Line::Row(_) => true,
-        Line::Bad => false,
-    }
+    row_of(text::rest(line, 1), table, numbers, lent)
 }

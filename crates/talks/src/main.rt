@@ -1,9 +1,11 @@
 // Runs calls against answers that are written down, and writes the transcript of it. Standard input has for each call its line and
 // then, one a line, what it is answered: `< BYTES`, `!`, `wait 500`. What the program writes is compared with a transcript that was
-// worked out from the scope document apart from the code.
+// worked out from the scope document apart from the code. A line that is not understood is written as `error LINE`; the answers to a
+// call that is not understood go to no call.
 use items::Item;
 use output::write_line;
 use port::Step;
+use spoken::Fault;
 use spoken::Line;
 
 // What the call does now. A wait is not written here: its line comes with the answers.
@@ -29,19 +31,92 @@ fn got_of(item: Item) -> usize {
     }
 }
 
-// How many bytes the line of the call under way has, and one more than it reads from RAM.
-struct Sizes {
+// The number of the line that was read last, counted from 1; whether the last call's line was understood; how many bytes it has, and
+// one more than the call reads from RAM.
+struct Place {
+    number: u64,
+    open: bool,
     sent: usize,
     read: usize,
 }
 
-fn sizes_after(s: Sizes, heard: Line, numbers: &[u64]) -> Sizes {
+fn begin() -> Place {
+    Place {
+        number: 0,
+        open: false,
+        sent: 0,
+        read: 0,
+    }
+}
+
+fn called(p: Place, heard: Line, numbers: &[u64]) -> Place {
+    let mut q = p;
     match heard {
-        Line::Row(spoken) => Sizes {
-            sent: spoken.count,
-            read: classes::read_of(classes::called(spoken.row, numbers)),
-        },
-        Line::Bad => s,
+        Line::Row(spoken) => {
+            q.open = true;
+            q.sent = spoken.count;
+            q.read = classes::read_of(classes::called(spoken.row, numbers));
+        }
+        Line::Bad(_) => q.open = false,
+    }
+    q
+}
+
+fn next(p: Place, item: Item, heard: Line, numbers: &[u64]) -> Place {
+    let mut q = p;
+    q.number = output::one_more(p.number);
+    match item {
+        Item::Call => called(q, heard, numbers),
+        _ => q,
+    }
+}
+
+// What is wrong with a line, if anything is.
+enum Verdict {
+    Good,
+    Bad(Fault),
+}
+
+fn call_judged(heard: Line) -> Verdict {
+    match heard {
+        Line::Row(_) => Verdict::Good,
+        Line::Bad(f) => Verdict::Bad(f),
+    }
+}
+
+fn answer_judged(open: bool) -> Verdict {
+    if open {
+        return Verdict::Good;
+    }
+    Verdict::Bad(Fault::Alone)
+}
+
+fn judged(open: bool, item: Item, heard: Line) -> Verdict {
+    match item {
+        Item::Blank => Verdict::Good,
+        Item::Call => call_judged(heard),
+        Item::Got(_) => answer_judged(open),
+        Item::Failed => answer_judged(open),
+        Item::Wait => answer_judged(open),
+        Item::Bad(f) => Verdict::Bad(f),
+        _ => Verdict::Bad(Fault::Place),
+    }
+}
+
+fn step_of(j: Verdict, item: Item, heard: Line) -> Step {
+    match j {
+        Verdict::Good => port::step_of(item, heard),
+        Verdict::Bad(_) => Step::Stay,
+    }
+}
+
+fn told(p: Place, j: Verdict, line: &[u8]) {
+    match j {
+        Verdict::Good => write_line(line),
+        Verdict::Bad(f) => {
+            output::error(p.number);
+            faults::told(p.number, f, line);
+        }
     }
 }
 
@@ -55,7 +130,7 @@ fn run(
     numbers: &mut [u64; 24],
 ) {
     let mut r = reading::begin();
-    let mut s = Sizes { sent: 0, read: 0 };
+    let mut p = begin();
     let mut call = driver::of_register(register::reset_start());
     let mut turns = u64::MAX;
     loop {
@@ -64,15 +139,17 @@ fn run(
         if reading::is_end(kind) {
             return;
         }
+        let long = reading::is_long(kind);
         let line = text::front(buf, r.len);
-        let item = items::item_of(line, false, rx);
-        let heard = judge::hear(item, line, false, numbers, lent);
+        let item = items::item_of(line, long, rx);
+        let heard = judge::hear(item, line, long, numbers, lent);
         let got = got_of(item);
-        let step = port::step_of(item, heard);
-        s = sizes_after(s, heard, numbers);
-        call = port::moved(call, step, numbers, lent, s.sent, rx, got);
-        let n = port::line(call, is_step(step), s.read, lent, s.sent, rx, got, out);
-        write_line(line);
+        p = next(p, item, heard, numbers);
+        let j = judged(p.open, item, heard);
+        let step = step_of(j, item, heard);
+        call = port::moved(call, step, numbers, lent, p.sent, rx, got);
+        let n = port::line(call, is_step(step), p.read, lent, p.sent, rx, got, out);
+        told(p, j, line);
         show(text::front(out, n));
         if turns < 1 {
             return;

@@ -15,6 +15,7 @@ abbrev μ-loop : tie.MeasureT-loop
 pub next-line-spec : {M : Type 1} → statement M
 next-line-spec =
     tie.close
-    (tie.spec Inv-loop μ-loop (search needs) (search needs) (λ c κs. search needs) (λ c κs. search needs) (search needs) (search needs) (search needs)
-    (λ c κs. search needs) (search needs) (λ c κs. search needs) (search needs) (search needs) (search needs) (λ c κs. search needs) (search needs)
-    (search needs) (λ c κs. search needs) (search needs) (search needs) (search needs))
+    (tie.spec Inv-loop μ-loop (search needs) (search needs) (λ c κs. search needs) (λ c κs. search needs) (search needs) (search needs)
+    (search needs) (λ c κs. search needs) (search needs) (λ c κs. search needs) (λ c κs. search needs) (search needs) (search needs)
+    (search needs) (λ c κs. search needs) (search needs) (search needs) (λ c κs. search needs) (search needs) (search needs)
+    (search needs))

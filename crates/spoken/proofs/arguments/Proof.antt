@@ -16,6 +16,6 @@ abbrev μ-loop : tie.MeasureT-loop
 pub arguments-spec : {M : Type 1} → statement M
 arguments-spec =
     tie.close
-    (tie.spec Inv-loop μ-loop (λ c κs. search needs) (λ c κs. search needs) (search needs) (search needs) (search needs) (search needs) (search needs)
-    (λ c κs. search needs) (λ c κs. search needs) (search needs) (search needs) (search needs) (search needs) (search needs) (λ c κs. search needs)
-    (search needs) (search needs) (search needs) (search needs) (search needs) (search needs))
+    (tie.spec Inv-loop μ-loop (λ c κs. search needs) (λ c κs. search needs) (search needs) (search needs) (search needs) (search needs)
+    (search needs) (λ c κs. search needs) (λ c κs. search needs) (search needs) (search needs) (search needs) (search needs) (search needs)
+    (search needs) (λ c κs. search needs) (search needs) (search needs) (search needs) (search needs) (search needs) (search needs))

@@ -1,0 +1,539 @@
+/* calls: what the header promises, call by call, on the modelled chip: exchanges that fail one after the other, NULLs, numbers too wide,
+ * what refusals carry, and that each field of each structure is where the library looks for it. What is expected was written down
+ * from document 01 and the data sheet's bits. Says how many things were looked at, or which line found another. */
+#include "masevuru.h"
+#include <stdio.h>
+#include <stdlib.h>
+#include <string.h>
+
+static unsigned long looked;
+#define IS(what) ((what) ? (void)looked++ : (printf("calls.c:%d: not so: %s\n", __LINE__, #what), exit(1)))
+
+/* The line: the chip, of which one exchange may fail, or be answered by another word. */
+static mcp_chip chip;
+static unsigned exchanges, fail_at, twist_at;
+static uint32_t twist;
+
+static int transfer(void *context, const uint8_t *tx, size_t tx_len, uint8_t *rx, size_t rx_len)
+{
+    exchanges++;
+    if (exchanges == fail_at)
+        return 1;
+    int r = mcp_chip_transfer(context, tx, tx_len, rx, rx_len);
+    if (exchanges == twist_at)
+        for (size_t i = 0; i < 4; i++)
+            rx[i] = (uint8_t)(twist >> 8 * i);
+    return r;
+}
+
+/* All that the calls below write to. */
+static struct {
+    uint8_t buf[72];
+    mcp_message message;
+    mcp_frame frame;
+    uint32_t word, value;
+    uint8_t next;
+} out, before;
+
+static const mcp_line line = { .transfer = transfer, .wait = mcp_chip_wait, .context = &chip, .value = &out.value };
+static const mcp_settings plain = { .bittime = { .nominal = { 0, 62, 15, 15 }, .data = { 0, 14, 3, 3, 0 } } };
+static const mcp_settings all = { .oscillator = { .pll = 1 }, .dncnt = 1, .counter = 1 };
+static const mcp_header header = { .id = 0x123 };
+static const mcp_filter filter = { .fifo = 2, .mode = MCP_STANDARD, .object = { 0x100, 0 }, .mask = { 0x700, 0 } };
+static const mcp_fifo sender = { .size = 4, .transmit = 1 };
+static const uint8_t bytes[72] = { 1, 2, 3, 4, 5, 6, 7, 8 };
+
+static void fresh(void)
+{
+    memset(&out, 0x5A, sizeof out);
+    memset(&before, 0x5A, sizeof before);
+    exchanges = fail_at = twist_at = 0;
+}
+
+static int untouched(void) { return !memcmp(&out, &before, sizeof out); }
+
+/* A chip outside Configuration: FIFO 1 sends; FIFO 2, with timestamps, and FIFO 3 receive, and hold a message each. */
+static void prepare(void)
+{
+    const mcp_fifo stamped = { .size = 2, .plsize = 7, .rxtsen = 1 }, receiver = { .size = 2 };
+    uint32_t turned_down;
+    IS(mcp_chip_new(&chip) == 0);
+    IS(mcp_configure(&line, &plain) == 0);
+    IS(mcp_configure_fifo(&line, 1, &sender) == 0);
+    IS(mcp_configure_fifo(&line, 2, &stamped) == 0);
+    IS(mcp_configure_fifo(&line, 3, &receiver) == 0);
+    IS(mcp_set_op_mode(&line, 0) == 0);
+    IS(mcp_chip_deliver(&chip, 2, &header, 0xA1B2C3D4, bytes, 5, &turned_down) == 0 && turned_down == MCP_DELIVERED);
+    IS(mcp_chip_deliver(&chip, 3, &header, 0xA1B2C3D4, bytes, 5, &turned_down) == 0 && turned_down == MCP_DELIVERED);
+    fresh();
+}
+
+static uint32_t held(uint32_t fifo)
+{
+    uint32_t count;
+    IS(mcp_chip_held(&chip, fifo, &count) == 0);
+    return count;
+}
+
+static uint32_t reg(uint32_t address)
+{
+    uint32_t word;
+    IS(mcp_read_register(&line, address, &word) == 0);
+    return word;
+}
+
+/* Each exchange of each call fails once. */
+
+#define CALL(name, does) static int name(const mcp_line *l) { return does; }
+CALL(a_reset, mcp_reset(l))
+CALL(a_read, mcp_read_register(l, 0x000, &out.word))
+CALL(a_write, mcp_write_register(l, 0x004, 7))
+CALL(a_modify, mcp_modify_register(l, 0x004, 1, 2))
+CALL(a_checked, mcp_checked_read(l, 0xE00, &out.word))
+CALL(a_read_ram, mcp_read_ram(l, 0x400, out.buf, 72))
+CALL(a_write_ram, mcp_write_ram(l, 0x800, bytes, 72))
+CALL(a_verify, mcp_verify(l))
+CALL(a_verify_long, mcp_verify_long(l))
+CALL(a_mode, mcp_set_op_mode(l, 4))
+CALL(a_get_mode, mcp_get_op_mode(l, &out.word))
+CALL(a_configure, mcp_configure(l, &plain))
+CALL(a_configure_all, mcp_configure(l, &all))
+CALL(a_osc, mcp_configure_osc(l, &plain.oscillator))
+CALL(a_pll, mcp_configure_osc(l, &all.oscillator))
+CALL(a_io, mcp_configure_io(l, &plain.io))
+CALL(a_timing, mcp_configure_bit_timing(l, &plain.bittime))
+CALL(a_fifo, mcp_configure_fifo(l, 1, &sender))
+CALL(a_filter, mcp_configure_filter(l, 0, &filter))
+CALL(a_disable, mcp_disable_filter(l, 0))
+CALL(a_push, mcp_push(l, 1, &header, 5, bytes, 8))
+CALL(a_request, mcp_request(l, 1))
+CALL(a_transmit, mcp_transmit(l, 1, &header, 5, bytes, 8))
+CALL(a_next, mcp_has_next(l, 2, &out.next))
+CALL(a_peek_2, mcp_peek(l, 2, out.buf, 72, &out.message))
+CALL(a_peek_3, mcp_peek(l, 3, out.buf, 72, &out.message))
+CALL(a_get_2, mcp_get(l, 2, out.buf, 72, &out.message))
+CALL(a_get_3, mcp_get(l, 3, out.buf, 72, &out.message))
+
+/* Document 01: 1 where a read or a register write failed; 2 where a RAM write or the reset failed; 11 in place of both in any
+ * configuration, mode or echo call but configure_fifo and configure_filter (get_op_mode is a register read). The exchanges are those of
+ * "Exchange by exchange"; a change is two, a read and a write. The chip takes a mode at once and shows PLLRDY with PLLEN: one poll.
+ * configure: mode 2, poll 1, echo 64, OSC 2, PLL's poll 1 if on, IOCON 2, bit timing 6, STEF 2, TXQEN 2, TSCON 2 if the counter is on,
+ * DNCNT 2 if not 0, RTXAT 2, CiINT 2. FIFO `fifo` holds `then` messages where an exchange up to `last` failed, `after` where a later one
+ * or none did. */
+static const struct {
+    int (*call)(const mcp_line *);
+    struct { unsigned times; int answer; } parts[3];
+    unsigned fifo, last, then, after;
+} rows[] = {
+    { a_reset, { { 1, 2 } }, 0, 0, 0, 0 },
+    { a_read, { { 1, 1 } }, 0, 0, 0, 0 },
+    { a_write, { { 1, 1 } }, 0, 0, 0, 0 },
+    { a_modify, { { 2, 1 } }, 0, 0, 0, 0 },
+    { a_checked, { { 1, 1 } }, 0, 0, 0, 0 },
+    { a_read_ram, { { 1, 1 } }, 0, 0, 0, 0 },
+    { a_write_ram, { { 1, 2 } }, 0, 0, 0, 0 },
+    { a_verify, { { 64, 11 } }, 0, 0, 0, 0 },
+    { a_verify_long, { { 2, 11 } }, 0, 0, 0, 0 },
+    { a_mode, { { 3, 11 } }, 0, 0, 0, 0 },
+    { a_get_mode, { { 1, 1 } }, 0, 0, 0, 0 },
+    { a_configure, { { 85, 11 } }, 0, 0, 0, 0 },
+    { a_configure_all, { { 90, 11 } }, 0, 0, 0, 0 },
+    { a_osc, { { 2, 11 } }, 0, 0, 0, 0 },
+    { a_pll, { { 3, 11 } }, 0, 0, 0, 0 },
+    { a_io, { { 2, 11 } }, 0, 0, 0, 0 },
+    { a_timing, { { 6, 11 } }, 0, 0, 0, 0 },
+    { a_fifo, { { 2, 1 } }, 0, 0, 0, 0 },
+    { a_filter, { { 8, 1 } }, 0, 0, 0, 0 },
+    { a_disable, { { 2, 1 } }, 0, 0, 0, 0 },
+    { a_push, { { 3, 1 }, { 1, 2 }, { 1, 1 } }, 1, 5, 0, 1 },
+    { a_request, { { 2, 1 } }, 1, 0, 0, 0 },
+    { a_transmit, { { 3, 1 }, { 1, 2 }, { 3, 1 } }, 1, 5, 0, 1 },
+    { a_next, { { 2, 1 } }, 2, 0, 1, 1 },
+    { a_peek_2, { { 7, 1 } }, 2, 0, 1, 1 },
+    { a_peek_3, { { 6, 1 } }, 3, 0, 1, 1 },
+    { a_get_2, { { 9, 1 } }, 2, 9, 1, 0 },
+    { a_get_3, { { 8, 1 } }, 3, 8, 1, 0 },
+};
+
+static void failing(void)
+{
+    for (size_t i = 0; i < sizeof rows / sizeof *rows; i++) {
+        unsigned k = 0;
+        for (size_t p = 0; p < 3; p++)
+            for (unsigned t = 0; t < rows[i].parts[p].times; t++) {
+                prepare();
+                fail_at = ++k;
+                IS(rows[i].call(&line) == rows[i].parts[p].answer);
+                IS(exchanges == k);
+                IS(untouched());
+                if (rows[i].fifo)
+                    IS(held(rows[i].fifo) == (k <= rows[i].last ? rows[i].then : rows[i].after));
+            }
+        prepare();
+        IS(rows[i].call(&line) == 0);
+        IS(exchanges == k);
+        if (rows[i].fifo)
+            IS(held(rows[i].fifo) == rows[i].after);
+    }
+}
+
+/* The chip as its registers of FIFO 1 to 3 and its RAM show it. */
+typedef struct { uint8_t registers[36], ram[2048]; } view;
+
+static view looked_at(void)
+{
+    uint8_t read[2] = { 0x30, 0x5C };
+    view v;
+    for (size_t i = 0; i < sizeof v.registers; i += 4, read[1] += 4)
+        IS(mcp_chip_transfer(&chip, read, 2, v.registers + i, 4) == 0);
+    read[0] = 0x34, read[1] = 0x00;
+    IS(mcp_chip_transfer(&chip, read, 2, v.ram, 2048) == 0);
+    return v;
+}
+
+static int is_same(view a)
+{
+    view b = looked_at();
+    return !memcmp(&a, &b, sizeof a);
+}
+
+/* NULLs: nothing is done. */
+#define NOTHING_DONE(call) (fresh(), kept = looked_at(), IS((call) == MCP_NULL), IS(!exchanges && untouched() && is_same(kept)))
+
+static void nulls(void)
+{
+    const mcp_line no_transfer = { .wait = mcp_chip_wait, .context = &chip }, no_wait = { .transfer = transfer, .context = &chip };
+    const mcp_line *bad[] = { NULL, &no_transfer, &no_wait };
+    view kept;
+    const size_t too_long = (size_t)-1;
+    prepare();
+    for (size_t i = 0; i < sizeof rows / sizeof *rows; i++)
+        for (size_t k = 0; k < 3; k++)
+            NOTHING_DONE(rows[i].call(bad[k]));
+    NOTHING_DONE(mcp_read_register(&line, 0, NULL));
+    NOTHING_DONE(mcp_checked_read(&line, 0, NULL));
+    NOTHING_DONE(mcp_read_ram(&line, 0x400, NULL, 4));
+    NOTHING_DONE(mcp_read_ram(&line, 0x400, NULL, too_long));
+    NOTHING_DONE(mcp_read_ram(&line, 0x400, out.buf, too_long));
+    NOTHING_DONE(mcp_write_ram(&line, 0x400, NULL, 4));
+    NOTHING_DONE(mcp_write_ram(&line, 0x400, bytes, too_long));
+    NOTHING_DONE(mcp_get_op_mode(&line, NULL));
+    NOTHING_DONE(mcp_configure(&line, NULL));
+    NOTHING_DONE(mcp_configure_osc(&line, NULL));
+    NOTHING_DONE(mcp_configure_io(&line, NULL));
+    NOTHING_DONE(mcp_configure_bit_timing(&line, NULL));
+    NOTHING_DONE(mcp_configure_fifo(&line, 1, NULL));
+    NOTHING_DONE(mcp_configure_filter(&line, 0, NULL));
+    NOTHING_DONE(mcp_push(&line, 1, NULL, 5, bytes, 8));
+    NOTHING_DONE(mcp_push(&line, 1, &header, 5, NULL, 8));
+    NOTHING_DONE(mcp_push(&line, 1, &header, 5, bytes, too_long));
+    NOTHING_DONE(mcp_push(&line, 257, &header, 5, NULL, 8)); /* before 20 */
+    NOTHING_DONE(mcp_transmit(&line, 1, NULL, 5, bytes, 8));
+    NOTHING_DONE(mcp_transmit(&line, 1, &header, 5, NULL, 8));
+    NOTHING_DONE(mcp_transmit(&line, 1, &header, 5, bytes, too_long));
+    NOTHING_DONE(mcp_has_next(&line, 2, NULL));
+    NOTHING_DONE(mcp_peek(&line, 2, NULL, 64, &out.message));
+    NOTHING_DONE(mcp_peek(&line, 2, out.buf, too_long, &out.message));
+    NOTHING_DONE(mcp_peek(&line, 2, out.buf, 72, NULL));
+    NOTHING_DONE(mcp_get(&line, 2, NULL, 64, &out.message));
+    NOTHING_DONE(mcp_get(&line, 2, out.buf, too_long, &out.message));
+    NOTHING_DONE(mcp_get(&line, 2, out.buf, 72, NULL));
+    NOTHING_DONE(mcp_chip_new(NULL));
+    NOTHING_DONE(mcp_chip_transfer(NULL, bytes, 2, out.buf, 4));
+    NOTHING_DONE(mcp_chip_transfer(&chip, NULL, 2, out.buf, 4));
+    NOTHING_DONE(mcp_chip_transfer(&chip, bytes, too_long, out.buf, 4));
+    NOTHING_DONE(mcp_chip_transfer(&chip, bytes, 2, NULL, 4));
+    NOTHING_DONE(mcp_chip_transfer(&chip, bytes, 2, out.buf, too_long));
+    NOTHING_DONE(mcp_chip_send(NULL, 1, &out.frame));
+    NOTHING_DONE(mcp_chip_send(&chip, 1, NULL));
+    NOTHING_DONE(mcp_chip_deliver(NULL, 3, &header, 0, bytes, 8, &out.word));
+    NOTHING_DONE(mcp_chip_deliver(&chip, 3, NULL, 0, bytes, 8, &out.word));
+    NOTHING_DONE(mcp_chip_deliver(&chip, 3, &header, 0, NULL, 8, &out.word));
+    NOTHING_DONE(mcp_chip_deliver(&chip, 3, &header, 0, bytes, too_long, &out.word));
+    NOTHING_DONE(mcp_chip_deliver(&chip, 3, &header, 0, bytes, 8, NULL));
+    NOTHING_DONE(mcp_chip_held(NULL, 1, &out.word));
+    NOTHING_DONE(mcp_chip_held(&chip, 1, NULL));
+    NOTHING_DONE(mcp_chip_held_at(NULL, 2, 0, &out.frame));
+    NOTHING_DONE(mcp_chip_held_at(&chip, 2, 0, NULL));
+    NOTHING_DONE(mcp_chip_no_layout(NULL, &out.word));
+    NOTHING_DONE(mcp_chip_no_layout(&chip, NULL));
+    /* NULL with a length of 0 is an empty buffer: a RAM access of length 0 is an exchange; 64 bytes are asked of a payload's buffer. */
+    fresh();
+    IS(mcp_read_ram(&line, 0x400, NULL, 0) == 0 && exchanges == 1);
+    IS(mcp_write_ram(&line, 0x400, NULL, 0) == 0 && exchanges == 2);
+    IS(mcp_push(&line, 1, &header, 5, NULL, 0) == 0 && held(1) == 1 && exchanges == 7);
+    IS(mcp_peek(&line, 2, NULL, 0, &out.message) == 28 && mcp_get(&line, 2, NULL, 0, &out.message) == 28 && exchanges == 7);
+    IS(mcp_chip_transfer(&chip, NULL, 0, NULL, 0) == 1);
+    IS(untouched());
+    IS(mcp_chip_deliver(&chip, 3, &header, 0, NULL, 0, &out.word) == 0 && out.word == MCP_DELIVERED && held(3) == 2);
+}
+
+/* Numbers that are refused before any exchange, and what refusals carry. */
+static void numbers(void)
+{
+    static const uint32_t no_fifo[] = { 0, 32, 255, 256, 257, 0x10001, 0xFFFFFFFF }, no_filter[] = { 32, 255, 256, 257, 0xFFFFFFFF };
+    static const uint32_t no_address[] = { 0x1000, 0xFFFF, 0x10000, 0x105C, 0xFFFFFFFF };
+    mcp_header far = { .id = 0x800 };
+    mcp_filter f = filter;
+    prepare();
+    for (size_t i = 0; i < sizeof no_fifo / sizeof *no_fifo; i++) {
+        uint32_t n = no_fifo[i];
+        IS(mcp_configure_fifo(&line, n, &sender) == 20);
+        IS(mcp_push(&line, n, &header, 5, bytes, 8) == 20 && mcp_transmit(&line, n, &header, 5, bytes, 8) == 20);
+        IS(mcp_request(&line, n) == 20 && mcp_has_next(&line, n, &out.next) == 20);
+        IS(mcp_peek(&line, n, out.buf, 72, &out.message) == 20 && mcp_get(&line, n, out.buf, 72, &out.message) == 20);
+        IS(mcp_peek(&line, n, out.buf, 63, &out.message) == 20 && mcp_get(&line, n, out.buf, 63, &out.message) == 20);
+        IS(mcp_chip_send(&chip, n, &out.frame) == 20 && mcp_chip_held(&chip, n, &out.word) == 20);
+        IS(mcp_chip_held_at(&chip, n, 0, &out.frame) == 20);
+        IS(mcp_chip_deliver(&chip, n, &header, 0, bytes, 8, &out.word) == 20);
+        f.fifo = n;
+        IS(mcp_configure_filter(&line, 0, &f) == 20);
+    }
+    f = filter;
+    for (size_t i = 0; i < sizeof no_filter / sizeof *no_filter; i++)
+        IS(mcp_configure_filter(&line, no_filter[i], &filter) == 20 && mcp_disable_filter(&line, no_filter[i]) == 20);
+    for (size_t i = 0; i < sizeof no_address / sizeof *no_address; i++) {
+        uint32_t a = no_address[i];
+        IS(mcp_read_register(&line, a, &out.word) == 24 && mcp_checked_read(&line, a, &out.word) == 24);
+        IS(mcp_write_register(&line, a, 0) == 24 && mcp_modify_register(&line, a, 0, 0) == 24);
+    }
+    f.mode = 3; /* 20, 21, 24 in this order */
+    IS(mcp_configure_filter(&line, 0, &f) == 24);
+    f.mask.id = 0x800;
+    IS(mcp_configure_filter(&line, 0, &f) == 21 && mcp_configure_filter(&line, 32, &f) == 20);
+    IS(mcp_set_op_mode(&line, 8) == 24 && mcp_set_op_mode(&line, 0xFFFFFFFF) == 24);
+    IS(mcp_push(&line, 1, &far, 0x800000, bytes, 9) == 21);
+    IS(mcp_push(&line, 1, &header, 0x800000, bytes, 9) == 24);
+    IS(mcp_push(&line, 1, &header, 0x7FFFFF, bytes, 9) == 22);
+    IS(mcp_peek(&line, 2, out.buf, 63, &out.message) == 28 && mcp_get(&line, 2, out.buf, 63, &out.message) == 28);
+    IS(exchanges == 0 && untouched());
+
+    IS(mcp_read_ram(&line, 0x3FF, out.buf, 3) == 3 && out.value == 0x3FF);
+    IS(mcp_read_ram(&line, 0xBFC, out.buf, 8) == 3 && out.value == 0xBFC);
+    IS(mcp_read_ram(&line, 0xFFFFFFFC, out.buf, 8) == 3 && out.value == 0xFFFFFFFC);
+    IS(mcp_read_ram(&line, 0x400, out.buf, 6) == 4 && out.value == 6);
+    IS(mcp_write_ram(&line, 0xC00, bytes, 4) == 3 && out.value == 0xC00);
+    IS(mcp_write_ram(&line, 0x404, bytes, 2) == 5 && out.value == 2);
+    IS(exchanges == 0);
+    out.value = before.value;
+    IS(untouched());
+    /* Of a push and a peek: the user address (exchange 3) is 0x400 below the address that is told. */
+    twist_at = 3, twist = 0x7F8;
+    IS(mcp_push(&line, 1, &header, 5, bytes, 8) == 3 && out.value == 0xBF8 && exchanges == 3);
+    exchanges = 0, twist = 0x7FC;
+    IS(mcp_peek(&line, 3, out.buf, 72, &out.message) == 3 && out.value == 0xBFC && exchanges == 3);
+    exchanges = 0, twist = 0x7F8; /* the header lies in RAM, what follows does not */
+    IS(mcp_get(&line, 2, out.buf, 72, &out.message) == 3 && out.value == 0xC00 && exchanges == 5);
+    exchanges = 0, twist = 0xFC00;
+    out.value = before.value;
+    IS(mcp_push(&line, 1, &header, 5, bytes, 8) == 25 && exchanges == 3);
+    exchanges = 0, twist_at = 0;
+    IS(mcp_push(&line, 2, &header, 5, bytes, 8) == 6 && mcp_get(&line, 1, out.buf, 72, &out.message) == 9);
+    IS(untouched());
+    /* Nobody needs to be told. */
+    const mcp_line untold = { .transfer = transfer, .wait = mcp_chip_wait, .context = &chip };
+    IS(mcp_read_ram(&untold, 0x3FF, out.buf, 3) == 3 && untouched());
+}
+
+/* Each field by itself, and the bits that it stands in. */
+static void fifo_fields(void)
+{
+    static const struct { mcp_fifo settings; uint32_t control; } fields[] = {
+        /* After a reset TXAT is 3 and FRESET 1. One that sends sets TXAT; one that receives leaves it. */
+        { { .transmit = 1, .size = 1 }, 0x00000480 },
+        { { .transmit = 1, .size = 32 }, 0x1F000480 },
+        { { .transmit = 255, .size = 1, .plsize = 7 }, 0xE0000480 },
+        { { .transmit = 1, .size = 1, .txpri = 31 }, 0x001F0480 },
+        { { .transmit = 1, .size = 1, .txat = 3 }, 0x00600480 },
+        { { .transmit = 1, .size = 1, .rtren = 2 }, 0x000004C0 },
+        { { .transmit = 1, .size = 1, .txatie = 1 }, 0x00000490 },
+        { { .transmit = 1, .size = 1, .tx_empty = 1 }, 0x00000484 },
+        { { .transmit = 1, .size = 1, .tx_half = 1 }, 0x00000482 },
+        { { .transmit = 1, .size = 1, .tx_notfull = 1 }, 0x00000481 },
+        { { .transmit = 1, .size = 1, .rxtsen = 1, .rxovie = 1, .rx_full = 1, .rx_half = 1, .rx_notempty = 1 }, 0x00000480 },
+        { { .size = 1 }, 0x00600400 },
+        { { .size = 1, .rxtsen = 1 }, 0x00600420 },
+        { { .size = 1, .rxovie = 128 }, 0x00600408 },
+        { { .size = 1, .rx_full = 1 }, 0x00600404 },
+        { { .size = 1, .rx_half = 1 }, 0x00600402 },
+        { { .size = 1, .rx_notempty = 1 }, 0x00600401 },
+        { { .size = 1, .txpri = 99, .txat = 99, .rtren = 1, .txatie = 1, .tx_empty = 1, .tx_half = 1, .tx_notfull = 1 }, 0x00600400 },
+    };
+    for (size_t i = 0; i < sizeof fields / sizeof *fields; i++) {
+        IS(mcp_chip_new(&chip) == 0 && mcp_configure_fifo(&line, 31, &fields[i].settings) == 0);
+        IS(reg(0x1C4) == fields[i].control);
+    }
+}
+
+static void settings_fields(void)
+{
+    static const struct { mcp_settings settings; uint32_t address, word; } fields[] = {
+        { { .dncnt = 0 }, 0xE00, 0x00000460 }, /* OSC as after a reset */
+        { { .oscillator.pll = 1 }, 0xE00, 0x00000561 }, /* PLLRDY follows PLLEN */
+        { { .oscillator.divide = 1 }, 0xE00, 0x00000470 },
+        { { .dncnt = 0 }, 0xE04, 0x03000003 }, /* IOCON as after a reset */
+        { { .io.xstbyen = 1 }, 0xE04, 0x03000043 },
+        { { .io.txcanod = 1 }, 0xE04, 0x13000003 },
+        { { .io.sof = 1 }, 0xE04, 0x23000003 },
+        { { .io.intod = 1 }, 0xE04, 0x43000003 },
+        { { .bittime.nominal.brp = 255 }, 0x004, 0xFF000000 },
+        { { .bittime.nominal.tseg1 = 255 }, 0x004, 0x00FF0000 },
+        { { .bittime.nominal.tseg2 = 127 }, 0x004, 0x00007F00 },
+        { { .bittime.nominal.sjw = 127 }, 0x004, 0x0000007F },
+        { { .bittime.data.brp = 255 }, 0x008, 0xFF000000 },
+        { { .bittime.data.tseg1 = 31 }, 0x008, 0x001F0000 },
+        { { .bittime.data.tseg2 = 15 }, 0x008, 0x00000F00 },
+        { { .bittime.data.sjw = 15 }, 0x008, 0x0000000F },
+        { { .bittime.data.tdco = 127 }, 0x00C, 0x00027F00 }, /* TDCMOD 2 */
+        { { .dncnt = 0 }, 0x000, 0x04810760 }, /* CiCON: Configuration, TXQEN and STEF 0, RTXAT 1 */
+        { { .dncnt = 18 }, 0x000, 0x04810772 },
+        { { .dncnt = 0 }, 0x014, 0x00000000 },
+        { { .counter = 1 }, 0x014, 0x00010000 },
+        { { .dncnt = 0 }, 0x01C, 0x00030000 }, /* CiINT: RXIE, TXIE */
+        { { .counter = 1 }, 0x01C, 0x00070000 },
+        { { .canerrors = 1 }, 0x01C, 0xB0030000 },
+        { { .spierror = 1 }, 0x01C, 0x02030000 },
+        { { .eccerror = 1 }, 0x01C, 0x01030000 },
+    };
+    for (size_t i = 0; i < sizeof fields / sizeof *fields; i++) {
+        IS(mcp_chip_new(&chip) == 0 && mcp_configure(&line, &fields[i].settings) == 0);
+        IS(reg(fields[i].address) == fields[i].word);
+    }
+    /* The calls for one part go by the same structures. */
+    mcp_settings s = plain;
+    IS(mcp_chip_new(&chip) == 0);
+    s.oscillator.divide = s.io.sof = 1;
+    IS(mcp_configure_osc(&line, &s.oscillator) == 0 && reg(0xE00) == 0x00000470);
+    IS(mcp_configure_io(&line, &s.io) == 0 && reg(0xE04) == 0x23000003);
+    IS(mcp_configure_bit_timing(&line, &s.bittime) == 0 && reg(0x004) == 0x003E0F0F && reg(0x008) == 0x000E0303 && reg(0x00C) == 0x00020000);
+    s.bittime.data.tdco = 128;
+    IS(mcp_configure(&line, &s) == 24);
+}
+
+/* Filter 5 is byte 1 of control 1, at 0x1D4; its object is at 0x218, its mask 4 above. */
+static void filter_fields(void)
+{
+    static const struct { mcp_filter settings; uint32_t control, object, mask; } fields[] = {
+        { { 31, MCP_STANDARD, { 0x7FF, 0 }, { 0x123, 0 } }, 0x00009F00, 0x000007FF, 0x40000123 },
+        { { 1, MCP_EXTENDED, { 0x18DA00F1, 1 }, { 0x123, 0 } }, 0x00008100, 0x50078E36, 0x40000123 },
+        { { 1, MCP_BOTH, { 0x123, 0 }, { 0x18DA00F1, 7 } }, 0x00008100, 0x00000123, 0x10078E36 },
+    };
+    for (size_t i = 0; i < sizeof fields / sizeof *fields; i++) {
+        IS(mcp_chip_new(&chip) == 0 && mcp_configure_filter(&line, 5, &fields[i].settings) == 0);
+        IS(reg(0x1D4) == fields[i].control && reg(0x218) == fields[i].object && reg(0x21C) == fields[i].mask);
+        IS(mcp_disable_filter(&line, 5) == 0 && reg(0x1D4) == (fields[i].control & 0x1F00));
+    }
+}
+
+/* A header's fields as the first two words of an object, sent and received. */
+static void header_fields(void)
+{
+    static const struct { mcp_header header; uint32_t seq; size_t len; uint32_t words[2]; } fields[] = {
+        { { .id = 0x123 }, 5, 3, { 0x00000123, 0x00000A03 } },
+        { { .id = 0x18DA00F1, .extended = 9 }, 0, 0, { 0x10078E36, 0x00000010 } },
+        { { .id = 0x7FF, .rtr = 1 }, 0, 8, { 0x000007FF, 0x00000028 } },
+        { { .brs = 1 }, 0, 1, { 0, 0x00000041 } },
+        { { .fdf = 1 }, 0, 64, { 0, 0x0000008F } },
+        { { .esi = 1 }, 0x7FFFFF, 0, { 0, 0xFFFFFF00 } },
+    };
+    for (size_t i = 0; i < sizeof fields / sizeof *fields; i++) {
+        const mcp_fifo wide = { .size = 1, .plsize = 7, .transmit = 1 }, stamped = { .size = 1, .plsize = 7, .rxtsen = 1 };
+        const mcp_header *h = &fields[i].header;
+        size_t len = fields[i].len;
+        uint8_t object[72];
+        mcp_header is; /* flags come back as 0 or 1 */
+        memset(&is, 0, sizeof is);
+        is.id = h->id, is.extended = h->extended != 0, is.rtr = h->rtr, is.brs = h->brs, is.fdf = h->fdf, is.esi = h->esi;
+#define SAME(h) ((h).id == is.id && (h).extended == is.extended && (h).rtr == is.rtr && (h).brs == is.brs && (h).fdf == is.fdf && \
+                 (h).esi == is.esi)
+        IS(mcp_chip_new(&chip) == 0 && mcp_configure(&line, &plain) == 0);
+        IS(mcp_configure_fifo(&line, 1, &wide) == 0 && mcp_configure_fifo(&line, 2, &stamped) == 0 && mcp_set_op_mode(&line, 0) == 0);
+        fresh();
+        IS(mcp_transmit(&line, 1, h, fields[i].seq, bytes, len) == 0);
+        IS(mcp_read_ram(&line, 0x400, object, 72) == 0);
+        for (size_t b = 0; b < 8; b++)
+            IS(object[b] == (uint8_t)(fields[i].words[b / 4] >> 8 * (b % 4)));
+        IS(!memcmp(object + 8, bytes, len));
+        IS(mcp_chip_held_at(&chip, 1, 0, &out.frame) == 0);
+        IS(out.frame.kind == MCP_FRAME && SAME(out.frame.header) && out.frame.seq == fields[i].seq && out.frame.len == len);
+        IS(!out.frame.stamped && !out.frame.time && !memcmp(out.frame.payload, bytes, len));
+        memset(&out.frame, 0x5A, sizeof out.frame);
+        IS(mcp_chip_send(&chip, 1, &out.frame) == 0);
+        IS(out.frame.kind == MCP_FRAME && SAME(out.frame.header) && out.frame.seq == fields[i].seq && out.frame.len == len);
+        IS(!out.frame.stamped && !out.frame.time && !memcmp(out.frame.payload, bytes, len));
+        IS(mcp_chip_send(&chip, 1, &out.frame) == 0 && out.frame.kind == MCP_NOTHING && out.frame.len == 0);
+
+        IS(mcp_chip_deliver(&chip, 2, h, 0xA1B2C3D4, bytes, len, &out.word) == 0 && out.word == MCP_DELIVERED);
+        IS(mcp_chip_held_at(&chip, 2, 0, &out.frame) == 0);
+        IS(out.frame.kind == MCP_FRAME && SAME(out.frame.header) && out.frame.seq == 0 && out.frame.len == len);
+        IS(out.frame.stamped == 1 && out.frame.time == 0xA1B2C3D4 && !memcmp(out.frame.payload, bytes, len));
+        IS(mcp_has_next(&line, 2, &out.next) == 0 && out.next == 1);
+        for (int get = 0; get < 2; get++) {
+            fresh();
+            IS((get ? mcp_get : mcp_peek)(&line, 2, out.buf, 72, &out.message) == 0);
+            IS(out.message.found == 1 && SAME(out.message.header) && out.message.len == len);
+            IS(out.message.stamped == 1 && out.message.time == 0xA1B2C3D4 && !memcmp(out.buf, bytes, len));
+            for (size_t b = len; b < 72; b++)
+                IS(out.buf[b] == 0x5A);
+        }
+        /* Empty: values with 0. */
+        fresh();
+        IS(mcp_has_next(&line, 2, &out.next) == 0 && out.next == 0);
+        for (int get = 0; get < 2; get++) {
+            memset(&out.message, 0x5A, sizeof out.message);
+            IS((get ? mcp_get : mcp_peek)(&line, 2, out.buf, 72, &out.message) == 0);
+            IS(!out.message.found && !out.message.len && !out.message.stamped && !out.message.time && !out.message.header.id);
+            IS(!memcmp(out.buf, before.buf, 72));
+        }
+        IS(mcp_chip_held_at(&chip, 2, 0, &out.frame) == 0 && out.frame.kind == MCP_NOTHING);
+    }
+}
+
+/* What only the chip tells. */
+static void the_chip(void)
+{
+    const mcp_fifo deep = { .size = 22, .plsize = 7, .transmit = 1 };
+    const mcp_header fd = { .id = 1, .fdf = 1 };
+    static const uint8_t dlc_9[4] = { 9, 0, 0, 0 };
+    prepare();
+    /* A slot whose classic DLC is above 8 is taken and is no frame; then nothing is left. */
+    IS(mcp_push(&line, 1, &header, 5, bytes, 8) == 0 && mcp_request(&line, 1) == 0 && mcp_write_ram(&line, 0x404, dlc_9, 4) == 0);
+    IS(mcp_chip_held_at(&chip, 1, 0, &out.frame) == 0 && out.frame.kind == MCP_NO_FRAME);
+    IS(mcp_chip_send(&chip, 1, &out.frame) == 0 && out.frame.kind == MCP_NO_FRAME && held(1) == 0);
+    IS(mcp_chip_send(&chip, 1, &out.frame) == 0 && out.frame.kind == MCP_NOTHING);
+    /* Held, but not requested; and held in the order of pushing. */
+    IS(mcp_push(&line, 1, &header, 6, bytes, 8) == 0 && mcp_push(&line, 1, &header, 7, bytes, 8) == 0);
+    IS(mcp_chip_send(&chip, 1, &out.frame) == 0 && out.frame.kind == MCP_NOTHING && held(1) == 2);
+    IS(mcp_chip_held_at(&chip, 1, 0, &out.frame) == 0 && out.frame.seq == 6);
+    IS(mcp_chip_held_at(&chip, 1, 1, &out.frame) == 0 && out.frame.seq == 7);
+    IS(mcp_chip_held_at(&chip, 1, 2, &out.frame) == 0 && out.frame.kind == MCP_NOTHING);
+    IS(mcp_chip_held_at(&chip, 1, 257, &out.frame) == 0 && out.frame.kind == MCP_NOTHING);
+    /* Causes to turn a frame down, and what no push could carry. */
+    IS(mcp_chip_deliver(&chip, 1, &header, 0, bytes, 8, &out.word) == 0 && out.word == MCP_NOT_RECEIVING);
+    IS(mcp_chip_deliver(&chip, 3, &fd, 0, bytes, 12, &out.word) == 0 && out.word == MCP_TOO_LONG);
+    IS(mcp_chip_deliver(&chip, 3, &header, 0, bytes, 8, &out.word) == 0 && out.word == MCP_DELIVERED);
+    IS(mcp_chip_deliver(&chip, 3, &header, 0, bytes, 8, &out.word) == 0 && out.word == MCP_FULL);
+    IS(mcp_chip_deliver(&chip, 3, &header, 0, bytes, 9, &out.word) == 22);
+    IS(mcp_set_op_mode(&line, 4) == 0);
+    IS(mcp_chip_deliver(&chip, 3, &header, 0, bytes, 8, &out.word) == 0 && out.word == MCP_IN_CONFIGURATION);
+    /* 22 messages of 64 bytes, with the others' 2 x 76 + 2 x 16, do not fit: 27 on the chip's side, 12 on the driver's. */
+    IS(mcp_chip_no_layout(&chip, &out.word) == 0 && out.word == 0);
+    IS(mcp_configure_fifo(&line, 1, &deep) == 0 && mcp_set_op_mode(&line, 0) == 12);
+    IS(mcp_chip_no_layout(&chip, &out.word) == 0 && out.word == 1);
+    IS(mcp_get_op_mode(&line, &out.word) == 0 && out.word == 4);
+    IS(mcp_chip_transfer(&chip, bytes, 8, NULL, 0) == 1); /* no such exchange */
+}
+
+int main(void)
+{
+    failing();
+    nulls();
+    numbers();
+    fifo_fields();
+    settings_fields();
+    filter_fields();
+    header_fields();
+    the_chip();
+    printf("calls: %lu looked at, all as written down\n", looked);
+    return 0;
+}
