@@ -3,6 +3,8 @@
 A scenario sets up some FIFOs, leaves Configuration, and then calls, delivers, sends, fails and looks, with good arguments and bad ones."""
 import random, sys
 
+if sys.argv[1:2] in (['-h'], ['--help']): sys.exit(print(__doc__))
+if len(sys.argv) != 3 or not all(w.isdigit() for w in sys.argv[1:]): sys.exit('usage: scenarios.py SEED COUNT')
 seed, count = int(sys.argv[1]), int(sys.argv[2])
 r = random.Random(seed)
 out = []

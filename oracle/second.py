@@ -462,4 +462,5 @@ def run(text, out):
     return out
 
 if __name__ == '__main__':
+    if sys.argv[1:]: sys.exit(print(__doc__) if sys.argv[1] in ('-h', '--help') else 'second.py takes no words: the script comes from standard input')
     sys.stdout.write('\n'.join(run(sys.stdin.read(), [])) + '\n')

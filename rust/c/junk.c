@@ -1,6 +1,6 @@
-/* junk [CALLS [SEED]]: random calls with random numbers, NULLs and lengths over a line that fails, answers junk, fills only part of what was
- * wanted, and otherwise is the modelled chip. No call may panic (which ends the program), send what is no instruction, go on after a
- * failed exchange, change a byte where it is refused, write outside what it was lent, or answer what document 01 does not have for it.
+/* junk [CALLS [SEED]]: random calls with random numbers, NULLs and lengths over a line that fails, answers junk, fills only part of what
+ * was wanted, and otherwise is the modelled chip. No call may panic (which ends the program), send what is no instruction, go on after
+ * a failed exchange, change a byte where it is refused, write outside what it was lent, or answer what document 01 does not have for it.
  * Prints how often each number was answered. */
 #include "masevuru.h"
 #include <stdio.h>
@@ -14,7 +14,7 @@ static mcp_chip chip;
 static uint64_t seed = 0x9E3779B97F4A7C15u;
 static unsigned asked; /* exchanges of this call */
 static int failed;     /* one of them was not carried out */
-static int calm;       /* the line is the chip alone */
+static unsigned rough; /* one exchange in so many fails, another is answered by some junk, a third by ones; none where it is 0 */
 
 static uint64_t next(void)
 {
@@ -57,7 +57,7 @@ static int transfer(void *context, const uint8_t *tx, size_t tx_len, uint8_t *rx
     int r = 0;
     IS(context == &chip && !failed && is_instruction(tx, tx_len, rx_len));
     asked++;
-    switch (calm ? 3 : next() % 16) {
+    switch (rough ? next() % rough : 3) {
     case 0: r = next() % 2 ? 1 : -1; break;
     case 1: /* short: only the first bytes come */
         for (size_t i = 0, n = next() % (rx_len + 1); i < n; i++)
@@ -112,14 +112,13 @@ static void settle(void)
 {
     const mcp_line line = { .transfer = transfer, .wait = wait, .context = &chip };
     const mcp_settings settings = { .dncnt = 0 };
-    asked = 0, failed = 0, calm = 1;
+    asked = 0, failed = 0, rough = 0;
     IS(mcp_chip_new(&chip) == 0 && mcp_configure(&line, &settings) == 0);
     for (uint32_t n = 1; n <= 4; n++) {
         const mcp_fifo fifo = { .size = 1 + next() % 4, .plsize = next() % 8, .transmit = n % 2, .rxtsen = next() % 2 };
         IS(mcp_configure_fifo(&line, n, &fifo) == 0);
     }
     IS(mcp_set_op_mode(&line, 0) == 0);
-    calm = 0;
 }
 
 static void fill(void *p, size_t n)
@@ -194,7 +193,7 @@ int main(int argc, char **argv)
         if (calls_made % 64 == 0)
             settle();
         out = before;
-        asked = 0, failed = 0;
+        asked = 0, failed = 0, rough = 4u << 2 * (next() % 3);
         switch (call) {
         case RESET: r = mcp_reset(l); break;
         case READ: r = mcp_read_register(l, a, w); none |= !w; break;

@@ -1,43 +1,73 @@
-//! Random calls with random numbers over a line that answers junk, fails and now and then is the modelled chip: none may panic.
+//! Random calls with random numbers over a line that answers junk, fails and otherwise is the modelled chip. None may panic, send what is no
+//! instruction, go on after a failed exchange, change a byte where it is refused, or be refused for what document 01 does not have for it.
+use masevuru::calls::*;
 use masevuru::chip::Chip;
 use masevuru::*;
 
 struct Junk {
     chip: Chip,
     seed: u64,
+    /// Exchanges of this call, and whether one of them was not carried out.
+    asked: u32,
+    failed: bool,
+    /// One exchange in so many fails, another is answered by some junk, a third by ones; none where it is 0.
+    rough: u64,
 }
 
 impl Junk {
+    fn new(seed: u64) -> Junk {
+        Junk { chip: Chip::new(), seed, asked: 0, failed: false, rough: 16 }
+    }
+
     fn next(&mut self) -> u64 {
         self.seed ^= self.seed << 13;
         self.seed ^= self.seed >> 7;
         self.seed ^= self.seed << 17;
         self.seed
     }
-    /// Small numbers, edges and wild ones.
-    fn number(&mut self) -> u32 {
-        let r = self.next();
-        match r % 4 {
-            0 => (r >> 8) as u32 % 36,
-            1 => [0x3FF, 0x400, 0x7FF, 0x800, 0xBFC, 0xC00, 0xFBFF, 0xFFFF, 0x1000, 0x7F_FFFF, 0x1FFF_FFFF, 0xFFFF_FC00, 0xFFFF_FFFF][(r >> 8) as usize % 13],
-            2 => (r >> 8) as u32 % 0x1000,
-            _ => (r >> 8) as u32,
-        }
+
+    fn below(&mut self, n: u64) -> usize {
+        (self.next() % n) as usize
     }
+
     fn flag(&mut self) -> bool {
         self.next() % 2 == 0
+    }
+
+    /// Small numbers, edges and wild ones.
+    fn number(&mut self) -> u32 {
+        const EDGES: [u32; 13] =
+            [0x3FF, 0x400, 0x7FF, 0x800, 0xBFC, 0xC00, 0xFBFF, 0xFFFF, 0x1000, 0x7F_FFFF, 0x1FFF_FFFF, 0xFFFF_FC00, 0xFFFF_FFFF];
+        match self.below(4) {
+            0 => self.below(36) as u32,
+            1 => EDGES[self.below(13)],
+            2 => self.below(0x1000) as u32,
+            _ => self.next() as u32,
+        }
+    }
+}
+
+/// RESET, WRITE, READ and READ_CRC as document 01 has them; no other opcode is ever sent.
+fn is_instruction(tx: &[u8], want: usize) -> bool {
+    match (tx[0] >> 4, tx.len()) {
+        (0, 2) => tx == [0, 0] && want == 0,
+        (2, n) => n <= 2050 && n % 4 == 2 && want == 0,
+        (3, 2) => want <= 2048 && want % 4 == 0,
+        (11, 3) => tx[2] == 4 && want == 6,
+        _ => false,
     }
 }
 
 impl Line for Junk {
     fn transfer(&mut self, tx: &[u8], rx: &mut [u8]) -> Result<(), Failed> {
-        match self.next() % 16 {
+        assert!(!self.failed, "asked again after a failed exchange");
+        assert!(is_instruction(tx, rx.len()), "{tx:02x?}, {} wanted", rx.len());
+        self.asked += 1;
+        let answer = match if self.rough == 0 { 3 } else { self.below(self.rough) } {
             0 => Err(Failed),
             1 => {
-                let n = self.next() as usize % (rx.len() + 1);
-                for b in 0..n {
-                    rx[b] = self.next() as u8;
-                }
+                let n = self.below(rx.len() as u64 + 1);
+                rx[..n].iter_mut().for_each(|b| *b = self.next() as u8);
                 Ok(())
             }
             2 => {
@@ -45,70 +75,209 @@ impl Line for Junk {
                 Ok(())
             }
             _ => self.chip.transfer(tx, rx),
-        }
+        };
+        self.failed = answer.is_err();
+        answer
     }
-    fn wait(&mut self, _: u32) {}
+
+    fn wait(&mut self, microseconds: u32) {
+        assert!(!self.failed && microseconds == 500);
+    }
+}
+
+/// For each call: how many exchanges at most, whatever is answered; what a failed one is refused by; what else it is refused by.
+type Row = (&'static str, u32, &'static [u32], &'static [u32]);
+const ROWS: [Row; 24] = [
+    ("reset", 1, &[2], &[]),
+    ("read_register", 1, &[1], &[24]),
+    ("write_register", 1, &[1], &[24]),
+    ("modify_register", 2, &[1], &[24]),
+    ("checked_read", 3, &[1], &[24, 10]),
+    ("read_ram", 1, &[1], &[3, 4]),
+    ("write_ram", 1, &[2], &[3, 5]),
+    ("verify", 64, &[11], &[13]),
+    ("verify_long", 2, &[11], &[13]),
+    ("set_op_mode", 7, &[11], &[24, 12]),
+    ("get_op_mode", 1, &[1], &[]),
+    ("configure", 96, &[11], &[24, 11, 13, 14]),
+    ("configure_osc", 5, &[11], &[14]),
+    ("configure_io", 2, &[11], &[]),
+    ("configure_bit_timing", 6, &[11], &[24]),
+    ("configure_fifo", 2, &[1], &[20, 24]),
+    ("configure_filter", 8, &[1], &[20, 21]),
+    ("disable_filter", 2, &[1], &[20]),
+    ("push", 5, &[1, 2], &[20, 21, 24, 22, 6, 7, 8, 25, 3]),
+    ("request", 2, &[1], &[20]),
+    ("transmit", 7, &[1, 2], &[20, 21, 24, 22, 6, 7, 8, 25, 3]),
+    ("has_next", 2, &[1], &[20, 9]),
+    ("peek", 7, &[1], &[20, 28, 9, 25, 3, 23]),
+    ("get", 9, &[1], &[20, 28, 9, 25, 3, 23]),
+];
+
+/// Tested before the first exchange: of 3, 4 and 5 those of the RAM calls.
+fn is_first(call: usize, n: u32) -> bool {
+    matches!(n, 20 | 21 | 22 | 24 | 28 | 4 | 5) || (n == 3 && (call == 5 || call == 6))
+}
+
+fn judge(call: usize, answer: Result<(), Refusal>, line: &Junk) {
+    let (name, most, failed, others) = ROWS[call];
+    let n = answer.map_or_else(number, |()| 0);
+    let (asked, due) = (line.asked, if line.failed { failed } else { others });
+    assert!(due.contains(&n) || (n == 0 && !line.failed), "{name} answered {n}, failed: {}", line.failed);
+    assert!(asked <= most, "{name} asked for {asked}");
+    assert!(!is_first(call, n) || asked == 0, "{name} answered {n} after {asked} exchanges");
+}
+
+/// Arguments of a call: random, three times of four such as are taken.
+struct Given {
+    fifo: u8,
+    a: u32,
+    b: u32,
+    c: u32,
+    len: usize,
+    header: Header,
+    settings: Settings,
+    area: FifoConfiguration,
+    filter: FilterConfiguration,
+}
+
+fn given(l: &mut Junk) -> Given {
+    const LENGTHS: [usize; 16] = [0, 1, 2, 3, 4, 5, 6, 7, 8, 12, 16, 20, 24, 32, 48, 64];
+    let fits = l.below(4) != 0;
+    let [a, b, c] = [l.number(), l.number(), l.number()];
+    let flags: [bool; 16] = core::array::from_fn(|_| l.flag());
+    let to = |n: u32, most: u32| if fits { n % most } else { n };
+    let tx = TxFifo { txpri: to(a, 32), txat: to(b, 4), rtren: flags[0], txatie: flags[1], empty: flags[2], half: flags[3], notfull: flags[4] };
+    let rx = RxFifo { rxtsen: flags[0], rxovie: flags[1], full: flags[2], half: flags[3], notempty: flags[4] };
+    let kind = [FilterMode::Standard, FilterMode::Extended, FilterMode::Both][l.below(3)];
+    let (object, mask) = (Identifier { extended: flags[5], id: to(a, 0x800) }, Identifier { extended: flags[6], id: to(b, 0x800) });
+    Given {
+        fifo: if fits { l.below(6) as u8 } else { l.number() as u8 },
+        a,
+        b,
+        c,
+        len: if fits { LENGTHS[l.below(16)] } else { l.below(4096) },
+        header: Header { extended: flags[7], id: to(a, 0x800), rtr: flags[8], brs: flags[9], fdf: flags[10], esi: flags[11] },
+        settings: Settings {
+            oscillator: OscillatorConfiguration { pll: flags[0], divide: flags[1] },
+            io: IoConfiguration { xstbyen: flags[2], txcanod: flags[3], sof: flags[4], intod: flags[5] },
+            bittime: BitTimeConfiguration {
+                nominal: NominalBitTime { brp: to(a, 256), tseg1: to(b, 256), tseg2: to(c, 128), sjw: to(a, 128) },
+                data: DataBitTime { brp: to(a, 256), tseg1: to(b, 32), tseg2: to(c, 16), sjw: to(a, 16), tdco: to(b, 128) },
+            },
+            counter: flags[12],
+            dncnt: to(c, 32),
+            canerrors: flags[13],
+            spierror: flags[14],
+            eccerror: flags[15],
+        },
+        area: FifoConfiguration {
+            size: to(a, 33),
+            plsize: to(b, 8),
+            mode: if flags[6] { FifoMode::Transmit(tx) } else { FifoMode::Receive(rx) },
+        },
+        filter: FilterConfiguration { fifo: to(c, 32) as u8, mode: kind, object, mask },
+    }
+}
+
+/// A chip outside Configuration with four FIFOs, two of which send, so that calls have something to do.
+fn settle(mcp: &mut Mcp<Junk>) {
+    mcp.line = Junk { rough: 0, ..Junk::new(mcp.line.seed) };
+    while mcp.line.chip.model.fixed.configuring {
+        let g = given(&mut mcp.line);
+        let _ = mcp.configure(g.settings);
+        for n in 1..=4 {
+            let g = given(&mut mcp.line);
+            let _ = mcp.configure_fifo(n, FifoConfiguration { size: 1 + g.a % 4, ..g.area });
+        }
+        let _ = mcp.set_op_mode(0);
+    }
 }
 
 #[test]
 fn a_hundred_thousand() {
-    let mut mcp = Mcp::new(Junk { chip: Chip::new(), seed: 0x9E37_79B9_7F4A_7C15 });
-    let mut counts = [0u32; 29];
+    let mut mcp = Mcp::new(Junk::new(0x9E37_79B9_7F4A_7C15));
     let bytes: Vec<u8> = (0..4096).map(|i| i as u8).collect();
-    let mut buf = vec![0u8; 4096];
-    for _ in 0..100_000 {
-        let l = &mut mcp.line;
-        let (which, fifo, a, b, c) = (l.next() % 26, l.number() as u8, l.number(), l.number(), l.number());
-        let len = if l.flag() { l.next() as usize % 68 } else { l.next() as usize % 4096 };
-        let header = Header { extended: l.flag(), id: a, rtr: l.flag(), brs: l.flag(), fdf: l.flag(), esi: l.flag() };
-        let nominal = NominalBitTime { brp: a % 300, tseg1: b % 300, tseg2: c % 150, sjw: a % 150 };
-        let data = DataBitTime { brp: a % 300, tseg1: b % 40, tseg2: c % 20, sjw: a % 20, tdco: b % 140 };
-        let bittime = BitTimeConfiguration { nominal, data };
-        let oscillator = OscillatorConfiguration { pll: l.flag(), divide: l.flag() };
-        let io = IoConfiguration { xstbyen: l.flag(), txcanod: l.flag(), sof: l.flag(), intod: l.flag() };
-        let tx = TxFifo { txpri: a % 40, txat: b % 5, rtren: l.flag(), txatie: l.flag(), empty: l.flag(), half: l.flag(), notfull: l.flag() };
-        let rx = RxFifo { rxtsen: l.flag(), rxovie: l.flag(), full: l.flag(), half: l.flag(), notempty: l.flag() };
-        let mode = if l.flag() { FifoMode::Transmit(tx) } else { FifoMode::Receive(rx) };
-        let (x, y, z) = (l.flag(), l.flag(), l.flag());
-        let r = match which {
+    let (mut buf, before) = (vec![0x5Au8; 4096], vec![0x5Au8; 4096]);
+    let mut counts = [0u32; 29];
+    for i in 0..100_000 {
+        if i % 64 == 0 {
+            settle(&mut mcp);
+        }
+        let g = given(&mut mcp.line);
+        let call = mcp.line.below(24);
+        mcp.line.rough = [4, 16, 64][mcp.line.below(3)];
+        (mcp.line.asked, mcp.line.failed) = (0, false);
+        // how many bytes at the front of `buf` a call that is done has filled
+        let mut filled = 0;
+        let answer = match call {
             0 => mcp.reset(),
-            1 => mcp.read_register(a as u16).map(|_| ()),
-            2 => mcp.write_register(a as u16, b),
-            3 => mcp.modify_register(a as u16, b, c),
-            4 => mcp.checked_read(a as u16).map(|_| ()),
-            5 => mcp.read_ram(a, &mut buf[..len]),
-            6 => mcp.write_ram(a, &bytes[..len]),
+            1 => mcp.read_register(g.a as u16).map(|_| ()),
+            2 => mcp.write_register(g.a as u16, g.b),
+            3 => mcp.modify_register(g.a as u16, g.b, g.c),
+            4 => mcp.checked_read(g.a as u16).map(|_| ()),
+            5 => mcp.read_ram(g.a, &mut buf[..g.len]).map(|()| filled = g.len),
+            6 => mcp.write_ram(g.a, &bytes[..g.len]),
             7 => mcp.verify(),
             8 => mcp.verify_long(),
-            9 => mcp.set_op_mode(a % 9),
-            10 => mcp.get_op_mode().map(|_| ()),
-            11 => mcp.configure(Settings { oscillator, io, bittime, counter: x, dncnt: c % 40, canerrors: y, spierror: z, eccerror: x }),
-            12 => mcp.configure_osc(oscillator),
-            13 => mcp.configure_io(io),
-            14 => mcp.configure_bit_timing(bittime),
-            15 => mcp.configure_fifo(fifo, FifoConfiguration { size: a, plsize: b % 10, mode }),
-            16 => {
-                let mode = [FilterMode::Standard, FilterMode::Extended, FilterMode::Both][c as usize % 3];
-                let (object, mask) = (Identifier { extended: x, id: a }, Identifier { extended: y, id: b });
-                mcp.configure_filter(c as u8, FilterConfiguration { fifo, mode, object, mask })
-            }
-            17 => mcp.disable_filter(fifo),
-            18 => mcp.push(fifo, header, b, &bytes[..len]),
-            19 => mcp.request(fifo),
-            20 => mcp.transmit(fifo, header, b, &bytes[..len]),
-            21 => mcp.has_next(fifo).map(|_| ()),
-            22 => mcp.peek(fifo, &mut buf[..len]).map(|_| ()),
-            23 => mcp.get(fifo, &mut buf[..len]).map(|_| ()),
-            24 => {
-                let _ = mcp.line.chip.send(fifo);
-                Ok(())
-            }
+            9 => mcp.set_op_mode(g.a % 9),
+            10 => mcp.get_op_mode().map(|mode| assert!(mode < 8)),
+            11 => mcp.configure(g.settings),
+            12 => mcp.configure_osc(g.settings.oscillator),
+            13 => mcp.configure_io(g.settings.io),
+            14 => mcp.configure_bit_timing(g.settings.bittime),
+            15 => mcp.configure_fifo(g.fifo, g.area),
+            16 => mcp.configure_filter(g.c as u8, g.filter),
+            17 => mcp.disable_filter(g.c as u8),
+            18 => mcp.push(g.fifo, g.header, g.b, &bytes[..g.len]),
+            19 => mcp.request(g.fifo),
+            20 => mcp.transmit(g.fifo, g.header, g.b % 0x80_0000, &bytes[..g.len]),
+            21 => mcp.has_next(g.fifo).map(|_| ()),
             _ => {
-                let _ = mcp.line.chip.deliver(fifo, header, c, &bytes[..len]);
-                Ok(())
+                let lent = &mut buf[..g.len * 4 % 4096];
+                let found = if call == 22 { mcp.peek(g.fifo, lent) } else { mcp.get(g.fifo, lent) };
+                found.map(|r| filled = r.map_or(0, |r| r.len))
             }
         };
-        counts[r.map_or_else(|r| number(r) as usize, |()| 0)] += 1;
+        judge(call, answer, &mcp.line);
+        assert!(filled <= if call > 21 { 64 } else { g.len });
+        assert_eq!(buf[filled..], before[filled..], "{} changed what it was not to fill", ROWS[call].0);
+        buf[..filled].fill(0x5A);
+        counts[answer.map_or_else(number, |()| 0) as usize] += 1;
+        // the bus's turn
+        let g = given(&mut mcp.line);
+        let _ = mcp.line.chip.send(g.fifo);
+        let _ = mcp.line.chip.deliver(g.fifo, g.header, g.c, &bytes[..g.len]);
+        assert!(mcp.line.chip.held(g.fifo).map_or(!(1..32).contains(&g.fifo), |held| held <= 32));
     }
-    println!("{counts:?}");
+    for (n, count) in counts.iter().enumerate() {
+        let is_never = matches!(n, 15..=19 | 26 | 27);
+        assert_eq!(*count == 0, is_never, "{n} was answered {count} times: {counts:?}");
+    }
+}
+
+/// The loop by itself, with scratch and lent buffers of any length: none of these calls was started with what it is lent later.
+#[test]
+fn any_buffers() {
+    let mut l = Junk::new(0x0123_4567_89AB_CDEF);
+    let bytes: Vec<u8> = (0..4096).map(|i| i as u8).collect();
+    for _ in 0..20_000 {
+        let g = given(&mut l);
+        let call = match l.below(8) {
+            0 => of_push(push_start(g.fifo, g.header, g.b, &bytes[..g.len])),
+            1 => of_transmit(transmit_start(g.fifo, g.header, g.b, &bytes[..g.len])),
+            2 => of_fetch(peek_start(g.fifo, g.len)),
+            3 => of_fetch(get_start(g.fifo, 64)),
+            4 => of_ram(read_ram_start(g.a, g.b as usize, g.c as usize, g.len)),
+            5 => of_ram(read_ram_start(0x400, 4096, g.len, g.len)),
+            6 => of_ram(write_ram_start(g.a, g.c as usize)),
+            _ => of_ram(verify_long_start()),
+        };
+        let [lent, room, tx, rx] = core::array::from_fn(|_| if l.flag() { l.below(140) } else { l.below(4096) });
+        let (mut buf, before) = (vec![0x5Au8; room], vec![0x5Au8; room]);
+        (l.asked, l.failed) = (0, false);
+        let end = run(&mut l, call, &bytes[..lent], &mut buf, &mut vec![0; tx], &mut vec![0; rx]);
+        assert!(!matches!(end, Outcome::Running | Outcome::Refused(Refusal::WrongAnswer | Refusal::NoLayout)));
+        assert!(matches!(end, Outcome::Message(_) | Outcome::Done) || buf == before, "{end:?} changed what was lent");
+    }
 }

@@ -64,7 +64,7 @@ fn unknown(w: &[u8]) {
         put(b"a name is missing");
         return;
     }
-    put(b"there is no ");
+    put(b"unknown word: ");
     show(w);
 }
 

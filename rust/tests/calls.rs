@@ -1,0 +1,323 @@
+//! Call by call on the modelled chip: exchanges that fail one after the other, answers that come late or wrong, what lent buffers hold
+//! afterwards, scratch that is too short. What is expected was written down from document 01.
+use masevuru::calls::*;
+use masevuru::chip::{Chip, Delivery, Reading, Sending};
+use masevuru::*;
+
+/// The chip, with one exchange that fails and some whose answers are changed.
+struct Bench {
+    chip: Chip,
+    exchanges: u32,
+    waits: u32,
+    fail_at: u32,
+    /// What becomes of the bytes that an exchange received, by its number.
+    twist: fn(u32, &mut [u8]),
+}
+
+fn as_it_is(_: u32, _: &mut [u8]) {}
+
+impl Line for Bench {
+    fn transfer(&mut self, tx: &[u8], rx: &mut [u8]) -> Result<(), Failed> {
+        self.exchanges += 1;
+        if self.exchanges == self.fail_at {
+            return Err(Failed);
+        }
+        self.chip.transfer(tx, rx)?;
+        (self.twist)(self.exchanges, rx);
+        Ok(())
+    }
+
+    fn wait(&mut self, microseconds: u32) {
+        assert_eq!(microseconds, 500);
+        self.waits += 1;
+    }
+}
+
+type Driver = Mcp<Bench>;
+
+const HEADER: Header = Header { extended: false, id: 0x123, rtr: false, brs: false, fdf: false, esi: false };
+const BYTES: [u8; 8] = [1, 2, 3, 4, 5, 6, 7, 8];
+
+fn settings(all: bool) -> Settings {
+    Settings {
+        oscillator: OscillatorConfiguration { pll: all, divide: false },
+        io: IoConfiguration { xstbyen: false, txcanod: false, sof: false, intod: false },
+        bittime: BitTimeConfiguration {
+            nominal: NominalBitTime { brp: 0, tseg1: 62, tseg2: 15, sjw: 15 },
+            data: DataBitTime { brp: 0, tseg1: 14, tseg2: 3, sjw: 3, tdco: 0 },
+        },
+        counter: all,
+        dncnt: all as u32,
+        canerrors: false,
+        spierror: false,
+        eccerror: false,
+    }
+}
+
+fn sender() -> FifoConfiguration {
+    let tx = TxFifo { txpri: 0, txat: 0, rtren: false, txatie: false, empty: false, half: false, notfull: false };
+    FifoConfiguration { size: 4, plsize: 0, mode: FifoMode::Transmit(tx) }
+}
+
+fn receiver(plsize: u32, rxtsen: bool) -> FifoConfiguration {
+    let rx = RxFifo { rxtsen, rxovie: false, full: false, half: false, notempty: false };
+    FifoConfiguration { size: 2, plsize, mode: FifoMode::Receive(rx) }
+}
+
+fn filter() -> FilterConfiguration {
+    let (object, mask) = (Identifier { extended: false, id: 0x100 }, Identifier { extended: false, id: 0x700 });
+    FilterConfiguration { fifo: 2, mode: FilterMode::Standard, object, mask }
+}
+
+/// Outside Configuration: FIFO 1 sends; FIFO 2, with timestamps, and FIFO 3 receive and hold a message of 5 bytes each.
+fn prepared() -> Driver {
+    let mut mcp = Mcp::new(Bench { chip: Chip::new(), exchanges: 0, waits: 0, fail_at: 0, twist: as_it_is });
+    mcp.configure(settings(false)).unwrap();
+    mcp.configure_fifo(1, sender()).unwrap();
+    mcp.configure_fifo(2, receiver(7, true)).unwrap();
+    mcp.configure_fifo(3, receiver(0, false)).unwrap();
+    mcp.set_op_mode(0).unwrap();
+    assert_eq!(mcp.line.chip.deliver(2, HEADER, 0xA1B2_C3D4, &BYTES[..5]), Delivery::Delivered);
+    assert_eq!(mcp.line.chip.deliver(3, HEADER, 0xA1B2_C3D4, &BYTES[..5]), Delivery::Delivered);
+    mcp.line.exchanges = 0;
+    mcp.line.waits = 0;
+    mcp
+}
+
+fn twisted(twist: fn(u32, &mut [u8])) -> Driver {
+    let mut mcp = prepared();
+    mcp.line.twist = twist;
+    mcp
+}
+
+fn told<T>(answer: Result<T, Refusal>) -> u32 {
+    answer.map_or_else(number, |_| 0)
+}
+
+/// A call's name, what it does with the driver and 72 lent bytes, and by what number each of its exchanges is refused that fails: so many
+/// times a number. Behind that a FIFO, the last exchange whose failing leaves it as it was, and how many messages it holds then and later.
+type Row = (&'static str, fn(&mut Driver, &mut [u8; 72]) -> u32, &'static [(u32, u32)], (u8, u32, u8, u8));
+
+/// Document 01: 1 where a read or a register write failed; 2 where a RAM write or the reset failed; 11 in place of both in any
+/// configuration, mode or echo call but `configure_fifo` and `configure_filter`; `get_op_mode` is a register read. The exchanges are
+/// those of "Exchange by exchange"; a change is two, a read and a write. The chip takes a mode at once and shows PLLRDY with PLLEN:
+/// one poll. `configure`: mode 2, poll 1, echo 64, OSC 2, PLL's poll 1 if on, IOCON 2, bit timing 6, STEF 2, TXQEN 2, TSCON 2 if
+/// the counter is on, DNCNT 2 if not 0, RTXAT 2, CiINT 2.
+const ROWS: [Row; 28] = [
+    ("reset", |m, _| told(m.reset()), &[(1, 2)], (0, 0, 0, 0)),
+    ("read_register", |m, _| told(m.read_register(0x000)), &[(1, 1)], (0, 0, 0, 0)),
+    ("write_register", |m, _| told(m.write_register(0x004, 7)), &[(1, 1)], (0, 0, 0, 0)),
+    ("modify_register", |m, _| told(m.modify_register(0x004, 1, 2)), &[(2, 1)], (0, 0, 0, 0)),
+    ("checked_read", |m, _| told(m.checked_read(0xE00)), &[(1, 1)], (0, 0, 0, 0)),
+    ("read_ram", |m, buf| told(m.read_ram(0x400, buf)), &[(1, 1)], (0, 0, 0, 0)),
+    ("write_ram", |m, _| told(m.write_ram(0x800, &BYTES)), &[(1, 2)], (0, 0, 0, 0)),
+    ("verify", |m, _| told(m.verify()), &[(64, 11)], (0, 0, 0, 0)),
+    ("verify_long", |m, _| told(m.verify_long()), &[(2, 11)], (0, 0, 0, 0)),
+    ("set_op_mode", |m, _| told(m.set_op_mode(4)), &[(3, 11)], (0, 0, 0, 0)),
+    ("get_op_mode", |m, _| told(m.get_op_mode()), &[(1, 1)], (0, 0, 0, 0)),
+    ("configure", |m, _| told(m.configure(settings(false))), &[(85, 11)], (0, 0, 0, 0)),
+    ("configure, all on", |m, _| told(m.configure(settings(true))), &[(90, 11)], (0, 0, 0, 0)),
+    ("configure_osc", |m, _| told(m.configure_osc(settings(false).oscillator)), &[(2, 11)], (0, 0, 0, 0)),
+    ("configure_osc, PLL on", |m, _| told(m.configure_osc(settings(true).oscillator)), &[(3, 11)], (0, 0, 0, 0)),
+    ("configure_io", |m, _| told(m.configure_io(settings(false).io)), &[(2, 11)], (0, 0, 0, 0)),
+    ("configure_bit_timing", |m, _| told(m.configure_bit_timing(settings(false).bittime)), &[(6, 11)], (0, 0, 0, 0)),
+    ("configure_fifo", |m, _| told(m.configure_fifo(1, sender())), &[(2, 1)], (0, 0, 0, 0)),
+    ("configure_filter", |m, _| told(m.configure_filter(0, filter())), &[(8, 1)], (0, 0, 0, 0)),
+    ("disable_filter", |m, _| told(m.disable_filter(0)), &[(2, 1)], (0, 0, 0, 0)),
+    ("push", |m, _| told(m.push(1, HEADER, 5, &BYTES)), &[(3, 1), (1, 2), (1, 1)], (1, 5, 0, 1)),
+    ("request", |m, _| told(m.request(1)), &[(2, 1)], (1, 2, 0, 0)),
+    ("transmit", |m, _| told(m.transmit(1, HEADER, 5, &BYTES)), &[(3, 1), (1, 2), (3, 1)], (1, 5, 0, 1)),
+    ("has_next", |m, _| told(m.has_next(2)), &[(2, 1)], (2, 2, 1, 1)),
+    ("peek, with a timestamp", |m, buf| told(m.peek(2, buf)), &[(7, 1)], (2, 7, 1, 1)),
+    ("peek, without", |m, buf| told(m.peek(3, buf)), &[(6, 1)], (3, 6, 1, 1)),
+    ("get, with a timestamp", |m, buf| told(m.get(2, buf)), &[(9, 1)], (2, 9, 1, 0)),
+    ("get, without", |m, buf| told(m.get(3, buf)), &[(8, 1)], (3, 8, 1, 0)),
+];
+
+#[test]
+fn each_exchange_fails() {
+    for (name, call, parts, (fifo, last, then, after)) in ROWS {
+        let answers: Vec<u32> = parts.iter().flat_map(|&(times, n)| (0..times).map(move |_| n)).collect();
+        for (k, n) in (1..).zip(&answers) {
+            let (mut mcp, mut buf) = (prepared(), [0x5A; 72]);
+            mcp.line.fail_at = k;
+            assert_eq!(call(&mut mcp, &mut buf), *n, "{name}, exchange {k}");
+            assert_eq!(mcp.line.exchanges, k, "{name} asked for more after exchange {k}");
+            assert_eq!(buf, [0x5A; 72], "{name}, exchange {k}");
+            if fifo != 0 {
+                assert_eq!(mcp.line.chip.held(fifo), Ok(if k <= last { then } else { after }), "{name}, exchange {k}");
+            }
+        }
+        let (mut mcp, mut buf) = (prepared(), [0x5A; 72]);
+        assert_eq!(call(&mut mcp, &mut buf), 0, "{name}");
+        assert_eq!((mcp.line.exchanges as usize, mcp.line.waits), (answers.len(), 0), "{name}");
+        if fifo != 0 {
+            assert_eq!(mcp.line.chip.held(fifo), Ok(after), "{name}");
+        }
+    }
+}
+
+/// "After a failed exchange in a push only the free slot's bytes may differ": those of slot 0, RAM 0 to 15, and only where the last failed.
+#[test]
+fn a_failed_push_leaves_the_chip() {
+    for k in 1..=5 {
+        let mut mcp = prepared();
+        let mut before = mcp.line.chip.model;
+        mcp.line.fail_at = k;
+        assert!(mcp.push(1, HEADER, 5, &BYTES).is_err());
+        if k == 5 {
+            assert_ne!(mcp.line.chip.model, before);
+            before.ram[..16].copy_from_slice(&mcp.line.chip.model.ram[..16]);
+        }
+        assert_eq!(mcp.line.chip.model, before, "exchange {k}");
+    }
+}
+
+/// A mode that the polls show late or never: five polls with four waits; a CRC that mismatches; an echo that differs; a PLL that is not ready.
+#[test]
+fn late_and_wrong_answers() {
+    let shown = |mut mcp: Driver, call: fn(&mut Driver) -> u32| (call(&mut mcp), mcp.line.exchanges, mcp.line.waits);
+    // exchange 1 reads CiCON, 2 writes it, polls are 3 to 7; OPMOD is bits 23..21
+    let late = twisted(|k, rx| if (3..7).contains(&k) { rx[2] = 0 });
+    assert_eq!(shown(late, |m| told(m.set_op_mode(4))), (0, 7, 4));
+    let never = |k, rx: &mut [u8]| if k >= 3 { rx[2] = 0 };
+    assert_eq!(shown(twisted(never), |m| told(m.set_op_mode(4))), (12, 7, 4));
+    assert_eq!(shown(twisted(never), |m| told(m.configure(settings(false)))), (11, 7, 4));
+    // a failed poll is 11, in both
+    for call in [|m: &mut Driver| told(m.set_op_mode(4)), |m: &mut Driver| told(m.configure(settings(false)))] {
+        for k in 3..=7 {
+            let mut mcp = twisted(never);
+            mcp.line.fail_at = k;
+            assert_eq!(shown(mcp, call), (11, k, k - 3));
+        }
+    }
+    // three tries; a failed one is 1 and stops at once
+    assert_eq!(shown(twisted(|k, rx| if k < 3 { rx[0] ^= 1 }), |m| told(m.checked_read(0xE00))), (0, 3, 0));
+    assert_eq!(shown(twisted(|_, rx| rx[5] ^= 0x80), |m| told(m.checked_read(0xE00))), (10, 3, 0));
+    for k in 1..=3 {
+        let mut mcp = twisted(|_, rx| rx[4] ^= 1);
+        mcp.line.fail_at = k;
+        assert_eq!(shown(mcp, |m| told(m.checked_read(0xE00))), (1, k, 0));
+    }
+    // the echo of bit 31 is read by exchange 64, the long one by exchange 2
+    assert_eq!(shown(twisted(|k, rx| if k == 64 { rx[3] = 0 }), |m| told(m.verify())), (13, 64, 0));
+    assert_eq!(shown(twisted(|k, rx| if k == 2 { rx[127] = 0 }), |m| told(m.verify_long())), (13, 2, 0));
+    // PLLRDY is bit 8; polls are 3 to 5
+    assert_eq!(shown(twisted(|k, rx| if k >= 3 { rx[1] = 0 }), |m| told(m.configure_osc(settings(true).oscillator))), (14, 5, 2));
+    assert_eq!(shown(twisted(|k, rx| if (3..5).contains(&k) { rx[1] = 0 }), |m| told(m.configure_osc(settings(true).oscillator))), (0, 5, 2));
+}
+
+/// What is refused before any exchange, or later for what the chip answers; no lent byte is changed.
+#[test]
+fn refusals() {
+    let mut buf = [0x5A; 72];
+    let mut m = prepared();
+    for n in [0, 32, 255] {
+        assert_eq!((told(m.peek(n, &mut buf[..63])), told(m.get(n, &mut buf[..63])), told(m.has_next(n))), (20, 20, 20));
+        assert_eq!((told(m.push(n, HEADER, 5, &BYTES)), told(m.request(n)), told(m.configure_fifo(n, sender()))), (20, 20, 20));
+    }
+    for len in [0, 1, 63] {
+        assert_eq!((told(m.peek(2, &mut buf[..len])), told(m.get(2, &mut buf[..len]))), (28, 28));
+    }
+    assert_eq!(m.read_ram(0x3FF, &mut buf[..3]), Err(Refusal::InvalidRamAddress(0x3FF)));
+    assert_eq!(m.read_ram(0xFFFF_FFFC, &mut buf[..8]), Err(Refusal::InvalidRamAddress(0xFFFF_FFFC)));
+    assert_eq!(m.read_ram(0x400, &mut buf[..6]), Err(Refusal::InvalidReadLength(6)));
+    assert_eq!(m.write_ram(0xBFC, &BYTES), Err(Refusal::InvalidRamAddress(0xBFC)));
+    assert_eq!(m.write_ram(0x400, &BYTES[..7]), Err(Refusal::InvalidWriteLength(7)));
+    assert_eq!(m.line.exchanges, 0);
+    // 9, at the control word
+    assert_eq!((told(m.get(1, &mut buf)), told(m.has_next(1)), m.line.exchanges), (9, 9, 2));
+    assert_eq!((told(m.push(2, HEADER, 5, &BYTES)), m.line.exchanges), (6, 3));
+    // exchange 3 is the user address, 0x400 below the object's, and 4 the header, which still lies in RAM; what follows it does not
+    let address = |k, rx: &mut [u8]| match k {
+        3 => rx.copy_from_slice(&0x7F8u32.to_le_bytes()),
+        4 if rx.len() == 8 => rx[4] = 5,
+        _ => {}
+    };
+    assert_eq!(twisted(address).get(3, &mut buf), Err(Refusal::InvalidRamAddress(0xC00)));
+    assert_eq!(twisted(address).get(2, &mut buf), Err(Refusal::InvalidRamAddress(0xC00)));
+    assert_eq!(twisted(address).push(1, HEADER, 5, &BYTES), Err(Refusal::InvalidRamAddress(0xBF8)));
+    let above = |k, rx: &mut [u8]| if k == 3 { rx.copy_from_slice(&0xFC00u32.to_le_bytes()) };
+    assert_eq!((told(twisted(above).get(3, &mut buf)), told(twisted(above).push(1, HEADER, 5, &BYTES))), (25, 25));
+    let dlc = |k, rx: &mut [u8]| if k == 4 { rx[4] = 9 };
+    assert_eq!((told(twisted(dlc).get(3, &mut buf)), told(twisted(dlc).peek(2, &mut buf))), (23, 23));
+    assert_eq!(buf, [0x5A; 72]);
+    assert_eq!(Refusal::InvalidRamAddress(3072).to_string(), "refused 3: InvalidRamAddress(3072)");
+}
+
+/// What a call that is done leaves in the lent buffer; an empty FIFO.
+#[test]
+fn lent_bytes() {
+    let mut m = prepared();
+    let received = |time| Ok(Some(Received { header: HEADER, time, len: 5 }));
+    for (fifo, time) in [(2, Some(0xA1B2_C3D4)), (3, None)] {
+        let mut buf = [0x5A; 72];
+        assert_eq!(m.has_next(fifo), Ok(true));
+        assert_eq!(m.peek(fifo, &mut buf), received(time));
+        assert_eq!((&buf[..5], &buf[5..]), (&BYTES[..5], &[0x5A; 67][..]));
+        buf = [0x5A; 72];
+        assert_eq!(m.get(fifo, &mut buf[..64]), received(time));
+        assert_eq!((&buf[..5], &buf[5..]), (&BYTES[..5], &[0x5A; 67][..]));
+        buf = [0x5A; 72];
+        assert_eq!((m.has_next(fifo), m.peek(fifo, &mut buf), m.get(fifo, &mut buf)), (Ok(false), Ok(None), Ok(None)));
+        assert_eq!(buf, [0x5A; 72]);
+    }
+    let mut buf = [0x5A; 72];
+    assert_eq!((m.write_ram(0xBF8, &BYTES), m.read_ram(0xBF8, &mut buf[..8])), (Ok(()), Ok(())));
+    assert_eq!((&buf[..8], &buf[8..]), (&BYTES[..], &[0x5A; 64][..]));
+    assert_eq!(m.read_ram(0xC00, &mut []), Ok(())); // length 0 in range is an exchange
+}
+
+/// A call, how many bytes of `tx` and of `rx` it needs, and what it is refused by where `tx` is too short for its longest exchange.
+type Scratch = (fn() -> Call, [usize; 2], u32);
+const SCRATCH: [Scratch; 4] = [
+    (|| of_push(push_start(1, HEADER, 5, &BYTES)), [18, 4], 2), // the command's 2 and the object's 16
+    (|| of_fetch(get_start(3, 64)), [6, 8], 1),
+    (|| of_ram(write_ram_start(0x400, 8)), [10, 0], 2),
+    (|| of_ram(read_ram_start(0x400, 64, 3, 60)), [2, 60], 1),
+];
+
+/// Scratch of every length: a call for which it is too short is refused as if the exchange had failed, with nothing sent.
+#[test]
+fn short_scratch() {
+    for room in 0..=80 {
+        for (start, [tx, rx], failed) in SCRATCH {
+            let run = |tx_room: usize, rx_room: usize| {
+                let (mut m, mut buf) = (prepared(), [0x5A; 64]);
+                let (tx, rx) = (&mut [0; 80][..tx_room], &mut [0; 80][..rx_room]);
+                let end = run(&mut m.line, start(), &BYTES, &mut buf, tx, rx);
+                (end, buf == [0x5A; 64], m.line.exchanges)
+            };
+            let refused = |(end, kept, _)| matches!(end, Outcome::Refused(r) if number(r) == failed || number(r) == 1) && kept;
+            assert_eq!(refused(run(room, 80)), room < tx, "tx of {room}");
+            assert_eq!(refused(run(80, room)), room < rx, "rx of {room}");
+            assert_eq!(run(room.min(1), 80).2, 0);
+        }
+    }
+    // what a RAM write sends is lent when it is sent: shorter than it was started with, nothing goes out
+    let mut m = prepared();
+    let end = run(&mut m.line, of_ram(write_ram_start(0x400, 8)), &BYTES[..7], &mut [], &mut [0; 80], &mut []);
+    assert_eq!((end, m.line.exchanges), (Outcome::Refused(Refusal::SpiWrite), 0));
+}
+
+/// The modelled chip's own answers.
+#[test]
+fn the_chip() {
+    let mut m = prepared();
+    assert_eq!(m.push(1, HEADER, 5, &BYTES), Ok(()));
+    let slot = m.line.chip.held_at(1, 0).unwrap().unwrap();
+    assert_eq!((slot.reading, slot.frame.header, slot.frame.seq, slot.frame.payload.len), (Reading::Whole, HEADER, 5, 8));
+    assert_eq!(slot.frame.payload.bytes[..8], BYTES);
+    assert_eq!(m.line.chip.held_at(1, 1), Ok(None));
+    assert_eq!((m.line.chip.held(0), m.line.chip.held_at(32, 0)), (Err(Refusal::BadNumber), Err(Refusal::BadNumber)));
+    assert_eq!(m.line.chip.send(1).0, Sending::Nothing); // not requested
+    // a classic DLC of 9 in the slot: taken, and no frame
+    assert_eq!((m.request(1), m.write_ram(0x404, &[9, 0, 0, 0])), (Ok(()), Ok(())));
+    assert!(matches!(m.line.chip.held_at(1, 0).unwrap().unwrap().reading, Reading::Bad(Refusal::BadDlc)));
+    assert_eq!((m.line.chip.send(1).0, m.line.chip.send(1).0), (Sending::NoFrame, Sending::Nothing));
+    assert_eq!(m.line.chip.send(0).0, Sending::Refused(Refusal::BadNumber));
+    // 22 messages of 64 bytes do not fit: 27 on the chip's side, 12 on the driver's
+    let deep = FifoConfiguration { size: 22, plsize: 7, ..sender() };
+    assert_eq!((m.set_op_mode(4), m.configure_fifo(1, deep), told(m.set_op_mode(0))), (Ok(()), Ok(()), 12));
+    assert_eq!((m.line.chip.no_layout, m.get_op_mode()), (1, Ok(4)));
+}
