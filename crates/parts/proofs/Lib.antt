@@ -1,2 +1,3 @@
 mod Middle
+mod Turns
 pub mod Laws

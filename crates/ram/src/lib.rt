@@ -107,7 +107,7 @@ fn after_echo(rx: &[u8]) -> RamCall
     ensures { λ r. ⌜ r ≡ afterEcho (now (rx .entry)) ⌝ }
 {
     let p = echo_pattern();
-    if check::same(rx, &p) {
+    if parts::same(rx, &p) {
         RamCall::Done
     } else {
         RamCall::Refused(Refusal::SpiFailedRamEcho)

@@ -11,4 +11,4 @@ put-at-spec =
     tie.close
     (tie.spec (search needs) (search needs) (search needs) (search needs)
     (λ c κs. search needs) (search needs)
-    (λ c. let s = c .before .before .before .before .before .before .args in middle (now (s .buf)) (now (s .src)) _ (s .at) (c .before .before .copy .ensures .1)))
+    (λ c. let s = c .before .before .before .before .before .before .args in middle (now (s .buf)) (now (s .src)) _ (s .at) (c .before .before .copy .ensures)))
