@@ -9,7 +9,7 @@
 //! The package depends on nothing: this is `examples/hal.rs`, to be copied.
 //!
 //! ```ignore
-#![doc = include_str!("../examples/hal.rs")]
+#![cfg_attr(doc, doc = include_str!("../examples/hal.rs"))]
 //! ```
 #![no_std]
 #![forbid(unsafe_code)]
@@ -18,7 +18,6 @@
 #[cfg(target_pointer_width = "16")]
 compile_error!("a usize of 16 bits is too small for the modelled chip's sums, and was never tried");
 
-mod kit;
 mod mcp;
 #[allow(dead_code, unused_imports, missing_docs, clippy::all)]
 mod proved;
@@ -40,7 +39,7 @@ pub use proved::areas::FilterMode;
 pub use proved::areas::Identifier;
 /// Of a FIFO that receives: timestamps (RXTSEN), and its interrupt enables.
 pub use proved::areas::RxFifo;
-/// Of a FIFO that sends: priority 0 to 31, TXAT (0 no retransmission, 1 three attempts, 2 and 3 unlimited), RTREN, and its interrupt enables.
+/// Of a FIFO that sends: priority 0 to 31, TXAT (0 no retransmission, 1 three attempts, 2 and 3 unlimited), RTREN, interrupt enables.
 pub use proved::areas::TxFifo;
 /// Both bit rates.
 pub use proved::changes::BitTimeConfiguration;
@@ -74,7 +73,7 @@ pub use proved::numbers::number;
 /// | 8 | `FifoFull` | push on a full FIFO |
 /// | 9 | `FifoNotRx` | has-next, peek or get on a FIFO that sends |
 /// | 10 | `CrcMismatch` | three checked reads in a row mismatched |
-/// | 11 | `ConfigurationModeTimeout` | in `configure`, five polls without the mode; in a configuration, mode or echo call, a failed exchange |
+/// | 11 | `ConfigurationModeTimeout` | `configure`: five polls without the mode; a failed exchange in a call that [`Mcp`] names for it |
 /// | 12 | `ChangeOpModeTimeout` | `set_op_mode`: five polls without the mode |
 /// | 13 | `SpiFailedRamEcho` | an echo differed |
 /// | 14 | `PllNotReady` | three polls without PLLRDY |

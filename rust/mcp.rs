@@ -91,7 +91,7 @@ impl<L: Line> Mcp<L> {
         Mcp { line }
     }
 
-    /// Every call but `verify_long` and those on RAM: the longest body is a push's object, 72 bytes, and a payload's 64 are the most wanted.
+    /// Every call but `verify_long` and those on RAM: the longest body is a push's object, 72 bytes, and the most wanted a payload's 64.
     fn short(&mut self, call: Call, buf: &mut [u8]) -> Outcome {
         run(&mut self.line, call, &[], buf, &mut [0; 74], &mut [0; 64])
     }

@@ -1,5 +1,5 @@
 //! The modelled chip from C: memory of the caller's that `mcp_chip_new` makes a chip of.
-use crate::{bytes, bytes_mut, fifo_number, layout, there, CHeader, NULL};
+use crate::{bytes, fifo_number, layout, lent, there, CHeader, NULL};
 use core::ffi::{c_int, c_void};
 use core::mem::{align_of, offset_of, size_of};
 use masevuru::chip::{Chip, Decoded, Delivery, Frame, Reading, Sending};
@@ -92,9 +92,23 @@ pub unsafe extern "C" fn mcp_chip_new(p: *mut CChip) -> c_int {
     0
 }
 
+/// `rx` may be uninitialised: it is zeros before it is a slice.
+unsafe fn zeros<'a>(rx: *mut u8, len: usize) -> Option<&'a mut [u8]> {
+    lent(rx, len)?;
+    if len == 0 {
+        return Some(&mut []);
+    }
+    rx.write_bytes(0, len);
+    Some(core::slice::from_raw_parts_mut(rx, len))
+}
+
 #[no_mangle]
 pub unsafe extern "C" fn mcp_chip_transfer(p: *mut c_void, tx: *const u8, tx_len: usize, rx: *mut u8, rx_len: usize) -> c_int {
-    (|| Some(chip(p.cast())?.transfer(bytes(tx, tx_len)?, bytes_mut(rx, rx_len)?).map_or(1, |()| 0)))().unwrap_or(NULL)
+    (|| {
+        let (chip, tx) = (chip(p.cast())?, bytes(tx, tx_len)?);
+        Some(chip.transfer(tx, zeros(rx, rx_len)?).map_or(1, |()| 0))
+    })()
+    .unwrap_or(NULL)
 }
 
 #[no_mangle]

@@ -86,7 +86,8 @@ static int is_answer(int call, int r)
     static const struct { int failed[2], others[9]; } has[KINDS] = {
         [RESET] = { { 2 }, { 0 } }, [READ] = { { 1 }, { 24 } }, [WRITE] = { { 1 }, { 24 } }, [MODIFY] = { { 1 }, { 24 } },
         [CHECKED] = { { 1 }, { 24, 10 } }, [READ_RAM] = { { 1 }, { 3, 4 } }, [WRITE_RAM] = { { 2 }, { 3, 5 } },
-        [VERIFY] = { { 11 }, { 13 } }, [VERIFY_LONG] = { { 11 }, { 13 } }, [SET_MODE] = { { 11 }, { 24, 12 } }, [GET_MODE] = { { 1 }, { 0 } },
+        [VERIFY] = { { 11 }, { 13 } }, [VERIFY_LONG] = { { 11 }, { 13 } }, [SET_MODE] = { { 11 }, { 24, 12 } },
+        [GET_MODE] = { { 1 }, { 0 } },
         [CONFIGURE] = { { 11 }, { 24, 11, 13, 14 } }, [OSC] = { { 11 }, { 14 } }, [IO] = { { 11 }, { 0 } }, [TIMING] = { { 11 }, { 24 } },
         [FIFO] = { { 1 }, { 20, 24 } }, [FILTER] = { { 1 }, { 20, 21, 24 } }, [DISABLE] = { { 1 }, { 20 } },
         [PUSH] = { { 1, 2 }, { 20, 21, 24, 22, 6, 7, 8, 25, 3 } }, [REQUEST] = { { 1 }, { 20 } },
@@ -237,7 +238,8 @@ int main(int argc, char **argv)
         } else {
             size_t filled = call == READ_RAM ? len : 0;
             if (call == PEEK || call == GET) {
-                IS(out.message.found <= 1 && out.message.stamped <= out.message.found && out.message.len <= 64 * out.message.found);
+                IS(len >= 64 && out.message.found <= 1 && out.message.stamped <= out.message.found);
+                IS(out.message.len <= 64 * out.message.found);
                 filled = out.message.len;
             }
             IS(!memcmp(out.to + filled, before.to + filled, sizeof out.to - filled));

@@ -61,14 +61,8 @@ pub struct CHeader {
 
 impl CHeader {
     fn header(self) -> Header {
-        Header {
-            extended: self.extended != 0,
-            id: self.id,
-            rtr: self.rtr != 0,
-            brs: self.brs != 0,
-            fdf: self.fdf != 0,
-            esi: self.esi != 0,
-        }
+        let [extended, rtr, brs, fdf, esi] = [self.extended, self.rtr, self.brs, self.fdf, self.esi].map(|flag| flag != 0);
+        Header { extended, id: self.id, rtr, brs, fdf, esi }
     }
 
     fn of(h: Header) -> CHeader {
@@ -196,13 +190,11 @@ macro_rules! layout {
         const _: () = assert!(size_of::<$type>() == $size $(&& offset_of!($type, $field) == $at)*);
     )* };
 }
+#[cfg(feature = "chip")]
 pub(crate) use layout;
 
-/// The size of a pointer.
-const P: usize = size_of::<*const c_void>();
-
 layout! {
-    CLine 4 * P, transfer 0, wait P, context 2 * P, value 3 * P;
+    CLine 4 * size_of::<usize>(), transfer 0, wait size_of::<usize>(), context 2 * size_of::<usize>(), value 3 * size_of::<usize>();
     CHeader 12, id 0, extended 4, rtr 5, brs 6, fdf 7, esi 8;
     CMessage 20, header 0, time 12, found 16, stamped 17, len 18;
     COscillator 2, pll 0, divide 1;
@@ -317,23 +309,15 @@ fn register_address(a: u32) -> u16 {
     u16::try_from(a).unwrap_or(0xFFFF)
 }
 
-/// The bytes at a pointer; none where it is NULL and the length isn't 0, or where no object is so long.
-unsafe fn bytes<'a>(p: *const u8, len: usize) -> Option<&'a [u8]> {
-    match (p.is_null(), len) {
-        (_, 0) => Some(&[]),
-        (true, _) => None,
-        _ if len > isize::MAX as usize => None,
-        _ => Some(core::slice::from_raw_parts(p, len)),
-    }
+/// Whether a pointer and a length are a buffer: not where it is NULL and the length isn't 0, nor where no object is so long.
+fn lent(p: *const u8, len: usize) -> Option<()> {
+    ((len == 0 || !p.is_null()) && len <= isize::MAX as usize).then_some(())
 }
 
-unsafe fn bytes_mut<'a>(p: *mut u8, len: usize) -> Option<&'a mut [u8]> {
-    match (p.is_null(), len) {
-        (_, 0) => Some(&mut []),
-        (true, _) => None,
-        _ if len > isize::MAX as usize => None,
-        _ => Some(core::slice::from_raw_parts_mut(p, len)),
-    }
+/// The bytes that C lends to be read.
+unsafe fn bytes<'a>(p: *const u8, len: usize) -> Option<&'a [u8]> {
+    lent(p, len)?;
+    Some(if len == 0 { &[] } else { core::slice::from_raw_parts(p, len) })
 }
 
 /// The driver over a copy of the line: what is at the pointer is not looked at again.
@@ -344,9 +328,42 @@ unsafe fn mcp(line: *const CLine) -> Option<Mcp<CLine>> {
     Some(Mcp::new(line))
 }
 
-/// A pointer to what a call writes, which may be uninitialised: never a reference.
+/// A pointer to what a call writes. It may be uninitialised, so it is never made a reference or a slice, only written through.
 fn there<T>(p: *mut T) -> Option<()> {
     (!p.is_null()).then_some(())
+}
+
+/// A RAM read as `Mcp::read_ram` makes it, with the bytes received going from its scratch to `buf` where it is done.
+unsafe fn read_ram(m: &mut Mcp<CLine>, address: u32, buf: *mut u8, len: usize) -> Result<(), Refusal> {
+    let mut rx = [0; 2048];
+    let call = calls::of_ram(calls::read_ram_start(address, len, 0, len));
+    match (run(&mut m.line, call, &[], &mut [], &mut [0; 2], &mut rx), rx.get(..len)) {
+        (calls::Outcome::Done, Some([])) => Ok(()), // `buf` may be NULL
+        (calls::Outcome::Done, Some(received)) => {
+            buf.copy_from_nonoverlapping(received.as_ptr(), len);
+            Ok(())
+        }
+        (calls::Outcome::Refused(r), _) => Err(r),
+        _ => Err(Refusal::WrongAnswer),
+    }
+}
+
+/// A peek or a get, with the payload going from a buffer of its own to `buf`, which has 64 bytes where there is one.
+unsafe fn fetch(
+    buf: *mut u8,
+    room: usize,
+    message: *mut CMessage,
+    call: impl FnOnce(&mut [u8]) -> Result<Option<Received>, Refusal>,
+) -> Option<Result<(), Refusal>> {
+    lent(buf, room)?;
+    there(message)?;
+    let mut own = [0; 64];
+    Some(call(&mut own[..room.min(64)]).map(|found| {
+        if let Some(r) = found {
+            buf.copy_from_nonoverlapping(own.as_ptr(), r.len.min(64));
+        }
+        message.write(CMessage::of(found));
+    }))
 }
 
 /// The number of a call's answer; what a refusal carries goes to the line's `value`.
@@ -363,8 +380,8 @@ unsafe fn told(line: &CLine, answer: Result<(), Refusal>) -> c_int {
     number(r) as c_int
 }
 
-/// `$name($m, values) = body`: an exported function. `$m` is the driver over the line; the body ends in the call's answer, and in None (`?`)
-/// before it makes the call where a pointer is NULL that must not be.
+/// `$name($m, values) = body`: an exported function. `$m` is the driver over the line; the body ends in the call's answer, or before it
+/// makes the call in None (`?`), where a pointer is NULL that must not be.
 macro_rules! exported {
     ($($name:ident($m:ident $(, $value:ident: $type:ty)*) = $body:expr;)*) => { $(
         #[no_mangle]
@@ -391,7 +408,10 @@ exported! {
         there(word)?;
         m.checked_read(register_address(address)).map(|w| word.write(w))
     };
-    mcp_read_ram(m, address: u32, buf: *mut u8, len: usize) = m.read_ram(address, bytes_mut(buf, len)?);
+    mcp_read_ram(m, address: u32, buf: *mut u8, len: usize) = {
+        lent(buf, len)?;
+        read_ram(&mut m, address, buf, len)
+    };
     mcp_write_ram(m, address: u32, from: *const u8, len: usize) = m.write_ram(address, bytes(from, len)?);
     mcp_verify(m) = m.verify();
     mcp_verify_long(m) = m.verify_long();
@@ -419,11 +439,9 @@ exported! {
         m.has_next(fifo_number(fifo)).map(|n| next.write(n as u8))
     };
     mcp_peek(m, fifo: u32, buf: *mut u8, room: usize, message: *mut CMessage) = {
-        there(message)?;
-        m.peek(fifo_number(fifo), bytes_mut(buf, room)?).map(|r| message.write(CMessage::of(r)))
+        fetch(buf, room, message, |own| m.peek(fifo_number(fifo), own))?
     };
     mcp_get(m, fifo: u32, buf: *mut u8, room: usize, message: *mut CMessage) = {
-        there(message)?;
-        m.get(fifo_number(fifo), bytes_mut(buf, room)?).map(|r| message.write(CMessage::of(r)))
+        fetch(buf, room, message, |own| m.get(fifo_number(fifo), own))?
     };
 }

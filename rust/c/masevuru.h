@@ -2,14 +2,15 @@
  *
  * A call runs to its end over the two functions of a line. It answers 0 where it is done; document 01's number where it is refused; or
  * MCP_NULL, which is none of these. A refused call has asked for no exchange after the one that it was refused at, and has changed no
- * byte that was lent to it; what a call writes elsewhere (*word, *message and so on) is written only where it answers 0.
+ * byte that was lent to it; what a call writes elsewhere (*word, *message and so on) is written only where it answers 0. What a call writes
+ * to need not be initialised.
  *
  * What the caller keeps to:
  * - A pointer is NULL or points to what its type says, as many as the length beside it, and aligned.
  * - What a call writes to overlaps nothing else that it was given, and nobody else touches what a call was given until it has returned:
  *   not the line's functions, no interrupt, no other task. What they share with others is at the line's context.
- * - One call at a time on one chip, and none from inside a line's functions. Nothing is kept between calls, in the library or elsewhere:
- *   calls on two chips may run at once. */
+ * - One call at a time on one chip: the line's functions make none on their own. Nothing is kept between calls, and nothing but the stack
+ *   is used: calls on two chips may run at once. */
 #ifndef MASEVURU_H
 #define MASEVURU_H
 
@@ -60,7 +61,7 @@ typedef int (*mcp_transfer)(void *context, const uint8_t *tx, size_t tx_len, uin
 typedef void (*mcp_wait)(void *context, uint32_t microseconds);
 
 /* value is NULL, or where a call that answers 3, 4 or 5 puts the address or the length that the refusal carries: of a push, a peek or a
- * get, where in RAM the message would have been. No other answer changes it. */
+ * get the address of that part of the message which does not lie in RAM. No other answer changes it. */
 typedef struct {
     mcp_transfer transfer;
     mcp_wait wait;

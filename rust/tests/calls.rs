@@ -173,7 +173,7 @@ fn a_failed_push_leaves_the_chip() {
     }
 }
 
-/// A mode that the polls show late or never: five polls with four waits; a CRC that mismatches; an echo that differs; a PLL that is not ready.
+/// A mode that the polls show late or never: five polls with four waits; a CRC that mismatches; an echo that differs; a PLL not ready.
 #[test]
 fn late_and_wrong_answers() {
     let shown = |mut mcp: Driver, call: fn(&mut Driver) -> u32| (call(&mut mcp), mcp.line.exchanges, mcp.line.waits);
@@ -203,8 +203,9 @@ fn late_and_wrong_answers() {
     assert_eq!(shown(twisted(|k, rx| if k == 64 { rx[3] = 0 }), |m| told(m.verify())), (13, 64, 0));
     assert_eq!(shown(twisted(|k, rx| if k == 2 { rx[127] = 0 }), |m| told(m.verify_long())), (13, 2, 0));
     // PLLRDY is bit 8; polls are 3 to 5
-    assert_eq!(shown(twisted(|k, rx| if k >= 3 { rx[1] = 0 }), |m| told(m.configure_osc(settings(true).oscillator))), (14, 5, 2));
-    assert_eq!(shown(twisted(|k, rx| if (3..5).contains(&k) { rx[1] = 0 }), |m| told(m.configure_osc(settings(true).oscillator))), (0, 5, 2));
+    let pll = |m: &mut Driver| told(m.configure_osc(settings(true).oscillator));
+    assert_eq!(shown(twisted(|k, rx| if k >= 3 { rx[1] = 0 }), pll), (14, 5, 2));
+    assert_eq!(shown(twisted(|k, rx| if (3..5).contains(&k) { rx[1] = 0 }), pll), (0, 5, 2));
 }
 
 /// What is refused before any exchange, or later for what the chip answers; no lent byte is changed.
@@ -265,7 +266,11 @@ fn lent_bytes() {
     let mut buf = [0x5A; 72];
     assert_eq!((m.write_ram(0xBF8, &BYTES), m.read_ram(0xBF8, &mut buf[..8])), (Ok(()), Ok(())));
     assert_eq!((&buf[..8], &buf[8..]), (&BYTES[..], &[0x5A; 64][..]));
-    assert_eq!(m.read_ram(0xC00, &mut []), Ok(())); // length 0 in range is an exchange
+    // all of the RAM; length 0 in range is an exchange
+    let (whole, mut all) = (core::array::from_fn::<u8, 2048, _>(|i| (i * 7 / 3) as u8), [0; 2048]);
+    m.line.exchanges = 0;
+    assert_eq!((m.write_ram(0x400, &whole), m.read_ram(0x400, &mut all), m.read_ram(0xC00, &mut [])), (Ok(()), Ok(()), Ok(())));
+    assert_eq!((all == whole, m.line.exchanges), (true, 3));
 }
 
 /// A call, how many bytes of `tx` and of `rx` it needs, and what it is refused by where `tx` is too short for its longest exchange.

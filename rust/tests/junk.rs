@@ -1,5 +1,6 @@
-//! Random calls with random numbers over a line that answers junk, fails and otherwise is the modelled chip. None may panic, send what is no
-//! instruction, go on after a failed exchange, change a byte where it is refused, or be refused for what document 01 does not have for it.
+//! Random calls with random numbers over a line that answers junk, fails and otherwise is the modelled chip. None may panic, send what is
+//! no instruction, go on after a failed exchange, change a byte where it is refused, or be refused for what document 01 does not have
+//! for it.
 use masevuru::calls::*;
 use masevuru::chip::Chip;
 use masevuru::*;
@@ -147,8 +148,9 @@ fn given(l: &mut Junk) -> Given {
     let [a, b, c] = [l.number(), l.number(), l.number()];
     let flags: [bool; 16] = core::array::from_fn(|_| l.flag());
     let to = |n: u32, most: u32| if fits { n % most } else { n };
-    let tx = TxFifo { txpri: to(a, 32), txat: to(b, 4), rtren: flags[0], txatie: flags[1], empty: flags[2], half: flags[3], notfull: flags[4] };
-    let rx = RxFifo { rxtsen: flags[0], rxovie: flags[1], full: flags[2], half: flags[3], notempty: flags[4] };
+    let [rtren, txatie, empty, half, notfull, ..] = flags;
+    let tx = TxFifo { txpri: to(a, 32), txat: to(b, 4), rtren, txatie, empty, half, notfull };
+    let rx = RxFifo { rxtsen: rtren, rxovie: txatie, full: empty, half, notempty: notfull };
     let kind = [FilterMode::Standard, FilterMode::Extended, FilterMode::Both][l.below(3)];
     let (object, mask) = (Identifier { extended: flags[5], id: to(a, 0x800) }, Identifier { extended: flags[6], id: to(b, 0x800) });
     Given {
@@ -205,7 +207,7 @@ fn a_hundred_thousand() {
             settle(&mut mcp);
         }
         let g = given(&mut mcp.line);
-        let call = mcp.line.below(24);
+        let (call, room) = (mcp.line.below(24), g.len * 4 % 4096);
         mcp.line.rough = [4, 16, 64][mcp.line.below(3)];
         (mcp.line.asked, mcp.line.failed) = (0, false);
         // how many bytes at the front of `buf` a call that is done has filled
@@ -234,13 +236,14 @@ fn a_hundred_thousand() {
             20 => mcp.transmit(g.fifo, g.header, g.b % 0x80_0000, &bytes[..g.len]),
             21 => mcp.has_next(g.fifo).map(|_| ()),
             _ => {
-                let lent = &mut buf[..g.len * 4 % 4096];
+                let lent = &mut buf[..room];
                 let found = if call == 22 { mcp.peek(g.fifo, lent) } else { mcp.get(g.fifo, lent) };
                 found.map(|r| filled = r.map_or(0, |r| r.len))
             }
         };
         judge(call, answer, &mcp.line);
         assert!(filled <= if call > 21 { 64 } else { g.len });
+        assert!(call < 22 || answer.is_err() || room >= 64, "done with a buffer of {room}");
         assert_eq!(buf[filled..], before[filled..], "{} changed what it was not to fill", ROWS[call].0);
         buf[..filled].fill(0x5A);
         counts[answer.map_or_else(number, |()| 0) as usize] += 1;
