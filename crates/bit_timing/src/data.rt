@@ -1,6 +1,7 @@
 // Data bit time, CiDBTCFG.
 ghost use mathlib.Core.Path.{_≡_};
 ghost use Rattle.field.specs.Field.{read, write, Fits};
+ghost use Rattle.field.specs.Register.{Carries};
 ghost use Rattle.bit_timing.specs.Data.{CiDBTCFG, SJW, TSEG2, TSEG1, BRP};
 
 pub struct DataBitTimeConfiguration(pub u32);
@@ -17,7 +18,7 @@ impl DataBitTimeConfiguration {
     }
 
     pub fn reset() -> DataBitTimeConfiguration
-        ensures { λ r. ⌜ r .0 ≡ CiDBTCFG .reset ⌝ }
+        ensures { λ r. do ⌜ Carries CiDBTCFG 0 (r .0) (← ⟦Self::RESET⟧ .entry) (← ⟦Self::ADDRESS⟧ .entry) ⌝ }
     {
         DataBitTimeConfiguration(Self::RESET)
     }

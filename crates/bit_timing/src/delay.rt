@@ -2,6 +2,7 @@
 ghost use mathlib.Core.Path.{_≡_};
 ghost use Prim.Native.Nat.{min};
 ghost use Rattle.field.specs.Field.{read, write, Fits, flag, mark};
+ghost use Rattle.field.specs.Register.{Carries};
 ghost use Rattle.bit_timing.specs.Delay.{CiTDC, TDCV, TDCO, TDCMOD, SID11EN, EDGFLTEN};
 ghost use Rattle.bit_timing.specs.Signed.{sevenOf, numberOf, Small};
 use crate::signed;
@@ -20,7 +21,7 @@ impl TransmitterDelayCompensation {
     }
 
     pub fn reset() -> TransmitterDelayCompensation
-        ensures { λ r. ⌜ r .0 ≡ CiTDC .reset ⌝ }
+        ensures { λ r. do ⌜ Carries CiTDC 0 (r .0) (← ⟦Self::RESET⟧ .entry) (← ⟦Self::ADDRESS⟧ .entry) ⌝ }
     {
         TransmitterDelayCompensation(Self::RESET)
     }

@@ -1,6 +1,7 @@
 // Nominal bit time, CiNBTCFG.
 ghost use mathlib.Core.Path.{_≡_};
 ghost use Rattle.field.specs.Field.{read, write, Fits};
+ghost use Rattle.field.specs.Register.{Carries};
 ghost use Rattle.bit_timing.specs.Nominal.{CiNBTCFG, SJW, TSEG2, TSEG1, BRP};
 
 pub struct NominalBitTimeConfiguration(pub u32);
@@ -17,7 +18,7 @@ impl NominalBitTimeConfiguration {
     }
 
     pub fn reset() -> NominalBitTimeConfiguration
-        ensures { λ r. ⌜ r .0 ≡ CiNBTCFG .reset ⌝ }
+        ensures { λ r. do ⌜ Carries CiNBTCFG 0 (r .0) (← ⟦Self::RESET⟧ .entry) (← ⟦Self::ADDRESS⟧ .entry) ⌝ }
     {
         NominalBitTimeConfiguration(Self::RESET)
     }

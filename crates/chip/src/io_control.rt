@@ -2,6 +2,7 @@
 ghost use mathlib.Core.Path.{_≡_};
 ghost use Prim.Native.Nat.{_%_};
 ghost use Rattle.field.specs.Field.{flag, mark};
+ghost use Rattle.field.specs.Register.{Carries};
 ghost use Rattle.chip.specs.IoControl.{IOCON, TRIS, LAT, GPIO, PM, XSTBYEN, TXCANOD, SOF, INTOD};
 
 pub struct IoControl(pub u32);
@@ -18,7 +19,7 @@ impl IoControl {
     }
 
     pub fn reset() -> IoControl
-        ensures { λ r. ⌜ r .0 ≡ IOCON .reset ⌝ }
+        ensures { λ r. do ⌜ Carries IOCON 0 (r .0) (← ⟦Self::RESET⟧ .entry) (← ⟦Self::ADDRESS⟧ .entry) ⌝ }
     {
         IoControl(Self::RESET)
     }

@@ -1,6 +1,7 @@
 // Oscillator control, OSC.
 ghost use mathlib.Core.Path.{_≡_};
 ghost use Rattle.field.specs.Field.{read, write, Fits, flag, mark};
+ghost use Rattle.field.specs.Register.{Carries};
 ghost use Rattle.chip.specs.OscillatorControl.{OSC, PLLEN, OSCDIS, LPMEN, SCLKDIV, CLKODIV, PLLRDY, OSCRDY, SCLKRDY};
 
 pub struct OscillatorControl(pub u32);
@@ -17,7 +18,7 @@ impl OscillatorControl {
     }
 
     pub fn reset() -> OscillatorControl
-        ensures { λ r. ⌜ r .0 ≡ OSC .reset ⌝ }
+        ensures { λ r. do ⌜ Carries OSC 0 (r .0) (← ⟦Self::RESET⟧ .entry) (← ⟦Self::ADDRESS⟧ .entry) ⌝ }
     {
         OscillatorControl(Self::RESET)
     }

@@ -1,6 +1,7 @@
 // CAN control, CiCON.
 ghost use mathlib.Core.Path.{_≡_};
 ghost use Rattle.field.specs.Field.{read, write, Fits, flag, mark};
+ghost use Rattle.field.specs.Register.{Carries};
 ghost use Rattle.configuration.specs.CanControl.{CiCON, DNCNT, ISOCRCEN, PXEDIS, WAKFIL, WFT, BUSY, BRSDIS, RTXAT, ESIGM, SERR2LOM, STEF, TXQEN, OPMOD, REQOP, ABAT, TXBWS};
 
 pub struct CanControl(pub u32);
@@ -17,7 +18,7 @@ impl CanControl {
     }
 
     pub fn reset() -> CanControl
-        ensures { λ r. ⌜ r .0 ≡ CiCON .reset ⌝ }
+        ensures { λ r. do ⌜ Carries CiCON 0 (r .0) (← ⟦Self::RESET⟧ .entry) (← ⟦Self::ADDRESS⟧ .entry) ⌝ }
     {
         CanControl(Self::RESET)
     }

@@ -1,6 +1,7 @@
 // Time stamp control, CiTSCON.
 ghost use mathlib.Core.Path.{_≡_};
 ghost use Rattle.field.specs.Field.{read, write, Fits, flag, mark};
+ghost use Rattle.field.specs.Register.{Carries};
 ghost use Rattle.configuration.specs.TimeStampControl.{CiTSCON, TBCPRE, TBCEN, TSEOF, TSRES};
 
 pub struct TimeStampControl(pub u32);
@@ -17,7 +18,7 @@ impl TimeStampControl {
     }
 
     pub fn reset() -> TimeStampControl
-        ensures { λ r. ⌜ r .0 ≡ CiTSCON .reset ⌝ }
+        ensures { λ r. do ⌜ Carries CiTSCON 0 (r .0) (← ⟦Self::RESET⟧ .entry) (← ⟦Self::ADDRESS⟧ .entry) ⌝ }
     {
         TimeStampControl(Self::RESET)
     }

@@ -64,3 +64,14 @@ FilterWrites =
     → Writes (objectChange f (c .object) (c .mode)) (objectSettings (c .object) (c .mode))
     × Writes (maskChange f (c .mask) (c .mode)) (maskSettings (c .mask) (c .mode))
     × Writes (onChange f (c .fifo)) (onSettings f (c .fifo))
+
+-- all of them
+pub record Laws : Type 0 where
+  pub modeWrites : ModeWrites
+  pub oscillatorWrites : OscillatorWrites
+  pub ioWrites : IoWrites
+  pub timingWrites : TimingWrites
+  pub configureWrites : ConfigureWrites
+  pub fifoWrites : FifoWrites
+  pub offWrites : OffWrites
+  pub filterWrites : FilterWrites

@@ -3,6 +3,7 @@ ghost use mathlib.Core.Path.{_≡_};
 ghost use Prim.Native.Nat.{_+_, _<_, min};
 ghost use lib.ListN.{getD};
 ghost use Rattle.field.specs.Field.{read, write, Fits, flag, mark};
+ghost use Rattle.field.specs.Register.{Carries};
 ghost use Rattle.fifo.specs.Control.{CiFIFOCON, TFNRFNIE, TFHRFHIE, TFERFFIE, RXOVIE, TXATIE, RXTSEN, RTREN, TXEN, UINC, TXREQ, FRESET, TXPRI, TXAT, FSIZE, PLSIZE, payloads, payloadOf, storedSize, isFifo};
 
 // What PLSIZE means, in bytes.
@@ -40,7 +41,7 @@ impl FifoControl {
     }
 
     pub fn reset() -> FifoControl
-        ensures { λ r. ⌜ r .0 ≡ CiFIFOCON .reset ⌝ }
+        ensures { λ r. do ⌜ Carries CiFIFOCON 1 (r .0) (← ⟦Self::RESET⟧ .entry) (← ⟦Self::FIRST⟧ .entry) ⌝ }
     {
         FifoControl(Self::RESET)
     }

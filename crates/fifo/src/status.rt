@@ -1,6 +1,7 @@
 // FIFO status, CiFIFOSTAn.
 ghost use mathlib.Core.Path.{_≡_};
 ghost use Rattle.field.specs.Field.{read, write, Fits, flag, mark};
+ghost use Rattle.field.specs.Register.{Carries};
 ghost use Rattle.fifo.specs.Status.{CiFIFOSTA, TFNRFNIF, TFHRFHIF, TFERFFIF, RXOVIF, TXATIF, TXERR, TXLARB, TXABT, FIFOCI};
 
 pub struct FifoStatus(pub u32);
@@ -18,7 +19,7 @@ impl FifoStatus {
     }
 
     pub fn reset() -> FifoStatus
-        ensures { λ r. ⌜ r .0 ≡ CiFIFOSTA .reset ⌝ }
+        ensures { λ r. do ⌜ Carries CiFIFOSTA 1 (r .0) (← ⟦Self::RESET⟧ .entry) (← ⟦Self::FIRST⟧ .entry) ⌝ }
     {
         FifoStatus(Self::RESET)
     }

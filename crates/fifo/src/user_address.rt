@@ -1,6 +1,7 @@
 // FIFO user address, CiFIFOUAn.
 ghost use mathlib.Core.Path.{_≡_};
 ghost use Rattle.field.specs.Field.{read, write};
+ghost use Rattle.field.specs.Register.{Carries};
 ghost use Rattle.fifo.specs.UserAddress.{CiFIFOUA, FIFOUA};
 
 pub struct UserAddress(pub u32);
@@ -18,7 +19,7 @@ impl UserAddress {
     }
 
     pub fn reset() -> UserAddress
-        ensures { λ r. ⌜ r .0 ≡ CiFIFOUA .reset ⌝ }
+        ensures { λ r. do ⌜ Carries CiFIFOUA 1 (r .0) (← ⟦Self::RESET⟧ .entry) (← ⟦Self::FIRST⟧ .entry) ⌝ }
     {
         UserAddress(Self::RESET)
     }

@@ -2,6 +2,7 @@
 ghost use mathlib.Core.Path.{_≡_};
 ghost use Prim.Native.Nat.{_%_};
 ghost use Rattle.field.specs.Field.{read, write, Fits, flag, mark};
+ghost use Rattle.field.specs.Register.{Carries};
 ghost use Rattle.filter.specs.Control.{CiFLTCON, FBP, FLTEN};
 
 pub struct FilterControl(pub u32);
@@ -19,7 +20,7 @@ impl FilterControl {
     }
 
     pub fn reset() -> FilterControl
-        ensures { λ r. ⌜ r .0 ≡ CiFLTCON .reset ⌝ }
+        ensures { λ r. do ⌜ Carries CiFLTCON 0 (r .0) (← ⟦Self::RESET⟧ .entry) (← ⟦Self::FIRST⟧ .entry) ⌝ }
     {
         FilterControl(Self::RESET)
     }

@@ -1,6 +1,7 @@
 // Filter mask, CiMASKm.
 ghost use mathlib.Core.Path.{_≡_};
 ghost use Rattle.field.specs.Field.{read, write, Fits, flag, mark};
+ghost use Rattle.field.specs.Register.{Carries};
 ghost use Rattle.filter.specs.Mask.{CiMASK, MSID, MEID, MSID11, MIDE};
 
 pub struct FilterMask(pub u32);
@@ -18,7 +19,7 @@ impl FilterMask {
     }
 
     pub fn reset() -> FilterMask
-        ensures { λ r. ⌜ r .0 ≡ CiMASK .reset ⌝ }
+        ensures { λ r. do ⌜ Carries CiMASK 0 (r .0) (← ⟦Self::RESET⟧ .entry) (← ⟦Self::FIRST⟧ .entry) ⌝ }
     {
         FilterMask(Self::RESET)
     }

@@ -1,6 +1,7 @@
 // Filter object, CiFLTOBJm.
 ghost use mathlib.Core.Path.{_≡_};
 ghost use Rattle.field.specs.Field.{read, write, Fits, flag, mark};
+ghost use Rattle.field.specs.Register.{Carries};
 ghost use Rattle.filter.specs.Object.{CiFLTOBJ, SID, EID, SID11, EXIDE};
 
 pub struct FilterObject(pub u32);
@@ -18,7 +19,7 @@ impl FilterObject {
     }
 
     pub fn reset() -> FilterObject
-        ensures { λ r. ⌜ r .0 ≡ CiFLTOBJ .reset ⌝ }
+        ensures { λ r. do ⌜ Carries CiFLTOBJ 0 (r .0) (← ⟦Self::RESET⟧ .entry) (← ⟦Self::FIRST⟧ .entry) ⌝ }
     {
         FilterObject(Self::RESET)
     }

@@ -2,6 +2,7 @@
 ghost use mathlib.Core.Path.{_≡_};
 ghost use Prim.Native.Nat.{_<_};
 ghost use Rattle.field.specs.Field.{flag, mark};
+ghost use Rattle.field.specs.Register.{Carries};
 ghost use Rattle.interrupt.specs.Interrupt.{CiINT, causeBit, IF, IE};
 
 // The data sheet's names without IF and IE.
@@ -55,7 +56,7 @@ impl Interrupt {
     }
 
     pub fn reset() -> Interrupt
-        ensures { λ r. ⌜ r .0 ≡ CiINT .reset ⌝ }
+        ensures { λ r. do ⌜ Carries CiINT 0 (r .0) (← ⟦Self::RESET⟧ .entry) (← ⟦Self::ADDRESS⟧ .entry) ⌝ }
     {
         Interrupt(Self::RESET)
     }

@@ -1,3 +1,4 @@
 mod Objects
 pub mod Checks
 pub mod Round
+pub mod Laws

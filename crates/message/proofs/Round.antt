@@ -2,10 +2,10 @@
 -- Assumes nothing.
 use mathlib.Core.Path.{_≡_, refl, sym, ap, ap₂, _∙_}
 use mathlib.Core.Bool.{Bool, true, false}
-use mathlib.Core.List.{List, _++_, append-assoc}
+use mathlib.Core.List.{List, [], _∷_, _++_, append-assoc}
 use Prim.Native.Nat.{ℕ, _+_, _^_, _≤_, _<_}
 use native.Mathlib.Omega.{arith}
-use lib.ListN.{length, take, drop, length-append, length-replicate, length-take, length-drop}
+use lib.ListN.{length, take, drop, getD, length-append, length-replicate, length-take, length-drop}
 use lib.Seq.{take-append-seam}
 use lib.Dec.{ltb, leb}
 use borrow.Author.Tests.{lt-ltb, le-ltb, le-leb, lt-leb, leb-true, ltb-false}
@@ -15,7 +15,6 @@ use Rattle.field.specs.Field.{read, flag}
 use Rattle.field.proofs.Laws.{field-lt}
 use Rattle.words.specs.Words.{leBytes, leAt, roundUp}
 use Rattle.words.proofs.Laws.{le-back, le-drop, le-length}
-use Rattle.spi.specs.declared.refusal.Refusal.{Refusal}
 use Rattle.header.specs.declared.dlc.Dlc.{Dlc}
 use Rattle.header.specs.declared.dlc.Length.{Length}
 use Rattle.header.specs.declared.Header.{Header}
@@ -24,7 +23,8 @@ use Rattle.message.specs.declared.tx.Checked.{Checked}
 use Rattle.header.specs.Dlc.{dlcOf, lengthOf}
 use Rattle.header.specs.Header.{DLC, FDF, SEQ, topId, word0, word1, headerOf}
 use Rattle.message.specs.Object.{stampBytes, padded, objectBytes}
-use Rattle.message.specs.Message.{Message, checkOf, object, coded, encoding, Decoding, holds, bad, bodyAt, messageIn, byLength, decoding}
+use Rattle.message.specs.Message.{Message, checkOf, object, coded, encoding, Decoding, holds, bodyAt, messageIn, byLength, decoding}
+use Rattle.message.specs.Numbers.{decodingNumbers}
 use Rattle.message.specs.Laws.{Stamped, RoundTrip, meaningful, Back, Lengths, Refuses, Refuses23}
 use Rattle.header.proofs.Dlcs.{length-back, dlc-back, dlc-16}
 use Rattle.message.proofs.Checks.{sound}
@@ -184,7 +184,7 @@ back sending stamped b m e =
 
 -- ---- the refusals
 
-pub refuses : (m : Message) → Refuses m
+pub refuses : Refuses
 unfolding encoding checkOf
 refuses m = record {
   identifier = λ i. rw (lt-ltb (topId (m .header .extended)) (m .header .id) i);
@@ -215,9 +215,12 @@ refuses-23 sending stamped b h =
       λ e. rw (classic-long (flag FDF w) (read DLC w) (e .0) (e .1)),
     )
   where
-    only : (l : Length) → byLength l sending stamped b ≡ bad Refusal.BadDlc → l ≡ Length.Bad
+    other : {l : List ℕ} {A : Type 0} → l ≡ 23 ∷ [] → getD l 0 0 ≡ 0 → A
+    other e z = absurd (omega (arith, sym z ∙ ap (λ (l : List ℕ). getD l 0 0) e))
+
+    only : (l : Length) → decodingNumbers (byLength l sending stamped b) ≡ 23 ∷ [] → l ≡ Length.Bad
     only (Length.Is n) =
-        by-if (λ (x : Decoding). x ≡ bad Refusal.BadDlc → Length.Is n ≡ Length.Bad) (leb (bodyAt stamped + n) (length b))
-        (λ t e. let z : _≡_ {A = ℕ} 0 1 = cc in absurd (omega arith))
-        (λ t e. let z : _≡_ {A = ℕ} 0 1 = cc in absurd (omega arith))
+        by-if (λ (x : Decoding). decodingNumbers x ≡ 23 ∷ [] → Length.Is n ≡ Length.Bad) (leb (bodyAt stamped + n) (length b))
+        (λ t e. other e refl)
+        (λ t e. other e refl)
     only Length.Bad = λ e. refl

@@ -4,18 +4,18 @@ use Prim.Native.Nat.{ℕ, _+_, _^_, _≤_, _<_}
 use mathlib.Core.Path.{_≡_}
 use mathlib.Core.Logic.{_↔_}
 use mathlib.Core.Bool.{Bool, true, false}
-use mathlib.Core.List.{List, _++_}
+use mathlib.Core.List.{List, [], _∷_, _++_}
 use lib.ListN.{length, take, drop}
 use Rattle.laws.specs.If.{if_then_else_}
 use Rattle.field.specs.Field.{read, flag}
 use Rattle.words.specs.Words.{leAt, roundUp}
-use Rattle.spi.specs.declared.refusal.Refusal.{Refusal}
 use Rattle.header.specs.declared.dlc.Dlc.{Dlc}
 use Rattle.message.specs.declared.object.Stamp.{Stamp}
 use Rattle.header.specs.Dlc.{dlcOf}
 use Rattle.header.specs.Header.{DLC, IDE, FDF, topId, meaning0, meaning1}
 use Rattle.message.specs.Object.{stampBytes, objectBytes}
-use Rattle.message.specs.Message.{Message, refused, object, encoding, holds, bad, decoding, bodyAt}
+use Rattle.message.specs.Message.{Message, object, encoding, holds, decoding, bodyAt}
+use Rattle.message.specs.Numbers.{encodingNumbers, decodingNumbers}
 
 -- a timestamp is a word, and is there exactly where RXTSEN is 1
 abbrev pub Stamped : Bool → Stamp → Type 0
@@ -50,18 +50,29 @@ abbrev pub Lengths : Type 0
 Lengths = (m : Message) (bs : List ℕ) → encoding m ≡ object bs → length bs ≡ 8 + length (stampBytes (m .stamp)) + roundUp (length (m .payload))
 
 -- refused exactly so: 21 for the identifier, then 24 for SEQ, then 22 for a length that has no DLC
-pub record Refuses (m : Message) : Type 0 where
-  pub identifier : topId (m .header .extended) < m .header .id → encoding m ≡ refused Refusal.BadIdentifier
-  pub setting : m .header .id ≤ topId (m .header .extended) → 2 ^ 23 ≤ m .seq → encoding m ≡ refused Refusal.BadSetting
+pub record RefusedFor (m : Message) : Type 0 where
+  pub identifier : topId (m .header .extended) < m .header .id → encodingNumbers (encoding m) ≡ 21 ∷ []
+  pub setting : m .header .id ≤ topId (m .header .extended) → 2 ^ 23 ≤ m .seq → encodingNumbers (encoding m) ≡ 24 ∷ []
   pub payload :
       m .header .id ≤ topId (m .header .extended) → m .seq < 2 ^ 23 → dlcOf (m .header .fdf) (length (m .payload)) ≡ Dlc.Bad
-      → encoding m ≡ refused Refusal.BadPayload
+      → encodingNumbers (encoding m) ≡ 22 ∷ []
   pub none :
       (d : ℕ) → m .header .id ≤ topId (m .header .extended) → m .seq < 2 ^ 23 → dlcOf (m .header .fdf) (length (m .payload)) ≡ Dlc.Is d
       → (bs : List ℕ) × (encoding m ≡ object bs)
+
+abbrev pub Refuses : Type 0
+Refuses = (m : Message) → RefusedFor m
 
 -- a received object that has its header is refused exactly so: 23 for a classic frame with a DLC above 8
 abbrev pub Refuses23 : Type 0
 Refuses23 =
     (sending stamped : Bool) (b : List ℕ) → bodyAt stamped ≤ length b
-    → (decoding sending stamped b ≡ bad Refusal.BadDlc) ↔ ((flag FDF (leAt b 4) ≡ false) × (8 < read DLC (leAt b 4)))
+    → (decodingNumbers (decoding sending stamped b) ≡ 23 ∷ []) ↔ ((flag FDF (leAt b 4) ≡ false) × (8 < read DLC (leAt b 4)))
+
+-- all of them
+pub record Laws : Type 0 where
+  pub roundTrip : RoundTrip
+  pub back : Back
+  pub lengths : Lengths
+  pub refuses : Refuses
+  pub refuses23 : Refuses23

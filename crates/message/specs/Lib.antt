@@ -1,4 +1,5 @@
 pub mod Object
 pub mod Message
 pub mod Structs
+pub mod Numbers
 pub mod Laws

@@ -2,3 +2,4 @@ mod Arms
 pub mod Changes
 pub mod Places
 pub mod Runs
+pub mod Laws

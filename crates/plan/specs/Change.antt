@@ -27,3 +27,7 @@ changeOf address ss = settingAll ss (record { address = address; keep = 2 ^ 32 -
 -- it writes what the fields set one after the other make of the word read
 abbrev pub ChangeSets : Type 0
 ChangeSets = (address : ℕ) (ss : List Setting) (w : ℕ) → w < 2 ^ 32 → AllFit ss → modified (changeOf address ss) w ≡ settings ss w
+
+-- what is proved of changes
+pub record Laws : Type 0 where
+  pub changeSets : ChangeSets

@@ -3,3 +3,4 @@ mod Phases
 pub mod Runs
 pub mod Bounds
 pub mod Objects
+pub mod Laws

@@ -54,3 +54,8 @@ abbrev pub GetReads : Type 0
 GetReads =
     (fifo room c v u w : ℕ) (b : List ℕ) (m : Message) → isFifo fifo ≡ true → 64 ≤ room → Shows c v u w b m
     → run answered (getTalk fifo room) (answers c v u w (length (m .payload)) b) ≡ nextTalk fifo m
+
+-- both
+pub record Laws : Type 0 where
+  pub peekReads : PeekReads
+  pub getReads : GetReads

@@ -2,7 +2,7 @@
 -- Assumes nothing.
 use Prim.Native.Nat.{ℕ, _+_}
 use mathlib.Core.Path.{_≡_, refl, ap, _∙_}
-use mathlib.Core.Bool.{Bool, true, false}
+use mathlib.Core.Bool.{Bool, true, false, not}
 use mathlib.Core.List.{List, [], _∷_, _++_}
 use lib.ListN.{length}
 use lib.Seq.{take-append-seam}
@@ -24,7 +24,7 @@ use Rattle.spi.specs.declared.refusal.Refusal.{Refusal}
 use Rattle.spi.specs.declared.ask.Ask.{Ask}
 use Rattle.spi.specs.declared.ask.Answer.{Answer}
 use Rattle.spi.specs.declared.instruction.OpCode.{OpCode}
-use Rattle.spi.proofs.Talks.{if-ap, on-word, on-done, runs, word-within, done-within, if-within}
+use Rattle.spi.proofs.Talks.{on-word, on-done, runs, word-within, done-within, if-within}
 use Rattle.call.specs.Outcome.{ended}
 use Rattle.call.specs.declared.Outcome.{Outcome}
 use Rattle.tx_fifo.specs.declared.push.Push.{Push}
@@ -46,30 +46,34 @@ module _ (fifo size len : ℕ) where
 
   control-talk : (w : ℕ)
       → rest (afterControl size w)
-      ≡ (if flag TXEN w then if ltb (payloadOf w) size then refused Refusal.FifoTooSmall else statusTalk fifo len w else refused Refusal.FifoNotTx)
+      ≡ (if not (flag TXEN w) then refused Refusal.FifoNotTx else if ltb (payloadOf w) size then refused Refusal.FifoTooSmall else statusTalk fifo len w)
   unfolding afterControl
   control-talk w = go (flag TXEN w) (ltb (payloadOf w) size)
     where
       go : (a b : Bool)
           → rest (if a then if b then PushAt.Refused Refusal.FifoTooSmall else PushAt.Status w else PushAt.Refused Refusal.FifoNotTx)
-          ≡ (if a then if b then refused Refusal.FifoTooSmall else statusTalk fifo len w else refused Refusal.FifoNotTx)
+          ≡ (if not a then refused Refusal.FifoNotTx else if b then refused Refusal.FifoTooSmall else statusTalk fifo len w)
       go true true = refl
       go true false = refl
       go false b = refl
 
-  status-talk : (w v : ℕ) → rest (afterStatus w v) ≡ (if flag TFNRFNIF v then addressTalk fifo len w else refused Refusal.FifoFull)
+  status-talk : (w v : ℕ) → rest (afterStatus w v) ≡ (if not (flag TFNRFNIF v) then refused Refusal.FifoFull else addressTalk fifo len w)
   unfolding afterStatus
-  status-talk w v = if-ap rest (flag TFNRFNIF v) (PushAt.Address w) (PushAt.Refused Refusal.FifoFull)
+  status-talk w v = go (flag TFNRFNIF v)
+    where
+      go : (b : Bool) → rest (if b then PushAt.Address w else PushAt.Refused Refusal.FifoFull) ≡ (if not b then refused Refusal.FifoFull else addressTalk fifo len w)
+      go true = refl
+      go false = refl
 
   address-talk : (w u : ℕ)
       → rest (afterAddress len w u)
-      ≡ (if ltb 0xFBFF u then refused Refusal.BadUserAddress else if inRange (u + 0x400) len then writeTalk fifo len w (u + 0x400) else refused (Refusal.InvalidRamAddress (u + 0x400)))
+      ≡ (if ltb 0xFBFF u then refused Refusal.BadUserAddress else if not (inRange (u + 0x400) len) then refused (Refusal.InvalidRamAddress (u + 0x400)) else writeTalk fifo len w (u + 0x400))
   unfolding afterAddress
   address-talk w u = go (ltb 0xFBFF u) (inRange (u + 0x400) len)
     where
       go : (a b : Bool)
           → rest (if a then PushAt.Refused Refusal.BadUserAddress else if b then PushAt.Write w (u + 0x400) else PushAt.Refused (Refusal.InvalidRamAddress (u + 0x400)))
-          ≡ (if a then refused Refusal.BadUserAddress else if b then writeTalk fifo len w (u + 0x400) else refused (Refusal.InvalidRamAddress (u + 0x400)))
+          ≡ (if a then refused Refusal.BadUserAddress else if not b then refused (Refusal.InvalidRamAddress (u + 0x400)) else writeTalk fifo len w (u + 0x400))
       go true b = refl
       go false true = refl
       go false false = refl
@@ -113,7 +117,7 @@ start-talk fifo h seq p = go (isFifo fifo) (encoding (toSend h seq p))
   where
     go : (b : Bool) (e : Encoding)
         → talkOf (begun fifo (length p) (encodedAs (if b then e else Encoding.refused Refusal.BadNumber)))
-        ≡ (if b then withEncoding fifo (length p) e else refused Refusal.BadNumber)
+        ≡ (if not b then refused Refusal.BadNumber else withEncoding fifo (length p) e)
     go true (Encoding.refused r) = refl
     go true (Encoding.object bs) = refl
     go false e = refl
@@ -137,18 +141,18 @@ module _ (fifo len w : ℕ) where
 
   address-within : Within 3 (addressTalk fifo len w)
   address-within =
-      λ a rx. word-within 2 (wordReply Refusal.SpiRead a rx) _ (λ u. if-within 2 (ltb 0xFBFF u) _ _ tt (if-within 2 (inRange (u + 0x400) len) _ _ (write-within (u + 0x400)) tt))
+      λ a rx. word-within 2 (wordReply Refusal.SpiRead a rx) _ (λ u. if-within 2 (ltb 0xFBFF u) _ _ tt (if-within 2 (not (inRange (u + 0x400) len)) _ _ tt (write-within (u + 0x400))))
 
   status-within : Within 4 (statusTalk fifo len w)
-  status-within = λ a rx. word-within 3 (wordReply Refusal.SpiRead a rx) _ (λ v. if-within 3 (flag TFNRFNIF v) _ _ address-within tt)
+  status-within = λ a rx. word-within 3 (wordReply Refusal.SpiRead a rx) _ (λ v. if-within 3 (not (flag TFNRFNIF v)) _ _ tt address-within)
 
 push-within : (fifo size len : ℕ) → Within 5 (pushTalk fifo size len)
 push-within fifo size len =
-    λ a rx. word-within 4 (wordReply Refusal.SpiRead a rx) _ (λ w. if-within 4 (flag TXEN w) _ _ (if-within 4 (ltb (payloadOf w) size) _ _ tt (status-within fifo len w)) tt)
+    λ a rx. word-within 4 (wordReply Refusal.SpiRead a rx) _ (λ w. if-within 4 (not (flag TXEN w)) _ _ tt (if-within 4 (ltb (payloadOf w) size) _ _ tt (status-within fifo len w)))
 
 pub bound : (fifo : ℕ) (h : Header) (seq : ℕ) (p : List ℕ) → Within 5 (pushCall fifo h seq p)
 unfolding pushCall
-bound fifo h seq p = if-within 5 (isFifo fifo) _ _ (go (encoding (toSend h seq p))) tt
+bound fifo h seq p = if-within 5 (not (isFifo fifo)) _ _ tt (go (encoding (toSend h seq p)))
   where
     go : (e : Encoding) → Within 5 (withEncoding fifo (length p) e)
     go (Encoding.refused r) = tt

@@ -1,7 +1,7 @@
 -- The push call as the line sees it: control, status, user address, RAM write, control as first read written with UINC.
 -- Assumes nothing.
 use Prim.Native.Nat.{ℕ, _+_}
-use mathlib.Core.Bool.{true}
+use mathlib.Core.Bool.{true, not}
 use mathlib.Core.List.{List}
 use lib.ListN.{length}
 use lib.Dec.{ltb}
@@ -34,22 +34,23 @@ addressTalk fifo len w =
     readWord Refusal.SpiRead (CiFIFOUA .address fifo)
     (λ u.
     if ltb 0xFBFF u then refused Refusal.BadUserAddress
-    else if inRange (u + 0x400) len then writeTalk fifo len w (u + 0x400)
-    else refused (Refusal.InvalidRamAddress (u + 0x400)))
+    else if not (inRange (u + 0x400) len) then refused (Refusal.InvalidRamAddress (u + 0x400))
+    else writeTalk fifo len w (u + 0x400))
 
 -- status: 8 where bit 0 is 0
 abbrev pub statusTalk : (fifo len w : ℕ) → Talk Outcome
 statusTalk fifo len w =
     readWord Refusal.SpiRead (CiFIFOSTA .address fifo)
-    (λ v. if flag TFNRFNIF v then addressTalk fifo len w else refused Refusal.FifoFull)
+    (λ v. if not (flag TFNRFNIF v) then refused Refusal.FifoFull else addressTalk fifo len w)
 
 -- control: 6 with TXEN 0, 7 for a payload longer than PLSIZE means
 abbrev pub pushTalk : (fifo size len : ℕ) → Talk Outcome
 pushTalk fifo size len =
     readWord Refusal.SpiRead (CiFIFOCON .address fifo)
     (λ w.
-    if flag TXEN w then if ltb (payloadOf w) size then refused Refusal.FifoTooSmall else statusTalk fifo len w
-    else refused Refusal.FifoNotTx)
+    if not (flag TXEN w) then refused Refusal.FifoNotTx
+    else if ltb (payloadOf w) size then refused Refusal.FifoTooSmall
+    else statusTalk fifo len w)
 
 -- 21, 24, 22 are what the message is refused for
 abbrev pub withEncoding : (fifo size : ℕ) → Encoding → Talk Outcome
@@ -59,7 +60,8 @@ withEncoding fifo size (Encoding.object bs) = pushTalk fifo size (length bs)
 -- the whole call: 20, 21, 24, 22 before any exchange
 unfoldable pub pushCall : ℕ → Header → ℕ → List ℕ → Talk Outcome
 pushCall fifo header seq payload =
-    if isFifo fifo then withEncoding fifo (length payload) (encoding (toSend header seq payload)) else refused Refusal.BadNumber
+    if not (isFifo fifo) then refused Refusal.BadNumber
+    else withEncoding fifo (length payload) (encoding (toSend header seq payload))
 
 -- the rest of the call from where it stands
 abbrev pub talkAt : (fifo size len : ℕ) → PushAt → Talk Outcome

@@ -1,0 +1,16 @@
+-- What is proved of the words that the calls write which set the chip up, in one.
+-- Assumes nothing.
+use Rattle.configure.specs.Laws.{Laws}
+use Rattle.configure.proofs.Writes.{mode-writes, oscillator-writes, io-writes, timing-writes, configure-writes, fifo-writes, off-writes, filter-writes}
+
+pub laws : Laws
+laws = record {
+  modeWrites = mode-writes;
+  oscillatorWrites = oscillator-writes;
+  ioWrites = io-writes;
+  timingWrites = timing-writes;
+  configureWrites = configure-writes;
+  fifoWrites = fifo-writes;
+  offWrites = off-writes;
+  filterWrites = filter-writes;
+}
