@@ -82,7 +82,7 @@ mode-fits : (x : Fixed) → modeOf x < 2 ^ 3
 unfolding modeOf
 mode-fits x = by-if (λ (n : ℕ). n < 2 ^ 3) (x .configuring) (λ e. omega arith) (λ e. field-lt (x .con) 24 3)
 
-opmod-is : (m : Model) → read OPMOD (wordOf m Register.Con) ≡ modeOf (m .fixed)
+pub opmod-is : (m : Model) → read OPMOD (wordOf m Register.Con) ≡ modeOf (m .fixed)
 unfolding wordOf
 opmod-is m = read-write OPMOD (modeOf (m .fixed)) (m .fixed .con) (mode-fits (m .fixed))
 

@@ -40,14 +40,14 @@ by-checked Q false (Dlc.Is d) a b c = c refl d refl
 by-checked Q false Dlc.Bad a b c = b refl refl
 
 module _ (m : Model) (n : ℕ) (header : Header) (time : ℕ) (payload : List ℕ) where
-  abbrev tooHigh : Bool
+  abbrev pub tooHigh : Bool
   tooHigh = ltb (topId (header .extended)) (header .id)
 
-  abbrev dlc : Dlc
+  abbrev pub dlc : Dlc
   dlc = dlcOf (header .fdf) (length payload)
 
   -- what holds of each answer holds of deliver's; each may use the tests that lead to it
-  by-deliver : (P : Delivered → Type 0)
+  pub by-deliver : (P : Delivered → Type 0)
       → (isFifo n ≡ false → P (delivered (Delivery.Refused Refusal.BadNumber) m))
       → (isFifo n ≡ true → tooHigh ≡ true → P (delivered (Delivery.Refused Refusal.BadIdentifier) m))
       → (isFifo n ≡ true → tooHigh ≡ false → dlc ≡ Dlc.Bad → P (delivered (Delivery.Refused Refusal.BadPayload) m))
@@ -59,7 +59,7 @@ module _ (m : Model) (n : ℕ) (header : Header) (time : ℕ) (payload : List �
       (λ i. by-checked (λ y. P (byEncoding (coded y (incoming m n header time payload)) m n (length payload))) tooHigh dlc (b i) (c i) (λ e d g. f i e d g _)) a
 
   -- the causes that the FIFO and the mode are, in document 01's order
-  by-appended : (P : Delivered → Type 0) (bs : List ℕ)
+  pub by-appended : (P : Delivered → Type 0) (bs : List ℕ)
       → (m .fixed .configuring ≡ true → P (delivered Delivery.Configuration m))
       → (m .fixed .configuring ≡ false → sending (frozenAt m n) ≡ true → P (delivered Delivery.NotReceiving m))
       → (m .fixed .configuring ≡ false → sending (frozenAt m n) ≡ false → ltb (payloadOf (frozenAt m n)) (length payload) ≡ true → P (delivered Delivery.TooLong m))
@@ -91,7 +91,7 @@ deliver-answers m n header time payload =
     (λ a b c f. rw (held-length m n i, i, t, e, a, b, c, f)))
 
 -- a fact that is both true and false
-clash : {X : Type 0} {b : Bool} → b ≡ false → b ≡ true → X
+pub clash : {X : Type 0} {b : Bool} → b ≡ false → b ≡ true → X
 clash f t = absurd (false≢true (sym f ∙ t))
 
 abbrev arrived : Delivery → Bool
@@ -117,15 +117,18 @@ delivered-iff m n header time payload =
     (λ a b. (never _ refl, λ h. clash (h .receives) b))
     (λ a b c. (never _ refl, λ h. absurd (omega (arith, h .fits, ltb-true))))
     (λ a b c f. (never _ refl, λ h. absurd (omega (arith, h .room, held-length m n i, leb-true))))
-    (λ a b c f. (λ q. record {
-      fifo = i;
-      identifier = ltb-false (topId (header .extended)) (header .id) t;
-      allowed = ap hasDlc e;
-      outside = a;
-      receives = b;
-      fits = ltb-false (payloadOf (frozenAt m n)) (length payload) c;
-      room = omega (arith, held-length m n i, leb-false (depth (frozenAt m n)) (fifoAt m n .count) f);
-    }, λ h. refl)))
+    (λ a b c f. (
+      λ q. record {
+        fifo = i;
+        identifier = ltb-false (topId (header .extended)) (header .id) t;
+        allowed = ap hasDlc e;
+        outside = a;
+        receives = b;
+        fits = ltb-false (payloadOf (frozenAt m n)) (length payload) c;
+        room = omega (arith, held-length m n i, leb-false (depth (frozenAt m n)) (fifoAt m n .count) f);
+      },
+      λ h. refl,
+    )))
 
 -- an answer that says that nothing changed
 kept : (a : List ℕ) (m : Model) (n : ℕ) → (getD a 1 0 ≡ 4 → ⊥) → Leaves a m m n

@@ -49,7 +49,7 @@ at-set P (y ∷ l) (suc n) x d p f zero = f zero
 at-set P (y ∷ l) (suc n) x d p f (suc i) = at-set (λ k. P (suc k)) l n x d p (λ k. f (suc k)) i
 
 -- a list of one thing, and what stands beyond it
-at-replicate : {A : Type 0} (P : A → Type 0) (k : ℕ) (x d : A) → P x → P d → (i : ℕ) → P (getD (replicate k x) i d)
+pub at-replicate : {A : Type 0} (P : A → Type 0) (k : ℕ) (x d : A) → P x → P d → (i : ℕ) → P (getD (replicate k x) i d)
 at-replicate P zero x d p q i = q
 at-replicate P (suc k) x d p q zero = p
 at-replicate P (suc k) x d p q (suc i) = at-replicate P k x d p q i

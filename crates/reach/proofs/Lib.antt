@@ -5,3 +5,5 @@ pub mod Bytes
 pub mod Sound
 pub mod Slots
 pub mod Arrivals
+pub mod Chip
+pub mod AllLaws
