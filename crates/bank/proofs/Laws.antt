@@ -1,34 +1,41 @@
 -- What writing a register changes, and what it leaves.
 -- Assumes nothing.
-use mathlib.Core.Path.{_≡_, refl, sym, subst}
+use mathlib.Core.Path.{_≡_, refl, sym, ap, subst, _∙_}
 use mathlib.Core.Bool.{true, false, not, _&&_}
-use Prim.Native.Nat.{ℕ, _≤_}
+use mathlib.Core.List.{List, [], _∷_}
+use Prim.Native.Nat.{ℕ, zero, suc, _^_, _≤_, _<_}
 use native.Mathlib.Omega.{arith}
 use lib.Dec.{eqb, leb}
-use borrow.Author.Tests.{leb-true}
+use lib.ListN.{getD, set}
+use borrow.Author.Tests.{leb-true, eqb-true, not-false}
 use Rattle.laws.specs.If.{if_then_else_}
 use Rattle.laws.proofs.Choice.{by-if}
 use Rattle.laws.proofs.Table.{both}
 use Rattle.field.specs.Field.{read, flag}
-use Rattle.configuration.specs.CanControl.{REQOP, TXQEN, STEF}
+use Rattle.field.proofs.Laws.{field-lt, read-write, write-other}
+use Rattle.configuration.specs.CanControl.{OPMOD, REQOP, TXQEN, STEF}
+use Rattle.chip.specs.OscillatorControl.{PLLEN, PLLRDY}
 use Rattle.fifo.specs.Status.{RXOVIF}
 use Rattle.operation.specs.declared.place.Register.{Register}
+use Rattle.ring.specs.declared.ring.Fifo.{Fifo}
+use Rattle.ring.specs.Ring.{configured}
 use Rattle.ring.specs.Layout.{end}
-use Rattle.ring.proofs.Laws.{in-ram}
+use Rattle.ring.proofs.Laws.{in-ram, uinc-inside as configured-ring}
 use Rattle.state.specs.declared.Fixed.{Fixed}
 use Rattle.state.specs.declared.Model.{Model}
+use Rattle.state.specs.Model.{blank, fifoAt}
 use Rattle.bank.specs.declared.writing.Written.{Written}
-use Rattle.bank.specs.Registers.{granted, conSet, settled, denied, turnedAll, conWritten, controlWritten, statusWritten, registerWritten}
-use Rattle.bank.specs.Laws.{FrozenOutside, Laid, Leaving}
+use Rattle.bank.specs.Registers.{modeOf, wordOf, granted, conSet, settled, denied, turnedAll, conWritten, controlWritten, statusWritten, registerWritten}
+use Rattle.bank.specs.Laws.{FrozenOutside, Laid, Leaving, OpmodShows, ModeTaken, Silent, UincInside, PllrdyFollows}
 
 -- CiCON's write changes no control word
 con-frozen : (m : Model) (w : ℕ) → conWritten m w .model .fixed .frozen ≡ m .fixed .frozen
 unfolding conWritten
 con-frozen m w =
     let P : Written → Type 0 = λ x. x .model .fixed .frozen ≡ m .fixed .frozen in
-    by-if P (eqb (read REQOP w) 4)
-    (λ e. by-if P (m .fixed .configuring) (λ c. refl) (λ c. refl))
-    (λ e. by-if P (m .fixed .configuring) (λ c. by-if P (granted (m .fixed) w) (λ g. refl) (λ g. refl)) (λ c. refl))
+    by-if P (m .fixed .configuring && not (eqb (read REQOP w) 4) && not (granted (m .fixed) w)) (λ d. refl)
+    (λ d. by-if P (eqb (read REQOP w) 4) (λ e. by-if P (m .fixed .configuring) (λ c. refl) (λ c. refl))
+    (λ e. by-if P (m .fixed .configuring) (λ c. refl) (λ c. refl)))
 
 pub frozen-outside : FrozenOutside
 unfolding registerWritten controlWritten statusWritten
@@ -50,7 +57,7 @@ granted-fits x w e =
 
 -- the write that leaves
 left-is : (m : Model) (w : ℕ) → m .fixed .configuring ≡ true → eqb (read REQOP w) 4 ≡ false
-    → conWritten m w ≡ (if granted (m .fixed) w then settled (conSet (turnedAll false m) w false) else denied (conSet m w true))
+    → conWritten m w ≡ (if not (granted (m .fixed) w) then denied (conSet m w true) else settled (conSet (turnedAll false m) w false))
 unfolding conWritten
 left-is m w c e = rw (e, c)
 
@@ -62,8 +69,66 @@ leaving m w c e =
     in
     let p =
     subst P (sym (left-is m w c e))
-    (by-if P (granted (m .fixed) w)
-    (λ g. (λ t. refl, λ t n k. in-ram (m .fixed .frozen) n k (granted-fits (m .fixed) w g), λ t. cc))
-    (λ g. (λ t. cc, λ t n k. let z : _≡_ {A = ℕ} 0 1 = cc in absurd (omega (arith, z)), λ t. refl)))
+    (by-if P (not (granted (m .fixed) w))
+    (λ g. (λ t. cc, λ t n k. let z : _≡_ {A = ℕ} 0 1 = cc in absurd (omega (arith, z)), λ t. refl))
+    (λ g. (λ t. refl, λ t n k. in-ram (m .fixed .frozen) n k (granted-fits (m .fixed) w (not-false (granted (m .fixed) w) g)), λ t. cc)))
     in
     record { outside = p .0; laid = p .1; denied = p .2 }
+
+-- ---- the mode
+
+-- a mode has three bits
+mode-fits : (x : Fixed) → modeOf x < 2 ^ 3
+unfolding modeOf
+mode-fits x = by-if (λ (n : ℕ). n < 2 ^ 3) (x .configuring) (λ e. omega arith) (λ e. field-lt (x .con) 24 3)
+
+pub opmod-is : (m : Model) → read OPMOD (wordOf m Register.Con) ≡ modeOf (m .fixed)
+unfolding wordOf
+opmod-is m = read-write OPMOD (modeOf (m .fixed)) (m .fixed .con) (mode-fits (m .fixed))
+
+pub opmod-shows : OpmodShows
+unfolding wordOf modeOf
+opmod-shows m =
+    opmod-is m ∙ ap (λ (n : ℕ). if m .fixed .configuring then 4 else n) (sym (write-other OPMOD REQOP (modeOf (m .fixed)) (m .fixed .con) (mode-fits (m .fixed)) refl))
+
+-- the mode that a write of w leaves
+abbrev Takes : ℕ → Written → Type 0
+Takes w x = modeOf (x .model .fixed) ≡ (if x .granted then read REQOP w else 4)
+
+takes : (m : Model) (w : ℕ) → Takes w (conWritten m w)
+unfolding conWritten modeOf
+takes m w =
+    let P : Written → Type 0 = Takes w in
+    by-if P (m .fixed .configuring && not (eqb (read REQOP w) 4) && not (granted (m .fixed) w)) (λ d. refl)
+    (λ d. by-if P (eqb (read REQOP w) 4)
+    (λ e. let f = sym (eqb-true (read REQOP w) 4 e) in by-if P (m .fixed .configuring) (λ c. f) (λ c. f))
+    (λ e. by-if P (m .fixed .configuring) (λ c. refl) (λ c. refl)))
+
+pub mode-taken : ModeTaken
+mode-taken m w = opmod-is (conWritten m w .model) ∙ takes m w
+
+pub silent : Silent
+unfolding wordOf
+silent m c n = rw c (refl, refl)
+
+-- one entry of a list becomes another that is like it
+at-set-like : {A B : Type 0} (g : A → B) (l : List A) (n : ℕ) (x d : A) → g x ≡ g (getD l n d) → (k : ℕ) → g (getD (set l n x) k d) ≡ g (getD l k d)
+at-set-like g [] n x d e k = refl
+at-set-like g (y ∷ l) zero x d e zero = e
+at-set-like g (y ∷ l) zero x d e (suc k) = refl
+at-set-like g (y ∷ l) (suc n) x d e zero = refl
+at-set-like g (y ∷ l) (suc n) x d e (suc k) = at-set-like g l n x d e k
+
+pub uinc-inside : UincInside
+unfolding registerWritten controlWritten
+uinc-inside m c n w k =
+    let e = configured-ring w (fifoAt m n) in
+    rw c (at-set-like (λ f. f .head) (m .fifo) n (configured w (fifoAt m n)) blank (e .0) k, at-set-like (λ f. f .count) (m .fifo) n (configured w (fifoAt m n)) blank (e .1) k)
+
+-- ---- the oscillator
+
+pub pllrdy-follows : PllrdyFollows
+unfolding wordOf
+pllrdy-follows m =
+    let o = m .setup .osc in
+    read-write PLLRDY (read PLLEN o) o (field-lt o 0 1) ∙ sym (write-other PLLRDY PLLEN (read PLLEN o) o (field-lt o 0 1) refl)

@@ -1,2 +1,3 @@
 mod Turns
 pub mod Laws
+pub mod AllLaws

@@ -6,13 +6,16 @@ use mathlib.Core.Bool.{true, false}
 use mathlib.Core.List.{List}
 use lib.ListN.{getD}
 use lib.Dec.{eqb}
+use Rattle.laws.specs.If.{if_then_else_}
 use Rattle.field.specs.Field.{read}
-use Rattle.configuration.specs.CanControl.{REQOP}
+use Rattle.configuration.specs.CanControl.{OPMOD, REQOP}
+use Rattle.chip.specs.OscillatorControl.{PLLEN, PLLRDY}
 use Rattle.operation.specs.declared.place.Register.{Register}
 use Rattle.ring.specs.Ring.{depth}
 use Rattle.ring.specs.Laws.{slotEnd}
 use Rattle.state.specs.declared.Model.{Model}
-use Rattle.bank.specs.Registers.{conSet, conWritten, registerWritten}
+use Rattle.state.specs.Model.{fifoAt}
+use Rattle.bank.specs.Registers.{wordOf, conSet, conWritten, registerWritten}
 
 -- outside Configuration no write changes FSIZE, PLSIZE, TXEN and RXTSEN of any FIFO
 abbrev pub FrozenOutside : Type 0
@@ -32,3 +35,40 @@ pub record Leaves (m : Model) (w : ℕ) : Type 0 where
 
 abbrev pub Leaving : Type 0
 Leaving = (m : Model) (w : ℕ) → m .fixed .configuring ≡ true → eqb (read REQOP w) 4 ≡ false → Leaves m w
+
+-- ---- the mode
+
+-- OPMOD reads 4 in Configuration, and outside it what REQOP reads
+abbrev pub OpmodShows : Type 0
+OpmodShows = (m : Model) → read OPMOD (wordOf m Register.Con) ≡ (if m .fixed .configuring then 4 else read REQOP (wordOf m Register.Con))
+
+-- REQOP is taken at once: after the write OPMOD shows it, and Configuration where leaving is not granted
+abbrev pub ModeTaken : Type 0
+ModeTaken = (m : Model) (w : ℕ) → read OPMOD (wordOf (conWritten m w .model) Register.Con) ≡ (if conWritten m w .granted then read REQOP w else 4)
+
+-- in Configuration status and user address read 0
+abbrev pub Silent : Type 0
+Silent = (m : Model) → m .fixed .configuring ≡ true → (n : ℕ) → (wordOf m (Register.Status n) ≡ 0) × (wordOf m (Register.Address n) ≡ 0)
+
+-- and no write of a control word, UINC set or not, moves a ring
+abbrev pub UincInside : Type 0
+UincInside =
+    (m : Model) → m .fixed .configuring ≡ true → (n w k : ℕ)
+    → (fifoAt (registerWritten m (Register.Control n) w .model) k .head ≡ fifoAt m k .head)
+    × (fifoAt (registerWritten m (Register.Control n) w .model) k .count ≡ fifoAt m k .count)
+
+-- ---- the oscillator: PLLRDY reads as PLLEN
+
+abbrev pub PllrdyFollows : Type 0
+PllrdyFollows = (m : Model) → read PLLRDY (wordOf m Register.Osc) ≡ read PLLEN (wordOf m Register.Osc)
+
+-- ---- all of these
+
+pub record Laws : Type 0 where
+  pub frozenOutside : FrozenOutside
+  pub leaving : Leaving
+  pub opmodShows : OpmodShows
+  pub modeTaken : ModeTaken
+  pub silent : Silent
+  pub uincInside : UincInside
+  pub pllrdyFollows : PllrdyFollows

@@ -62,12 +62,13 @@ settled m = record { model = m; granted = true }
 abbrev pub denied : Model → Written
 denied m = record { model = m; granted = false }
 
--- REQOP is taken at once. Asking for the mode one is in changes no FIFO; where leaving is not granted the write is done and the mode
--- stays
+-- where leaving is asked for and not granted the write is done and the mode stays. Otherwise REQOP is taken at once; asking for the mode
+-- one is in changes no FIFO
 unfoldable pub conWritten : Model → ℕ → Written
 conWritten m w =
-    if eqb (read REQOP w) 4 then if m .fixed .configuring then settled (conSet m w true) else settled (conSet (turnedAll true m) w true)
-    else if m .fixed .configuring then if granted (m .fixed) w then settled (conSet (turnedAll false m) w false) else denied (conSet m w true)
+    if m .fixed .configuring && not (eqb (read REQOP w) 4) && not (granted (m .fixed) w) then denied (conSet m w true)
+    else if eqb (read REQOP w) 4 then if m .fixed .configuring then settled (conSet m w true) else settled (conSet (turnedAll true m) w true)
+    else if m .fixed .configuring then settled (conSet (turnedAll false m) w false)
     else settled (conSet m w false)
 
 -- ---- writing the others

@@ -2,30 +2,30 @@
 -- Assumes nothing.
 use Prim.Native.Nat.{ℕ, zero, suc, _+_, _-_, _≤_, _<_}
 use mathlib.Core.Path.{_≡_, refl, sym, ap, _∙_}
-use mathlib.Core.Bool.{Bool, true, false, _&&_}
-use mathlib.Core.List.{List, _∷_}
+use mathlib.Core.Bool.{Bool, true, false, _&&_, not}
+use mathlib.Core.List.{List, [], _∷_}
 use native.Mathlib.Nat.{le-of-suc-le-suc, not-suc-le-zero}
 use native.Mathlib.Omega.{arith}
 use borrow.Author.Tests.{ltb-true, ltb-false}
-use lib.Dec.{ltb, leb, eqb}
+use lib.Dec.{ltb, eqb}
 use lib.ListN.{length, getD, List·getD-eq-default}
 use lib.Seq.{getD-set-same, ext-getD}
 use Rattle.laws.specs.If.{if_then_else_}
 use Rattle.laws.proofs.Choice.{by-if}
 use Rattle.laws.proofs.Table.{both}
 use Rattle.field.specs.Field.{flag}
-use Rattle.fifo.specs.Control.{TXREQ, payloadOf, isFifo}
+use Rattle.fifo.specs.Control.{TXREQ, isFifo}
 use Rattle.spi.specs.declared.refusal.Refusal.{Refusal}
-use Rattle.message.specs.Message.{Encoding, encoding, Decoding, holds, bad, short}
+use Rattle.message.specs.Message.{Decoding, holds, bad, short}
 use Rattle.ring.specs.declared.ring.Fifo.{Fifo}
 use Rattle.ring.specs.Ring.{sending, depth, place, taken, controlled, sent, fresh}
 use Rattle.ring.proofs.Laws.{place-next}
 use Rattle.state.specs.declared.Model.{Model}
 use Rattle.state.specs.Model.{blank, fifoAt, frozenAt, withFifo}
-use Rattle.bus.specs.declared.arrival.Delivered.{Delivered}
 use Rattle.bus.specs.Held.{slotOf, itemAt, row, held}
-use Rattle.bus.specs.Bus.{nothing, refused, outputOf, sends, sendOutput, sendModel, incoming, appended, byEncoding, deliverOf}
-use Rattle.bus.specs.Laws.{Quiet, NothingSent, OldestSent, Leaves, TurnedDown, RowLength, RowAt}
+use Rattle.bus.specs.Bus.{nothing, refused, outputOf, sends, sendOutput, sendModel}
+use Rattle.bus.specs.Numbers.{outputNumbers}
+use Rattle.bus.specs.Laws.{Quiet, NothingSent, OldestSent, takenNumbers, SendAnswers, RowLength, RowAt}
 
 -- ---- rows
 
@@ -66,6 +66,19 @@ pub nothing-sent : NothingSent
 unfolding sendOutput sendModel
 nothing-sent m n = quiet (isFifo n) (sends m n) (itemAt m n 0) _ m
 
+answered : (a b : Bool) (x : Decoding)
+    → outputNumbers (if a then if b then outputOf x else nothing else refused Refusal.BadNumber)
+    ≡ (if not a then 20 ∷ [] else if not b then 0 ∷ 0 ∷ [] else takenNumbers x)
+answered true true (holds x) = refl
+answered true true (bad r) = refl
+answered true true short = refl
+answered true false x = refl
+answered false b x = refl
+
+pub send-answers : SendAnswers
+unfolding sendOutput
+send-answers m n = answered (isFifo n) (sends m n) (itemAt m n 0)
+
 pub sends-one : (m : Model) (n : ℕ) → sends m n ≡ true → 0 < fifoAt m n .count
 unfolding sends
 sends-one m n e = ltb-true 0 (fifoAt m n .count) (both (sending (frozenAt m n) && flag TXREQ (fifoAt m n .control)) (ltb 0 (fifoAt m n .count)) e .1)
@@ -85,29 +98,12 @@ in-list m n h = go (ltb n (length (m .fifo))) refl
     go true e = ltb-true n (length (m .fifo)) e
     go false e = absurd (not-suc-le-zero (rw (List·getD-eq-default (m .fifo) blank {n = n} (ltb-false n (length (m .fifo)) e)) at h))
 
--- ---- deliver
-
-module _ (m : Model) (n : ℕ) where
-  abbrev Told : Delivered → Type 0
-  Told d = Leaves (d .delivery) m (d .model) n
-
-  appended-told : (len : ℕ) (bs : List ℕ) → Told (appended m n len bs)
-  unfolding appended
-  appended-told len bs =
-      by-if Told (m .fixed .configuring) (λ e. refl)
-      (λ e. by-if Told (sending (frozenAt m n)) (λ e. refl)
-      (λ e. by-if Told (ltb (payloadOf (frozenAt m n)) len) (λ e. refl)
-      (λ e. by-if Told (leb (depth (frozenAt m n)) (fifoAt m n .count)) (λ e. refl) (λ e. tt))))
-
-  encoded-told : (x : Encoding) (len : ℕ) → Told (byEncoding x m n len)
-  encoded-told (Encoding.refused r) len = refl
-  encoded-told (Encoding.object bs) len = appended-told len bs
-
-pub turned-down : TurnedDown
-unfolding deliverOf
-turned-down m n header time payload = by-if (Told m n) (isFifo n) (λ e. encoded-told m n (encoding (incoming m n header time payload)) (length payload)) (λ e. refl)
-
 -- ---- the messages held
+
+-- a FIFO holds as many as it counts
+pub held-length : (m : Model) (n : ℕ) → isFifo n ≡ true → length (held m n) ≡ fifoAt m n .count
+unfolding held
+held-length m n i = rw i (row-length Decoding (λ k. itemAt m n k) 0 (fifoAt m n .count))
 
 -- entry k of those held is what stands k places behind the oldest
 pub held-at : (m : Model) (n k : ℕ) → k < length (held m n) → getD (held m n) k short ≡ itemAt m n k

@@ -2,17 +2,25 @@
 -- Assumes nothing.
 use Prim.Native.Nat.{ℕ, _+_, _≤_, _<_}
 use mathlib.Core.Path.{_≡_}
-use mathlib.Core.Bool.{true}
-use mathlib.Core.List.{List, _∷_}
+use mathlib.Core.Bool.{Bool, true, false, not}
+use mathlib.Core.Logic.{_↔_}
+use mathlib.Core.List.{List, [], _∷_}
 use lib.ListN.{length, getD}
-use Rattle.fifo.specs.Control.{isFifo}
+use lib.Dec.{ltb, leb}
+use Rattle.laws.specs.If.{if_then_else_}
+use Rattle.fifo.specs.Control.{payloadOf, isFifo}
+use Rattle.header.specs.declared.dlc.Dlc.{Dlc}
 use Rattle.header.specs.declared.Header.{Header}
-use Rattle.ring.specs.Ring.{depth, overflowed}
+use Rattle.header.specs.Dlc.{dlcOf}
+use Rattle.header.specs.Header.{topId}
+use Rattle.message.specs.Message.{Decoding, holds, bad, short}
+use Rattle.ring.specs.Ring.{sending, depth, overflowed}
 use Rattle.state.specs.declared.Model.{Model}
 use Rattle.state.specs.Model.{fifoAt, frozenAt, withFifo}
 use Rattle.bus.specs.declared.arrival.Delivery.{Delivery}
 use Rattle.bus.specs.Held.{itemAt, row, held}
 use Rattle.bus.specs.Bus.{Output, frame, noFrame, nothing, refused, sends, sendOutput, sendModel, deliverOf}
+use Rattle.bus.specs.Numbers.{messageNumbers, outputNumbers, deliveryNumbers}
 
 -- ---- send
 
@@ -34,22 +42,69 @@ OldestSent =
     → fifoAt m n .head < depth (frozenAt m n) → fifoAt m n .count ≤ depth (frozenAt m n)
     → held m n ≡ itemAt m n 0 ∷ held (sendModel m n) n
 
+-- what a message taken from its slot comes to: a slot that does not decode is no frame
+abbrev pub takenNumbers : Decoding → List ℕ
+takenNumbers (holds x) = 0 ∷ 1 ∷ messageNumbers x
+takenNumbers (bad r) = 0 ∷ 1 ∷ []
+takenNumbers short = 0 ∷ 1 ∷ []
+
+-- what a send answers: 20 for a number that is no FIFO's, nothing sent, or what the oldest comes to
+abbrev pub SendAnswers : Type 0
+SendAnswers =
+    (m : Model) (n : ℕ)
+    → outputNumbers (sendOutput m n)
+    ≡ (if not (isFifo n) then 20 ∷ [] else if not (sends m n) then 0 ∷ 0 ∷ [] else takenNumbers (itemAt m n 0))
+
 -- ---- deliver
 
--- what each answer says of the model m before it and of the model after it
-abbrev pub Leaves : Delivery → (m after : Model) → ℕ → Type 0
-Leaves Delivery.Delivered m after n = Unit {0}
-Leaves (Delivery.Refused r) m after n = after ≡ m
-Leaves Delivery.Configuration m after n = after ≡ m
-Leaves Delivery.NotReceiving m after n = after ≡ m
-Leaves Delivery.TooLong m after n = after ≡ m
-Leaves Delivery.Full m after n = after ≡ withFifo m n (overflowed true (fifoAt m n))
+-- a payload's length has a DLC
+abbrev pub hasDlc : Dlc → Bool
+hasDlc (Dlc.Is d) = true
+hasDlc Dlc.Bad = false
+
+-- what deliver answers: 20, 21, 22 for a frame that no push could carry; then the first cause: Configuration, not receiving, payload longer
+-- than PLSIZE means, full; otherwise it is delivered
+abbrev pub deliverAnswer : Model → ℕ → Header → List ℕ → List ℕ
+deliverAnswer m n header payload =
+    if not (isFifo n) then 20 ∷ []
+    else if ltb (topId (header .extended)) (header .id) then 21 ∷ []
+    else if not (hasDlc (dlcOf (header .fdf) (length payload))) then 22 ∷ []
+    else if m .fixed .configuring then 0 ∷ 1 ∷ []
+    else if sending (frozenAt m n) then 0 ∷ 2 ∷ []
+    else if ltb (payloadOf (frozenAt m n)) (length payload) then 0 ∷ 3 ∷ []
+    else if leb (depth (frozenAt m n)) (length (held m n)) then 0 ∷ 4 ∷ []
+    else 0 ∷ 0 ∷ []
+
+abbrev pub DeliverAnswers : Type 0
+DeliverAnswers =
+    (m : Model) (n : ℕ) (header : Header) (time : ℕ) (payload : List ℕ)
+    → deliveryNumbers (deliverOf m n header time payload .delivery) ≡ deliverAnswer m n header payload
+
+-- a frame is delivered exactly if a push could carry it, and nothing turns it down
+pub record Deliverable (m : Model) (n : ℕ) (header : Header) (payload : List ℕ) : Type 0 where
+  pub fifo : isFifo n ≡ true
+  pub identifier : header .id ≤ topId (header .extended)
+  pub allowed : hasDlc (dlcOf (header .fdf) (length payload)) ≡ true
+  pub outside : m .fixed .configuring ≡ false
+  pub receives : sending (frozenAt m n) ≡ false
+  pub fits : length payload ≤ payloadOf (frozenAt m n)
+  pub room : length (held m n) < depth (frozenAt m n)
+
+abbrev pub DeliveredIff : Type 0
+DeliveredIff =
+    (m : Model) (n : ℕ) (header : Header) (time : ℕ) (payload : List ℕ)
+    → (deliverOf m n header time payload .delivery ≡ Delivery.Delivered) ↔ Deliverable m n header payload
+
+-- what an answer, by its numbers, says of the model m before it and of the model after it
+pub record Leaves (answer : List ℕ) (m after : Model) (n : ℕ) : Type 0 where
+  pub full : answer ≡ 0 ∷ 4 ∷ [] → after ≡ withFifo m n (overflowed true (fifoAt m n))
+  pub others : (answer ≡ 0 ∷ 0 ∷ [] → ⊥) → (answer ≡ 0 ∷ 4 ∷ [] → ⊥) → after ≡ m
 
 -- a frame turned down changes nothing but, at a full FIFO, that one's overflow
 abbrev pub TurnedDown : Type 0
 TurnedDown =
     (m : Model) (n : ℕ) (header : Header) (time : ℕ) (payload : List ℕ)
-    → Leaves (deliverOf m n header time payload .delivery) m (deliverOf m n header time payload .model) n
+    → Leaves (deliveryNumbers (deliverOf m n header time payload .delivery)) m (deliverOf m n header time payload .model) n
 
 -- ---- the messages held
 
@@ -60,3 +115,15 @@ RowLength = (A : Type 0) (f : ℕ → A) (k n : ℕ) → length (row f k n) ≡ 
 -- entry i of a row from k on is that of k + i
 abbrev pub RowAt : Type 1
 RowAt = (A : Type 0) (f : ℕ → A) (k n i : ℕ) (d : A) → i < n → getD (row f k n) i d ≡ f (k + i)
+
+-- ---- all of these
+
+pub record Laws : Type 1 where
+  pub nothingSent : NothingSent
+  pub oldestSent : OldestSent
+  pub sendAnswers : SendAnswers
+  pub deliverAnswers : DeliverAnswers
+  pub deliveredIff : DeliveredIff
+  pub turnedDown : TurnedDown
+  pub rowLength : RowLength
+  pub rowAt : RowAt

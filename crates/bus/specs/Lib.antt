@@ -1,3 +1,4 @@
 pub mod Held
 pub mod Bus
+pub mod Numbers
 pub mod Laws

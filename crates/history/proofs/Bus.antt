@@ -7,24 +7,17 @@ use mathlib.Core.Bool.{Bool, true, false, _&&_}
 use mathlib.Core.List.{List, [], _∷_, _++_, map, map-append, append-nil, append-assoc}
 use native.Mathlib.Nat.{mod-lt}
 use native.Mathlib.Omega.{arith}
-use lib.ListN.{length, getD}
+use lib.ListN.{length}
 use lib.Dec.{ltb, leb, eqb}
-use borrow.Author.Tests.{ltb-false, leb-false, eqb-true}
+use borrow.Author.Tests.{ltb-false, leb-false}
 use Rattle.laws.specs.If.{if_then_else_}
 use Rattle.laws.proofs.Choice.{by-if}
-use Rattle.laws.proofs.Table.{both, at}
-use Rattle.field.specs.Field.{flag, read}
-use Rattle.field.proofs.Laws.{field-lt}
-use Rattle.fifo.specs.Control.{TXREQ, PLSIZE, payloads, payloadOf, isFifo}
-use Rattle.words.specs.Words.{roundUp}
-use Rattle.words.proofs.Laws.{le-length}
+use Rattle.laws.proofs.Table.{both}
+use Rattle.field.specs.Field.{flag}
+use Rattle.fifo.specs.Control.{TXREQ, payloadOf, isFifo}
 use Rattle.spi.specs.declared.refusal.Refusal.{Refusal}
-use Rattle.header.specs.declared.Header.{Header}
-use Rattle.message.specs.declared.object.Stamp.{Stamp}
-use Rattle.message.specs.Object.{stampBytes}
 use Rattle.message.specs.Message.{Message, Encoding, encoding, Decoding, holds}
-use Rattle.message.specs.Laws.{Stamped, Suits}
-use Rattle.message.proofs.Round.{lengths-hold}
+use Rattle.message.specs.Laws.{Suits}
 use Rattle.ring.specs.declared.ring.Fifo.{Fifo}
 use Rattle.ring.specs.Ring.{sending, depth, place, claimed, taken, controlled, overflowed, sent}
 use Rattle.ring.specs.Layout.{stamped, size}
@@ -36,6 +29,8 @@ use Rattle.bus.specs.Held.{slotOf, itemAt, held}
 use Rattle.bus.specs.Bus.{nothing, refused, outputOf, sends, sendOutput, sendModel, incoming, delivered, appended, byEncoding, deliverOf}
 use Rattle.bus.proofs.Laws.{sends-one}
 use Rattle.reach.specs.Bus.{Bus, Send, Deliver, stepped}
+use Rattle.reach.proofs.Arrivals.{coming-suits, coming-fits}
+pub use Rattle.reach.proofs.Arrivals.{payload-whole}
 use Rattle.history.specs.History.{Said, left, arrived, says}
 use Rattle.history.specs.Lists.{accepted, acceptedIn, handedOut, handedOutIn, only}
 use Rattle.history.proofs.Sound.{Sound}
@@ -195,41 +190,6 @@ module _ (c : Model) (s : Sound c) (k : ℕ) (h : isFifo k ≡ true) (t : sendin
         get-part = λ n i e f.
             filled-part c s k h free bs fits n 0 i (omega (arith, s .valid .fifo n .count)) (λ j x. let f′ : 0 < fifoAt c k .count = rw j at f in omega arith);
       }
-
--- ---- what arrives
-
--- every payload size is whole words
-pub payload-whole : (w : ℕ) → payloadOf w % 4 ≡ 0
-unfolding payloadOf
-payload-whole w = eqb-true _ _ (at (λ n. eqb (getD payloads n 0 % 4) 0) 8 refl (read PLSIZE w) (field-lt w 29 3))
-
-module _ (c : Model) (n : ℕ) (header : Header) (time : ℕ) (payload : List ℕ) where
-  abbrev coming : Message
-  coming = incoming c n header time payload
-
-  -- what arrives is as FIFO n holds it
-  coming-suits : time < 2 ^ 32 → Suits (sending (frozenAt c n)) (stamped (frozenAt c n)) coming
-  unfolding incoming
-  coming-suits small = record { seq = by-if (λ (x : ℕ). x ≡ 0) (sending (frozenAt c n)) (λ e. refl) (λ e. refl); stamp = go (stamped (frozenAt c n)) }
-    where
-      go : (b : Bool) → Stamped b (if b then Stamp.At time else Stamp.None)
-      go true = small
-      go false = tt
-
-  coming-stamp : length (stampBytes (coming .stamp)) ≡ (if stamped (frozenAt c n) then 4 else 0)
-  unfolding incoming
-  coming-stamp = go (stamped (frozenAt c n))
-    where
-      go : (b : Bool) → length (stampBytes (if b then Stamp.At time else Stamp.None)) ≡ (if b then 4 else 0)
-      go true = le-length time
-      go false = refl
-
-  -- and fits a slot, if its payload does
-  coming-fits : (bs : List ℕ) → encoding coming ≡ Encoding.object bs → length payload ≤ payloadOf (frozenAt c n) → length bs ≤ size (frozenAt c n)
-  unfolding size incoming
-  coming-fits bs e l =
-      let long : length bs ≡ 8 + length (stampBytes (coming .stamp)) + roundUp (length payload) = lengths-hold coming bs e in
-      omega (arith, long, coming-stamp, payload-whole (frozenAt c n), l)
 
 -- ---- each bus step
 

@@ -7,10 +7,9 @@ use Prim.Native.Nat.{ℕ}
 use lib.ListN.{getD}
 use lib.Dec.{eqb}
 use Rattle.laws.specs.If.{if_then_else_}
+use Rattle.laws.proofs.Choice.{by-if}
 use Rattle.field.specs.Field.{Field, read}
 use Rattle.configuration.specs.CanControl.{REQOP}
-use Rattle.spi.specs.declared.refusal.Refusal.{Refusal}
-use Rattle.spi.specs.Refusals.{numbered}
 use Rattle.operation.specs.declared.place.Register.{Register}
 use Rattle.operation.specs.declared.operation.Operation.{Operation}
 use Rattle.operation.specs.Operation.{asked}
@@ -19,7 +18,8 @@ use Rattle.ring.specs.Laws.{Alike}
 use Rattle.ring.proofs.Laws.{frozen-kept}
 use Rattle.state.specs.declared.Model.{Model}
 use Rattle.state.specs.Model.{frozenAt, fifoAt}
-use Rattle.bank.specs.Registers.{wordOf, settled, denied, granted, conSet, turnedAll, conWritten, registerWritten}
+use Rattle.bank.specs.declared.writing.Written.{Written}
+use Rattle.bank.specs.Registers.{wordOf, denied, granted, conSet, conWritten, registerWritten}
 use Rattle.bank.proofs.Laws.{frozen-outside}
 use Rattle.model.specs.Exchange.{failed, received, noLayout, doneWriting, performed, exchange}
 use Rattle.model.specs.Laws.{reads, ReadingKeeps, OthersFail, FailureKeeps, FrozenOutside, replyNumbers, Answers27, OthersAnswerNone}
@@ -85,22 +85,19 @@ frozen-outside-all s want m c h n =
     (subst (λ (k : ℕ). Alike frozenFields (control (frozenAt d n) (fifoAt d n)) k) e (frozen-kept (frozenAt d n) (fifoAt d n)))
     (frozen-kept (frozenAt m n) (fifoAt m n))
 
--- a write of CiCON, by its three tests
-told : (q c g : Bool) (a b d e f : Model)
-    → replyNumbers (doneWriting (if q then if c then settled a else settled b else if c then if g then settled d else denied e else settled f) .reply)
-    ≡ (if c && not q && not g then numbered Refusal.NoLayout else [])
-told true true g a b d e f = refl
-told true false g a b d e f = refl
-told false true true a b d e f = refl
-told false true false a b d e f = refl
-told false false g a b d e f = refl
+-- a write of CiCON: the first of its tests tells
+told : (b : Bool) (x : Model) (y : Written) → y .granted ≡ true
+    → replyNumbers (doneWriting (if b then denied x else y) .reply) ≡ (if b then 27 ∷ [] else [])
+told true x y e = refl
+told false x y e = rw e
 
 pub answers-27 : Answers27
 unfolding exchange performed registerWritten conWritten
 answers-27 s want w m e =
+    let P : Written → Type 0 = λ y. y .granted ≡ true in
     rw e
-    (told (eqb (read REQOP w) 4) (m .fixed .configuring) (granted (m .fixed) w)
-    (conSet m w true) (conSet (turnedAll true m) w true) (conSet (turnedAll false m) w false) (conSet m w true) (conSet m w false))
+    (told (m .fixed .configuring && not (eqb (read REQOP w) 4) && not (granted (m .fixed) w)) (conSet m w true) _
+    (by-if P (eqb (read REQOP w) 4) (λ q. by-if P (m .fixed .configuring) (λ c. refl) (λ c. refl)) (λ q. by-if P (m .fixed .configuring) (λ c. refl) (λ c. refl))))
 
 no-number : (o : Operation) (s : List ℕ) (want : ℕ) (m : Model)
     → ((w : ℕ) → o ≡ Operation.Write Register.Con w → ⊥) → replyNumbers (performed o s want m .reply) ≡ []

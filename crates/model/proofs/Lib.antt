@@ -1,2 +1,3 @@
 pub mod Laws
 mod Puts
+pub mod AllLaws

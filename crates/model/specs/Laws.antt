@@ -3,7 +3,7 @@
 use Prim.Native.Nat.{ℕ}
 use mathlib.Core.Path.{_≡_}
 use mathlib.Core.Bool.{Bool, true, false, not, _&&_}
-use mathlib.Core.List.{List, []}
+use mathlib.Core.List.{List, [], _∷_}
 use lib.Dec.{eqb}
 use Rattle.laws.specs.If.{if_then_else_}
 use Rattle.field.specs.Field.{read}
@@ -59,9 +59,19 @@ abbrev pub Answers27 : Type 0
 Answers27 =
     (s : List ℕ) (want w : ℕ) (m : Model) → asked s want ≡ Operation.Write Register.Con w
     → replyNumbers (exchange s want m .reply)
-    ≡ (if m .fixed .configuring && not (eqb (read REQOP w) 4) && not (granted (m .fixed) w) then numbered Refusal.NoLayout else [])
+    ≡ (if m .fixed .configuring && not (eqb (read REQOP w) 4) && not (granted (m .fixed) w) then 27 ∷ [] else [])
 
 -- no other exchange answers 27
 abbrev pub OthersAnswerNone : Type 0
 OthersAnswerNone =
     (s : List ℕ) (want : ℕ) (m : Model) → ((w : ℕ) → asked s want ≡ Operation.Write Register.Con w → ⊥) → replyNumbers (exchange s want m .reply) ≡ []
+
+-- ---- all of these
+
+pub record Laws : Type 0 where
+  pub readingKeeps : ReadingKeeps
+  pub othersFail : OthersFail
+  pub failureKeeps : FailureKeeps
+  pub frozenOutside : FrozenOutside
+  pub answers27 : Answers27
+  pub othersAnswerNone : OthersAnswerNone

@@ -99,3 +99,16 @@ Sized s want Operation.None = Unit {0}
 
 abbrev pub Sizes : Type 0
 Sizes = (s : List ℕ) (want : ℕ) → Sized s want (asked s want)
+
+-- ---- all of these
+
+pub record Laws : Type 0 where
+  pub carried : Carried
+  pub exactly : Exactly
+  pub asksRead : AsksRead
+  pub asksChecked : AsksChecked
+  pub asksWord : AsksWord
+  pub writesWord : WritesWord
+  pub asksBody : AsksBody
+  pub asksReset : AsksReset
+  pub sizes : Sizes

@@ -5,7 +5,7 @@ use mathlib.Core.Path.{_≡_, refl, sym, ap, subst, _∙_}
 use mathlib.Core.Bool.{Bool, true, false, _&&_, not, false≢true}
 use mathlib.Core.List.{List, [], _∷_, map}
 use native.Mathlib.Omega.{arith}
-use borrow.Author.Tests.{leb-true, leb-false}
+use borrow.Author.Tests.{leb-true, leb-false, not-false}
 use lib.Dec.{eqb, leb, ltb}
 use lib.ListN.{length, getD, set, take, drop, replicate, length-set, length-map, length-take, length-append, length-drop, List·getD-map}
 use Rattle.laws.proofs.Choice.{by-if}
@@ -49,7 +49,7 @@ at-set P (y ∷ l) (suc n) x d p f zero = f zero
 at-set P (y ∷ l) (suc n) x d p f (suc i) = at-set (λ k. P (suc k)) l n x d p (λ k. f (suc k)) i
 
 -- a list of one thing, and what stands beyond it
-at-replicate : {A : Type 0} (P : A → Type 0) (k : ℕ) (x d : A) → P x → P d → (i : ℕ) → P (getD (replicate k x) i d)
+pub at-replicate : {A : Type 0} (P : A → Type 0) (k : ℕ) (x d : A) → P x → P d → (i : ℕ) → P (getD (replicate k x) i d)
 at-replicate P zero x d p q i = q
 at-replicate P (suc k) x d p q zero = p
 at-replicate P (suc k) x d p q (suc i) = at-replicate P k x d p q i
@@ -132,18 +132,26 @@ unfolding granted
 granted-fits x w e =
     leb-true (end (x .frozen) 31) 2048 (both (not (flag TXQEN w) && not (flag STEF w)) (leb (end (x .frozen) 31) 2048) e .1)
 
+-- a write that asks to leave and is not denied is granted
+grants : (a b g : Bool) → a ≡ true → b ≡ false → (a && not b && not g) ≡ false → g ≡ true
+grants true false g p q d = not-false g d
+grants true true g p q d = absurd (false≢true (sym q))
+grants false b g p q d = absurd (false≢true p)
+
 pub leaving-valid : (m : Model) (w : ℕ) → Valid m → Valid (conWritten m w .model)
 unfolding conWritten
 leaving-valid m w v =
     let P : Written → Type 0 = λ x. Valid (x .model) in
-    by-if P (eqb (read REQOP w) 4)
+    let asks : Bool = m .fixed .configuring && not (eqb (read REQOP w) 4) in
+    by-if P (asks && not (granted (m .fixed) w))
+    (λ d. with-con m v true (both (m .fixed .configuring) (not (eqb (read REQOP w) 4)) (both asks (not (granted (m .fixed) w)) d .0) .0) w)
+    (λ d. by-if P (eqb (read REQOP w) 4)
     (λ e. by-if P (m .fixed .configuring) (λ c. with-con m v true c w)
     (λ c. with-turned m v true w (λ n. entered-order _ (fifoAt m n) (in-mode m v false c n)) (λ z. absurd (false≢true (sym z)))))
     (λ e. by-if P (m .fixed .configuring)
-    (λ c. by-if P (granted (m .fixed) w)
-    (λ g. with-turned m v false w (λ n. left-order _ (fifoAt m n) (in-mode m v true c n)) (λ z. granted-fits (m .fixed) w g))
-    (λ g. with-con m v true c w))
-    (λ c. with-con m v false c w))
+    (λ c. with-turned m v false w (λ n. left-order _ (fifoAt m n) (in-mode m v true c n))
+    (λ z. granted-fits (m .fixed) w (grants (m .fixed .configuring) (eqb (read REQOP w) 4) (granted (m .fixed) w) c e d)))
+    (λ c. with-con m v false c w)))
 
 module _ (m : Model) (v : Valid m) where
   control-valid : (n w : ℕ) → Valid (controlWritten m n w)

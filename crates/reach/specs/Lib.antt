@@ -1,2 +1,4 @@
 pub mod Bus
 pub mod Reach
+pub mod Chip
+pub mod Laws

@@ -3,28 +3,29 @@
 use Prim.Native.Nat.{ℕ, zero, suc, _+_, _-_, _*_, _≤_, _<_}
 use mathlib.Core.Path.{_≡_, refl, sym, ap, _∙_}
 use mathlib.Core.Logic.{⊎-elim}
-use mathlib.Core.Bool.{true, false}
+use mathlib.Core.Bool.{Bool, true, false}
 use mathlib.Core.List.{List, [], _∷_}
-use native.Mathlib.Nat.{le-refl, le-trans, le-add-right, eq-or-lt-of-le, le-of-suc-le-suc, mul-le-mul-right, suc-mul}
+use native.Mathlib.Nat.{le-refl, le-trans, le-add-right, add-zero, eq-or-lt-of-le, le-of-suc-le-suc, mul-le-mul-right, suc-mul}
 use native.Mathlib.Numerals.{add-one}
 use native.Mathlib.Omega.{arith}
-use borrow.Author.Tests.{ltb-true, ltb-false}
-use lib.Dec.{ltb}
+use borrow.Author.Tests.{ltb-true, ltb-false, eq-eqb, ne-eqb}
+use lib.Dec.{ltb, leb, eqb}
 use lib.ListN.{getD}
 use Rattle.laws.specs.All.{all}
 use Rattle.laws.specs.If.{if_then_else_}
 use Rattle.laws.proofs.Choice.{by-if}
 use Rattle.laws.proofs.Table.{both}
-use Rattle.field.specs.Field.{Field, place as at, read, flag, write, Fits, apart, allApart}
+use Rattle.field.specs.Field.{Field, place as at, withField, read, flag, digit, write, Fits, apart, allApart}
 use Rattle.field.specs.Settings.{Setting, _:=_, settings, AllFit}
 use Rattle.field.proofs.Laws.{field-lt, read-write, write-other, apart-sym}
 use Rattle.field.proofs.Sets.{own}
 use Rattle.fifo.specs.Control.{UINC, TXREQ, FRESET}
+use Rattle.fifo.specs.Status.{TFNRFNIF, TFERFFIF, RXOVIF}
 use Rattle.ring.specs.declared.ring.Fifo.{Fifo}
-use Rattle.ring.specs.Ring.{sending, depth, place, claimed, taken, increased, controlled, emptied, fresh, configured, commanded, turned}
-use Rattle.ring.specs.Registers.{frozenFields, copied, control}
+use Rattle.ring.specs.Ring.{sending, depth, place, claimed, taken, increased, controlled, emptied, fresh, sent, configured, commanded, turned}
+use Rattle.ring.specs.Registers.{frozenFields, copied, control, ready, edge, status}
 use Rattle.ring.specs.Layout.{size, room, end, base, slotAt}
-use Rattle.ring.specs.Laws.{slotEnd, SlotsApart, FifosApart, InRam, Alike, Frozen, UincReads0, FresetReads0}
+use Rattle.ring.specs.Laws.{slotEnd, SlotsApart, FifosApart, InRam, Alike, Frozen, UincReads0, FresetReads0, SendTxreq, EnteringEmpties, UincInside, StatusBits}
 
 -- ---- the ring's places
 
@@ -175,3 +176,48 @@ freset-reads-0 frozen w f = (
   commanded-off FRESET frozen w f refl refl ∙ own dropped w 1 refl dropped-fit (omega arith),
   control-off FRESET frozen (turned false f) refl ∙ read-write FRESET 0 (f .control) (omega arith),
 )
+
+-- ---- TXREQ and status bit 3
+
+pub send-txreq : SendTxreq
+unfolding sent controlled taken
+send-txreq frozen f = record {
+  last = λ e. rw (eq-eqb (f .count) 1 e) (control-off TXREQ frozen _ refl ∙ read-write TXREQ 0 (f .control) (omega arith));
+  another = λ e. rw (ne-eqb (f .count) 1 e) (control-off TXREQ frozen _ refl ∙ sym (control-off TXREQ frozen f refl));
+}
+
+pub entering-empties : EnteringEmpties
+unfolding emptied fresh
+entering-empties frozen f = record {
+  empty = refl;
+  txreq = control-off TXREQ frozen (turned true f) refl ∙ read-write TXREQ 0 (f .control) (omega arith);
+  overflow = refl;
+}
+
+pub uinc-inside : UincInside
+unfolding configured controlled
+uinc-inside w f = (refl, refl)
+
+-- ---- the status word
+
+-- three bits of a word that is 0 otherwise, by computing
+three : (a b c : Bool) → settings (TFNRFNIF := digit a ∷ TFERFFIF := digit b ∷ RXOVIF := digit c ∷ []) 0 ≡ digit a + 4 * digit b + 8 * digit c
+unfolding withField
+three true true true = refl
+three true true false = refl
+three true false true = refl
+three true false false = refl
+three false true true = refl
+three false true false = refl
+three false false true = refl
+three false false false = refl
+
+by-direction : (s a b c d o : Bool)
+    → settings (TFNRFNIF := digit (if s then a else b) ∷ TFERFFIF := digit (if s then c else d) ∷ RXOVIF := digit (if s then false else o) ∷ []) 0
+    ≡ (if s then digit a + 4 * digit c else digit b + 4 * digit d + 8 * digit o)
+by-direction true a b c d o = three a c false ∙ add-zero (digit a + 4 * digit c)
+by-direction false a b c d o = three b d o
+
+pub status-bits : StatusBits
+unfolding status ready edge
+status-bits frozen f = by-direction (sending frozen) (ltb (f .count) (depth frozen)) (ltb 0 (f .count)) (eqb (f .count) 0) (leb (depth frozen) (f .count)) (f .over)

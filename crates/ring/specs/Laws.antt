@@ -1,15 +1,17 @@
 -- What is proved of the FIFOs' registers and of their slots in RAM, as statements.
 -- Assumes nothing.
-use Prim.Native.Nat.{ℕ, _+_, _≤_, _<_}
+use Prim.Native.Nat.{ℕ, _+_, _*_, _≤_, _<_}
 use mathlib.Core.Path.{_≡_}
-use mathlib.Core.Bool.{false}
+use mathlib.Core.Bool.{true, false}
 use mathlib.Core.List.{List, [], _∷_}
 use lib.ListN.{getD}
-use Rattle.field.specs.Field.{Field, read}
-use Rattle.fifo.specs.Control.{UINC, FRESET}
+use lib.Dec.{ltb, leb, eqb}
+use Rattle.laws.specs.If.{if_then_else_}
+use Rattle.field.specs.Field.{Field, read, digit}
+use Rattle.fifo.specs.Control.{UINC, TXREQ, FRESET}
 use Rattle.ring.specs.declared.ring.Fifo.{Fifo}
-use Rattle.ring.specs.Ring.{depth, configured, commanded, turned}
-use Rattle.ring.specs.Registers.{frozenFields, control}
+use Rattle.ring.specs.Ring.{sending, depth, sent, configured, commanded, turned}
+use Rattle.ring.specs.Registers.{frozenFields, control, status}
 use Rattle.ring.specs.Layout.{size, end, slotAt}
 
 -- ---- slots in RAM
@@ -52,3 +54,50 @@ abbrev pub FresetReads0 : Type 0
 FresetReads0 =
     (frozen w : ℕ) (f : Fifo)
     → (read FRESET (control frozen (commanded frozen w f)) ≡ 0) × (read FRESET (control frozen (turned false f)) ≡ 0)
+
+-- ---- TXREQ and status bit 3
+
+-- a send of the last clears TXREQ, of another keeps it
+pub record SendsTxreq (frozen : ℕ) (f : Fifo) : Type 0 where
+  pub last : f .count ≡ 1 → read TXREQ (control frozen (sent frozen f)) ≡ 0
+  pub another : (f .count ≡ 1 → ⊥) → read TXREQ (control frozen (sent frozen f)) ≡ read TXREQ (control frozen f)
+
+abbrev pub SendTxreq : Type 0
+SendTxreq = (frozen : ℕ) (f : Fifo) → SendsTxreq frozen f
+
+-- a FIFO that holds nothing, with TXREQ and status bit 3 at 0
+pub record Emptied (frozen : ℕ) (f : Fifo) : Type 0 where
+  pub empty : f .count ≡ 0
+  pub txreq : read TXREQ (control frozen f) ≡ 0
+  pub overflow : f .over ≡ false
+
+-- entering Configuration leaves it so
+abbrev pub EnteringEmpties : Type 0
+EnteringEmpties = (frozen : ℕ) (f : Fifo) → Emptied frozen (turned true f)
+
+-- in Configuration a control word written, UINC set or not, moves nothing in the ring
+abbrev pub UincInside : Type 0
+UincInside = (w : ℕ) (f : Fifo) → (configured w f .head ≡ f .head) × (configured w f .count ≡ f .count)
+
+-- ---- the status word: bit 0 is not-full when sending and not-empty when receiving, bit 2 empty or full, bit 3 receive overflow
+
+abbrev pub StatusBits : Type 0
+StatusBits =
+    (frozen : ℕ) (f : Fifo)
+    → status frozen f
+    ≡ (if sending frozen then digit (ltb (f .count) (depth frozen)) + 4 * digit (eqb (f .count) 0)
+    else digit (ltb 0 (f .count)) + 4 * digit (leb (depth frozen) (f .count)) + 8 * digit (f .over))
+
+-- ---- all of these
+
+pub record Laws : Type 0 where
+  pub slotsApart : SlotsApart
+  pub fifosApart : FifosApart
+  pub inRam : InRam
+  pub frozen : Frozen
+  pub uincReads0 : UincReads0
+  pub fresetReads0 : FresetReads0
+  pub sendTxreq : SendTxreq
+  pub enteringEmpties : EnteringEmpties
+  pub uincInside : UincInside
+  pub statusBits : StatusBits

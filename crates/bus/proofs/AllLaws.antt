@@ -1,0 +1,17 @@
+-- Every law of the bus steps is proved.
+-- Assumes nothing.
+use Rattle.bus.specs.Laws.{Laws}
+use Rattle.bus.proofs.Laws.{nothing-sent, oldest-sent, send-answers, row-length, row-at}
+use Rattle.bus.proofs.Arriving.{deliver-answers, delivered-iff, turned-down}
+
+pub laws : Laws
+laws = record {
+  nothingSent = nothing-sent;
+  oldestSent = oldest-sent;
+  sendAnswers = send-answers;
+  deliverAnswers = deliver-answers;
+  deliveredIff = delivered-iff;
+  turnedDown = turned-down;
+  rowLength = row-length;
+  rowAt = row-at;
+}

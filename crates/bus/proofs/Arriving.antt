@@ -1,0 +1,149 @@
+-- What deliver answers and leaves, by the first cause that turns a frame down.
+-- Assumes nothing.
+use Prim.Native.Nat.{ℕ, _^_, _≤_, _<_}
+use mathlib.Core.Path.{_≡_, refl, sym, ap, _∙_}
+use mathlib.Core.Bool.{Bool, true, false, not, false≢true}
+use mathlib.Core.List.{List, [], _∷_}
+use mathlib.Core.Logic.{_↔_}
+use native.Mathlib.Omega.{arith}
+use borrow.Author.Tests.{ltb-true, ltb-false, leb-true, leb-false}
+use lib.Dec.{ltb, leb}
+use lib.ListN.{length, getD}
+use Rattle.laws.specs.If.{if_then_else_}
+use Rattle.laws.proofs.Choice.{by-if}
+use Rattle.fifo.specs.Control.{payloadOf, isFifo}
+use Rattle.spi.specs.declared.refusal.Refusal.{Refusal}
+use Rattle.header.specs.declared.dlc.Dlc.{Dlc}
+use Rattle.header.specs.declared.Header.{Header}
+use Rattle.header.specs.Dlc.{dlcOf}
+use Rattle.header.specs.Header.{topId}
+use Rattle.message.specs.declared.tx.Checked.{Checked}
+use Rattle.message.specs.Message.{byDlc, coded, encoding, checkOf}
+use Rattle.ring.specs.Ring.{sending, depth, claimed, overflowed}
+use Rattle.state.specs.declared.Model.{Model}
+use Rattle.state.specs.Model.{fifoAt, frozenAt, withFifo, written}
+use Rattle.bus.specs.declared.arrival.Delivery.{Delivery}
+use Rattle.bus.specs.declared.arrival.Delivered.{Delivered}
+use Rattle.bus.specs.Held.{slotOf, held}
+use Rattle.bus.specs.Bus.{incoming, delivered, appended, byEncoding, deliverOf}
+use Rattle.bus.specs.Numbers.{deliveryNumbers}
+use Rattle.bus.specs.Laws.{hasDlc, deliverAnswer, DeliverAnswers, Deliverable, DeliveredIff, Leaves, TurnedDown}
+use Rattle.bus.proofs.Laws.{held-length}
+
+-- what holds of each result of the checks of a frame, which has no SEQ, holds of theirs
+by-checked : (Q : Checked → Type 0) (t : Bool) (x : Dlc)
+    → (t ≡ true → Q (Checked.Bad Refusal.BadIdentifier)) → (t ≡ false → x ≡ Dlc.Bad → Q (Checked.Bad Refusal.BadPayload))
+    → (t ≡ false → (d : ℕ) → x ≡ Dlc.Is d → Q (Checked.Dlc d))
+    → Q (if t then Checked.Bad Refusal.BadIdentifier else if leb (2 ^ 23) 0 then Checked.Bad Refusal.BadSetting else byDlc x)
+by-checked Q true x a b c = a refl
+by-checked Q false (Dlc.Is d) a b c = c refl d refl
+by-checked Q false Dlc.Bad a b c = b refl refl
+
+module _ (m : Model) (n : ℕ) (header : Header) (time : ℕ) (payload : List ℕ) where
+  abbrev pub tooHigh : Bool
+  tooHigh = ltb (topId (header .extended)) (header .id)
+
+  abbrev pub dlc : Dlc
+  dlc = dlcOf (header .fdf) (length payload)
+
+  -- what holds of each answer holds of deliver's; each may use the tests that lead to it
+  pub by-deliver : (P : Delivered → Type 0)
+      → (isFifo n ≡ false → P (delivered (Delivery.Refused Refusal.BadNumber) m))
+      → (isFifo n ≡ true → tooHigh ≡ true → P (delivered (Delivery.Refused Refusal.BadIdentifier) m))
+      → (isFifo n ≡ true → tooHigh ≡ false → dlc ≡ Dlc.Bad → P (delivered (Delivery.Refused Refusal.BadPayload) m))
+      → (isFifo n ≡ true → tooHigh ≡ false → (d : ℕ) → dlc ≡ Dlc.Is d → (bs : List ℕ) → P (appended m n (length payload) bs))
+      → P (deliverOf m n header time payload)
+  unfolding deliverOf encoding checkOf incoming
+  by-deliver P a b c f =
+      by-if P (isFifo n)
+      (λ i. by-checked (λ y. P (byEncoding (coded y (incoming m n header time payload)) m n (length payload))) tooHigh dlc (b i) (c i) (λ e d g. f i e d g _)) a
+
+  -- the causes that the FIFO and the mode are, in document 01's order
+  pub by-appended : (P : Delivered → Type 0) (bs : List ℕ)
+      → (m .fixed .configuring ≡ true → P (delivered Delivery.Configuration m))
+      → (m .fixed .configuring ≡ false → sending (frozenAt m n) ≡ true → P (delivered Delivery.NotReceiving m))
+      → (m .fixed .configuring ≡ false → sending (frozenAt m n) ≡ false → ltb (payloadOf (frozenAt m n)) (length payload) ≡ true → P (delivered Delivery.TooLong m))
+      → (m .fixed .configuring ≡ false → sending (frozenAt m n) ≡ false → ltb (payloadOf (frozenAt m n)) (length payload) ≡ false
+      → leb (depth (frozenAt m n)) (fifoAt m n .count) ≡ true → P (delivered Delivery.Full (withFifo m n (overflowed true (fifoAt m n)))))
+      → (m .fixed .configuring ≡ false → sending (frozenAt m n) ≡ false → ltb (payloadOf (frozenAt m n)) (length payload) ≡ false
+      → leb (depth (frozenAt m n)) (fifoAt m n .count) ≡ false
+      → P (delivered Delivery.Delivered (withFifo (written m (slotOf m n (fifoAt m n .count)) bs) n (claimed (fifoAt m n)))))
+      → P (appended m n (length payload) bs)
+  unfolding appended
+  by-appended P bs a b c d e =
+      by-if P (m .fixed .configuring) a
+      (λ x. by-if P (sending (frozenAt m n)) (b x)
+      (λ y. by-if P (ltb (payloadOf (frozenAt m n)) (length payload)) (c x y)
+      (λ z. by-if P (leb (depth (frozenAt m n)) (fifoAt m n .count)) (d x y z) (e x y z))))
+
+pub deliver-answers : DeliverAnswers
+deliver-answers m n header time payload =
+    let P : Delivered → Type 0 = λ x. deliveryNumbers (x .delivery) ≡ deliverAnswer m n header payload in
+    by-deliver m n header time payload P
+    (λ i. rw i)
+    (λ i t. rw (i, t))
+    (λ i t d. rw (i, t, d))
+    (λ i t d e bs. by-appended m n header time payload P bs
+    (λ a. rw (i, t, e, a))
+    (λ a b. rw (i, t, e, a, b))
+    (λ a b c. rw (i, t, e, a, b, c))
+    (λ a b c f. rw (held-length m n i, i, t, e, a, b, c, f))
+    (λ a b c f. rw (held-length m n i, i, t, e, a, b, c, f)))
+
+-- a fact that is both true and false
+pub clash : {X : Type 0} {b : Bool} → b ≡ false → b ≡ true → X
+clash f t = absurd (false≢true (sym f ∙ t))
+
+abbrev arrived : Delivery → Bool
+arrived Delivery.Delivered = true
+arrived Delivery.Configuration = false
+arrived Delivery.NotReceiving = false
+arrived Delivery.TooLong = false
+arrived Delivery.Full = false
+arrived (Delivery.Refused r) = false
+
+never : {X : Type 0} (x : Delivery) → arrived x ≡ false → x ≡ Delivery.Delivered → X
+never x f q = clash f (ap arrived q)
+
+pub delivered-iff : DeliveredIff
+delivered-iff m n header time payload =
+    let P : Delivered → Type 0 = λ x. (x .delivery ≡ Delivery.Delivered) ↔ Deliverable m n header payload in
+    by-deliver m n header time payload P
+    (λ i. (never _ refl, λ h. clash i (h .fifo)))
+    (λ i t. (never _ refl, λ h. absurd (omega (arith, h .identifier, ltb-true))))
+    (λ i t d. (never _ refl, λ h. clash (ap hasDlc d) (h .allowed)))
+    (λ i t d e bs. by-appended m n header time payload P bs
+    (λ a. (never _ refl, λ h. clash (h .outside) a))
+    (λ a b. (never _ refl, λ h. clash (h .receives) b))
+    (λ a b c. (never _ refl, λ h. absurd (omega (arith, h .fits, ltb-true))))
+    (λ a b c f. (never _ refl, λ h. absurd (omega (arith, h .room, held-length m n i, leb-true))))
+    (λ a b c f. (
+      λ q. record {
+        fifo = i;
+        identifier = ltb-false (topId (header .extended)) (header .id) t;
+        allowed = ap hasDlc e;
+        outside = a;
+        receives = b;
+        fits = ltb-false (payloadOf (frozenAt m n)) (length payload) c;
+        room = omega (arith, held-length m n i, leb-false (depth (frozenAt m n)) (fifoAt m n .count) f);
+      },
+      λ h. refl,
+    )))
+
+-- an answer that says that nothing changed
+kept : (a : List ℕ) (m : Model) (n : ℕ) → (getD a 1 0 ≡ 4 → ⊥) → Leaves a m m n
+kept a m n ne = record { full = λ e. absurd (ne (ap (λ (l : List ℕ). getD l 1 0) e)); others = λ x y. refl }
+
+pub turned-down : TurnedDown
+turned-down m n header time payload =
+    let P : Delivered → Type 0 = λ x. Leaves (deliveryNumbers (x .delivery)) m (x .model) n in
+    by-deliver m n header time payload P
+    (λ i. kept (20 ∷ []) m n (λ e. omega arith))
+    (λ i t. kept (21 ∷ []) m n (λ e. omega arith))
+    (λ i t d. kept (22 ∷ []) m n (λ e. omega arith))
+    (λ i t d e bs. by-appended m n header time payload P bs
+    (λ a. kept (0 ∷ 1 ∷ []) m n (λ e. omega arith))
+    (λ a b. kept (0 ∷ 2 ∷ []) m n (λ e. omega arith))
+    (λ a b c. kept (0 ∷ 3 ∷ []) m n (λ e. omega arith))
+    (λ a b c f. record { full = λ e. refl; others = λ x y. absurd (y refl) })
+    (λ a b c f. record { full = λ e. absurd (omega (arith, ap (λ (l : List ℕ). getD l 1 0) e)); others = λ x y. absurd (x refl) }))

@@ -1,0 +1,23 @@
+-- Every law of the chips that are reached is proved.
+-- Assumes nothing.
+use Rattle.reach.specs.Laws.{Laws}
+use Rattle.reach.proofs.Kept.{always-valid}
+use Rattle.reach.proofs.Told.{uinc-reads-0, freset-reads-0}
+use Rattle.reach.proofs.Chip.{send-takes, send-keeps, send-inside, deliver-appends, full-overflows, entering, resetting, inside-empty, opmod-exactly, status-reads}
+
+pub laws : Laws
+laws = record {
+  alwaysValid = always-valid;
+  uincReads0 = uinc-reads-0;
+  fresetReads0 = freset-reads-0;
+  sendTakes = send-takes;
+  sendKeeps = send-keeps;
+  sendInside = send-inside;
+  deliverAppends = deliver-appends;
+  fullOverflows = full-overflows;
+  entering = entering;
+  resetting = resetting;
+  insideEmpty = inside-empty;
+  opmodExactly = opmod-exactly;
+  statusReads = status-reads;
+}

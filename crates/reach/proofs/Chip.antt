@@ -1,0 +1,327 @@
+-- Document 01's sentences about the modelled chip.
+-- Assumes nothing.
+use Prim.Native.Nat.{ℕ, _+_, _*_, _%_, _^_, _<_}
+use mathlib.Core.Path.{_≡_, refl, sym, ap, ap₂, subst, _∙_}
+use mathlib.Core.Bool.{Bool, true, false, _&&_, not, false≢true}
+use mathlib.Core.List.{List, [], _∷_, _++_}
+use native.Mathlib.Omega.{arith}
+use borrow.Author.Tests.{ltb-true, lt-ltb, ltb-false, leb-false, eqb-true, eqb-false, eq-eqb}
+use lib.Dec.{ltb, leb, eqb}
+use lib.ListN.{length}
+use lib.Seq.{getD-set-same}
+use Rattle.laws.specs.If.{if_then_else_}
+use Rattle.laws.proofs.Choice.{by-if}
+use Rattle.laws.proofs.Table.{both}
+use Rattle.field.specs.Field.{read, flag, digit}
+use Rattle.configuration.specs.CanControl.{REQOP}
+use Rattle.fifo.specs.Control.{TXEN, TXREQ, FSIZE, payloadOf, isFifo, CiFIFOCON}
+use Rattle.fifo.specs.Status.{RXOVIF}
+use Rattle.header.specs.declared.Header.{Header}
+use Rattle.message.specs.Message.{Encoding, encoding, Decoding, holds}
+use Rattle.operation.specs.declared.place.Register.{Register}
+use Rattle.operation.specs.declared.operation.Operation.{Operation}
+use Rattle.operation.specs.Operation.{asked}
+use Rattle.ring.specs.declared.ring.Fifo.{Fifo}
+use Rattle.ring.specs.Ring.{sending, depth, fresh, claimed, overflowed, sent, turned}
+use Rattle.ring.specs.Registers.{control, status}
+use Rattle.ring.proofs.Laws.{frozen-kept, control-off, send-txreq, entering-empties, status-bits}
+use Rattle.state.specs.declared.Fixed.{Fixed}
+use Rattle.state.specs.declared.Model.{Model}
+use Rattle.state.specs.Model.{areas, blank, reset, fifoAt, frozenAt, withFifo}
+use Rattle.bank.specs.declared.writing.Written.{Written}
+use Rattle.bank.specs.Registers.{modeOf, wordOf, granted, conSet, settled, turnedAll, conWritten, controlWritten, statusWritten, registerWritten}
+use Rattle.bank.proofs.Laws.{opmod-is}
+use Rattle.model.specs.Exchange.{performed, exchange}
+use Rattle.bus.specs.declared.arrival.Delivery.{Delivery}
+use Rattle.bus.specs.declared.arrival.Delivered.{Delivered}
+use Rattle.bus.specs.Held.{itemAt, row, held}
+use Rattle.bus.specs.Bus.{nothing, outputOf, sends, sendOutput, sendModel, incoming, appended, byEncoding, deliverOf}
+use Rattle.bus.proofs.Laws.{oldest-sent, held-length}
+use Rattle.bus.proofs.Arriving.{by-deliver, by-appended, clash}
+use Rattle.reach.specs.Bus.{Bus, Send, Deliver, stepped}
+use Rattle.reach.specs.Reach.{Happening, Exchange, On, happens, lived, Reached, Valid}
+use Rattle.reach.specs.Chip.{Requested, Takes, SendTakes, SendKeeps, SendInside, DeliverAppends, FullOverflows, Entered, Entering, Resetting, InsideEmpty, OpmodExactly}
+use Rattle.reach.specs.Chip.{statusOf, StatusReads}
+use Rattle.reach.proofs.Kept.{at-replicate, turned-at, always-valid}
+use Rattle.reach.proofs.Sound.{Sound}
+use Rattle.reach.proofs.Slots.{fifo-told, filled, filled-held, filled-item, filled-sound, next-fifo, more-held}
+use Rattle.reach.proofs.Arrivals.{coming-suits, coming-fits}
+
+-- ---- what is held
+
+none-held : (m : Model) (n : ℕ) → fifoAt m n .count ≡ 0 → held m n ≡ []
+unfolding held row
+none-held m n e = by-if (λ (l : List Decoding). l ≡ []) (isFifo n) (λ i. rw e) (λ i. refl)
+
+-- as many are held as the FIFO counts
+counted : (m : Model) (n : ℕ) → isFifo n ≡ true → (l : List Decoding) → held m n ≡ l → fifoAt m n .count ≡ length l
+counted m n i l e = sym (held-length m n i) ∙ ap length e
+
+-- ---- send
+
+module _ (m : Model) (n : ℕ) where
+  -- TXEN and TXREQ as they read, and as the send looks at them
+  txen-reads : read TXEN (wordOf m (Register.Control n)) ≡ read TXEN (frozenAt m n)
+  unfolding wordOf
+  txen-reads = frozen-kept (frozenAt m n) (fifoAt m n) .1 .0
+
+  txreq-reads : read TXREQ (wordOf m (Register.Control n)) ≡ read TXREQ (fifoAt m n .control)
+  unfolding wordOf
+  txreq-reads = control-off TXREQ (frozenAt m n) (fifoAt m n) refl
+
+  sends-asked : sends m n ≡ true → Requested m n × (0 < fifoAt m n .count)
+  unfolding sends sending
+  sends-asked e =
+      let (a, b) = both (flag TXEN (frozenAt m n) && flag TXREQ (fifoAt m n .control)) (ltb 0 (fifoAt m n .count)) e in
+      let (c, d) = both (flag TXEN (frozenAt m n)) (flag TXREQ (fifoAt m n .control)) a in
+      ((txen-reads ∙ eqb-true _ 1 c, txreq-reads ∙ eqb-true _ 1 d), ltb-true 0 (fifoAt m n .count) b)
+
+  asked-sends : Requested m n → 0 < fifoAt m n .count → sends m n ≡ true
+  unfolding sends sending
+  asked-sends q l =
+      let a : flag TXEN (frozenAt m n) ≡ true = eq-eqb _ 1 (sym txen-reads ∙ q .0) in
+      let b : flag TXREQ (fifoAt m n .control) ≡ true = eq-eqb _ 1 (sym txreq-reads ∙ q .1) in
+      rw (a, b, lt-ltb 0 (fifoAt m n .count) l)
+
+pub send-keeps : SendKeeps
+unfolding sendOutput sendModel
+send-keeps m n i h = go (sends m n) refl
+  where
+    go : (b : Bool) → sends m n ≡ b → (sendOutput m n ≡ nothing) × (sendModel m n ≡ m)
+    go true e =
+        let (q, l) = sends-asked m n e in
+        absurd (omega (arith, counted m n i [] (h q)))
+    go false e = (rw (i, e), rw (i, e))
+
+pub inside-empty : InsideEmpty
+inside-empty m r c n = none-held m n (always-valid m r .fifo n .empty c)
+
+pub send-inside : SendInside
+send-inside m r c n i = send-keeps m n i (λ q. inside-empty m r c n)
+
+-- a send that takes one: its answer, and the control word after it
+module _ (m : Model) (n : ℕ) (i : isFifo n ≡ true) (v : Valid m) (e : sends m n ≡ true) where
+  sent-out : sendOutput m n ≡ outputOf (itemAt m n 0)
+  unfolding sendOutput
+  sent-out = rw (i, e)
+
+  sent-model : sendModel m n ≡ withFifo m n (sent (frozenAt m n) (fifoAt m n))
+  unfolding sendModel
+  sent-model = rw (i, e)
+
+  sent-word : wordOf (sendModel m n) (Register.Control n) ≡ control (frozenAt m n) (sent (frozenAt m n) (fifoAt m n))
+  unfolding wordOf
+  sent-word =
+      ap (λ (d : Model). control (frozenAt d n) (fifoAt d n)) sent-model
+      ∙ ap (control (frozenAt m n)) (getD-set-same (m .fifo) n (sent (frozenAt m n) (fifoAt m n)) blank (omega (arith, v .fifos, fifo-told n i .1)))
+
+no-entry : (l : List Decoding) → length l ≡ 0 → l ≡ []
+no-entry [] e = refl
+no-entry (x ∷ l) e = absurd (omega arith)
+
+pub send-takes : SendTakes
+unfolding wordOf
+send-takes m r n i q x rest e =
+    let v = always-valid m r in
+    let k : fifoAt m n .count ≡ length (x ∷ rest) = counted m n i (x ∷ rest) e in
+    let s : sends m n ≡ true = asked-sends m n q (omega arith) in
+    let o : x ∷ rest ≡ itemAt m n 0 ∷ held (sendModel m n) n = sym e ∙ oldest-sent m n i s (v .fifo n .head) (v .fifo n .count) in
+    let w = ap (read TXREQ) (sent-word m n i v s) in
+    let t = send-txreq (frozenAt m n) (fifoAt m n) in
+    let first : itemAt m n 0 ≡ x = cc in
+    let one : rest ≡ [] → fifoAt m n .count ≡ 1 = λ z. k ∙ ap (λ (l : List Decoding). length (x ∷ l)) z in
+    let more : (rest ≡ [] → ⊥) → fifoAt m n .count ≡ 1 → ⊥ = λ z c. z (no-entry rest (omega arith)) in
+    record {
+      out = sent-out m n i v s ∙ ap outputOf first;
+      stay = cc;
+      last = λ z. w ∙ t .last (one z);
+      another = λ z. w ∙ t .another (more z) ∙ q .1;
+    }
+
+-- ---- deliver
+
+-- an answer that is not the one asked about
+abbrev cause : Delivery → ℕ
+cause Delivery.Delivered = 0
+cause Delivery.Configuration = 1
+cause Delivery.NotReceiving = 2
+cause Delivery.TooLong = 3
+cause Delivery.Full = 4
+cause (Delivery.Refused r) = 5
+
+other : (X : Type 0) (x y : Delivery) → (cause x ≡ cause y → ⊥) → x ≡ y → X
+other X x y ne e = absurd (ne (ap cause e))
+
+module _ (m : Model) (r : Reached m) (n : ℕ) (header : Header) (time : ℕ) (payload : List ℕ) (small : time < 2 ^ 32) (k : ℕ) where
+  abbrev Appends : Delivered → Type 0
+  Appends x =
+      x .delivery ≡ Delivery.Delivered → held (x .model) k ≡ held m k ++ (if eqb n k then holds (incoming m n header time payload) ∷ [] else [])
+
+  -- an object that fits is put behind those held
+  puts : isFifo n ≡ true → (bs : List ℕ) → encoding (incoming m n header time payload) ≡ Encoding.object bs → Appends (appended m n (length payload) bs)
+  unfolding claimed
+  puts i bs e =
+      by-appended m n header time payload Appends bs
+      (λ a. other _ _ _ (λ z. omega arith)) (λ a b. other _ _ _ (λ z. omega arith)) (λ a b c. other _ _ _ (λ z. omega arith)) (λ a b c d. other _ _ _ (λ z. omega arith))
+      (λ a b c d z.
+      let s : Sound m = record { valid = always-valid m r; out = a } in
+      let free : fifoAt m n .count < depth (frozenAt m n) = leb-false (depth (frozenAt m n)) (fifoAt m n .count) d in
+      let fits = coming-fits m n header time payload bs e (ltb-false (payloadOf (frozenAt m n)) (length payload) c) in
+      let item = filled-item m s n i free bs fits (incoming m n header time payload) e (coming-suits m n header time payload small) in
+      sym (more-held (filled m n bs) (filled-sound m s n i free bs fits) n i (claimed (fifoAt m n)) refl refl k)
+      ∙ ap₂ (λ (l : List Decoding) (x : Decoding). l ++ (if eqb n k then x ∷ [] else [])) (filled-held m s n i free bs fits k) item)
+
+  arrives : isFifo n ≡ true → (x : Encoding) → encoding (incoming m n header time payload) ≡ x → Appends (byEncoding x m n (length payload))
+  arrives i (Encoding.refused f) e = other _ _ _ (λ z. omega arith)
+  arrives i (Encoding.object bs) e = puts i bs e
+
+pub deliver-appends : DeliverAppends
+unfolding deliverOf
+deliver-appends m r n header time payload small e k =
+    by-if (Appends m r n header time payload small k) (isFifo n)
+    (λ i. arrives m r n header time payload small k i (encoding (incoming m n header time payload)) refl) (λ i. other _ _ _ (λ z. omega arith)) e
+
+-- bit 3, by computing
+bit-3 : (a b : Bool) → read RXOVIF (digit a + 4 * digit b + 8 * 1) ≡ 1
+bit-3 true true = refl
+bit-3 true false = refl
+bit-3 false true = refl
+bit-3 false false = refl
+
+over-reads : (v : ℕ) (f : Fifo) → sending v ≡ false → f .over ≡ true → read RXOVIF (status v f) ≡ 1
+over-reads v f e o =
+    ap (read RXOVIF) (status-bits v f ∙ rw (e, o)) ∙ bit-3 (ltb 0 (f .count)) (leb (depth v) (f .count))
+
+pub full-overflows : FullOverflows
+unfolding wordOf overflowed
+full-overflows m r n header time payload e =
+    let P : Delivered → Type 0 = λ x. x .delivery ≡ Delivery.Full → read RXOVIF (wordOf (x .model) (Register.Status n)) ≡ 1 in
+    by-deliver m n header time payload P
+    (λ i. other _ _ _ (λ z. omega arith)) (λ i t. other _ _ _ (λ z. omega arith)) (λ i t d. other _ _ _ (λ z. omega arith))
+    (λ i t d f bs. by-appended m n header time payload P bs
+    (λ a. other _ _ _ (λ z. omega arith)) (λ a b. other _ _ _ (λ z. omega arith)) (λ a b c. other _ _ _ (λ z. omega arith))
+    (λ a b c g q.
+    let s : Sound m = record { valid = always-valid m r; out = a } in
+    let h : Fifo = overflowed true (fifoAt m n) in
+    rw a (over-reads (frozenAt m n) (fifoAt (withFifo m n h) n) b (ap (λ (x : Fifo). x .over) (next-fifo m s n i h))))
+    (λ a b c g. other _ _ _ (λ z. omega arith)))
+    e
+
+-- ---- Configuration
+
+module _ (m : Model) (w : ℕ) (c : m .fixed .configuring ≡ false) (q : read REQOP w ≡ 4) where
+  entered-is : conWritten m w ≡ settled (conSet (turnedAll true m) w true)
+  unfolding conWritten
+  entered-is = rw (eq-eqb (read REQOP w) 4 q, c)
+
+  entered : Entered (conSet (turnedAll true m) w true)
+  unfolding wordOf
+  entered =
+      let t : (n : ℕ) → fifoAt (turnedAll true m) n ≡ turned true (fifoAt m n) = turned-at true m in
+      let e : (n : ℕ) → _ = λ n. entering-empties (frozenAt m n) (fifoAt m n) in
+      record {
+        inside = refl;
+        empty = λ n. none-held _ n (ap (λ (f : Fifo). f .count) (t n) ∙ e n .empty);
+        txreq = λ n. ap (λ (f : Fifo). read TXREQ (control (frozenAt m n) f)) (t n) ∙ e n .txreq;
+        overflow = λ n. ap (λ (f : Fifo). f .over) (t n) ∙ e n .overflow;
+      }
+
+pub entering : Entering
+unfolding exchange performed registerWritten
+entering s want w m e c q =
+    subst Entered (sym (ap (λ (o : Operation). performed o s want m .model) e ∙ ap (λ (x : Written). x .model) (entered-is m w c q))) (entered m w c q)
+
+reset-entered : (ram : List ℕ) → Entered (reset ram)
+unfolding reset wordOf fresh
+reset-entered ram =
+    let all : (P : Fifo → Type 0) → P (fresh (CiFIFOCON .reset)) → P blank → (n : ℕ) → P (fifoAt (reset ram) n)
+    = λ P p q. at-replicate P areas (fresh (CiFIFOCON .reset)) blank p q in
+    record {
+      inside = refl;
+      empty = λ n. none-held (reset ram) n (all (λ f. f .count ≡ 0) refl refl n);
+      txreq = λ n. control-off TXREQ (frozenAt (reset ram) n) (fifoAt (reset ram) n) refl ∙ all (λ f. read TXREQ (f .control) ≡ 0) refl refl n;
+      overflow = λ n. all (λ f. f .over ≡ false) refl refl n;
+    }
+
+pub resetting : Resetting
+unfolding exchange performed
+resetting s want m e = subst Entered (sym (ap (λ (o : Operation). performed o s want m .model) e)) (reset-entered (m .ram))
+
+-- ---- the mode: outside Configuration REQOP is never 4
+
+abbrev Outside : Model → Type 0
+Outside m = m .fixed .configuring ≡ false → read REQOP (m .fixed .con) ≡ 4 → ⊥
+
+con-outside : (m : Model) (w : ℕ) → Outside (conWritten m w .model)
+unfolding conWritten
+con-outside m w =
+    let P : Written → Type 0 = λ x. Outside (x .model) in
+    by-if P (m .fixed .configuring && not (eqb (read REQOP w) 4) && not (granted (m .fixed) w)) (λ d x y. clash x refl)
+    (λ d. by-if P (eqb (read REQOP w) 4)
+    (λ e. by-if P (m .fixed .configuring) (λ c x y. clash x refl) (λ c x y. clash x refl))
+    (λ e. by-if P (m .fixed .configuring) (λ c x. eqb-false (read REQOP w) 4 e) (λ c x. eqb-false (read REQOP w) 4 e)))
+
+module _ (m : Model) (h : Outside m) where
+  register-outside : (r : Register) (w : ℕ) → Outside (registerWritten m r w .model)
+  unfolding registerWritten controlWritten statusWritten
+  register-outside Register.Con w = con-outside m w
+  register-outside Register.Osc w = h
+  register-outside (Register.Plain k) w = h
+  register-outside (Register.Filter k) w = h
+  register-outside (Register.Object k) w = h
+  register-outside (Register.Mask k) w = h
+  register-outside (Register.Control n) w = by-if Outside (m .fixed .configuring) (λ c. h) (λ c. h)
+  register-outside (Register.Status n) w = by-if Outside (flag RXOVIF w) (λ e. h) (λ e. h)
+  register-outside (Register.Address n) w = h
+
+  performed-outside : (o : Operation) (s : List ℕ) (want : ℕ) → Outside (performed o s want m .model)
+  unfolding performed reset
+  performed-outside Operation.Reset s want = λ x y. clash x refl
+  performed-outside (Operation.Read r) s want = h
+  performed-outside (Operation.Checked r) s want = h
+  performed-outside (Operation.Write r w) s want = register-outside r w
+  performed-outside (Operation.ReadRam a) s want = h
+  performed-outside (Operation.WriteRam a) s want = h
+  performed-outside Operation.None s want = h
+
+  bus-outside : (b : Bus) → Outside (stepped b m)
+  unfolding stepped sendModel
+  bus-outside (Send n) = by-if Outside (isFifo n && sends m n) (λ e. h) (λ e. h)
+  bus-outside (Deliver n header time payload) =
+      let P : Delivered → Type 0 = λ x. Outside (x .model) in
+      by-deliver m n header (time % 2 ^ 32) payload P (λ i. h) (λ i t. h) (λ i t d. h)
+      (λ i t d e bs. by-appended m n header (time % 2 ^ 32) payload P bs (λ a. h) (λ a b. h) (λ a b c. h) (λ a b c f. h) (λ a b c f. h))
+
+  happens-outside : (x : Happening) → Outside (happens x m)
+  unfolding exchange
+  happens-outside (Exchange s want) = performed-outside (asked s want) s want
+  happens-outside (On b) = bus-outside b
+
+lived-outside : (xs : List Happening) (m : Model) → Outside m → Outside (lived xs m)
+unfolding lived
+lived-outside [] m h = h
+lived-outside (x ∷ xs) m h = lived-outside xs (happens x m) (happens-outside m h x)
+
+reached-outside : (m : Model) → Reached m → Outside m
+unfolding reset
+reached-outside m r = subst Outside (sym (r .is)) (lived-outside (r .since) (reset (r .ram)) (λ x y. clash x refl))
+
+pub opmod-exactly : OpmodExactly
+unfolding modeOf
+opmod-exactly m r = (λ e. go (m .fixed .configuring) refl (sym (opmod-is m) ∙ e), λ c. opmod-is m ∙ rw c)
+  where
+    go : (b : Bool) → m .fixed .configuring ≡ b → modeOf (m .fixed) ≡ 4 → m .fixed .configuring ≡ true
+    go true c q = c
+    go false c q = absurd (reached-outside m r c (rw c at q))
+
+-- ---- status
+
+pub status-reads : StatusReads
+unfolding wordOf sending depth
+status-reads m c n i =
+    let f = fifoAt m n in
+    let k = frozen-kept (frozenAt m n) f in
+    rw (held-length m n i, c)
+    (status-bits (frozenAt m n) f
+    ∙ ap₂ (λ (t d : ℕ). if eqb t 1 then digit (ltb (f .count) (d + 1)) + 4 * digit (eqb (f .count) 0) else digit (ltb 0 (f .count)) + 4 * digit (leb (d + 1) (f .count)) + 8 * digit (f .over))
+    (sym (k .1 .0)) (sym (k .1 .1 .0)))

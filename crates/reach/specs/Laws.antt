@@ -1,0 +1,19 @@
+-- Everything that is proved of the chips that are reached.
+-- Assumes nothing.
+use Rattle.reach.specs.Reach.{AlwaysValid, UincReads0, FresetReads0}
+use Rattle.reach.specs.Chip.{SendTakes, SendKeeps, SendInside, DeliverAppends, FullOverflows, Entering, Resetting, InsideEmpty, OpmodExactly, StatusReads}
+
+pub record Laws : Type 0 where
+  pub alwaysValid : AlwaysValid
+  pub uincReads0 : UincReads0
+  pub fresetReads0 : FresetReads0
+  pub sendTakes : SendTakes
+  pub sendKeeps : SendKeeps
+  pub sendInside : SendInside
+  pub deliverAppends : DeliverAppends
+  pub fullOverflows : FullOverflows
+  pub entering : Entering
+  pub resetting : Resetting
+  pub insideEmpty : InsideEmpty
+  pub opmodExactly : OpmodExactly
+  pub statusReads : StatusReads
