@@ -9,7 +9,7 @@ use mathlib.Core.List.{List, [], _∷_, _++_}
 use lib.ListN.{length, replicate}
 use lib.Dec.{ltb, leb}
 use lib.Pow.{pow-pos}
-use borrow.Author.Tests.{ltb-true, le-ltb}
+use borrow.Author.Tests.{ltb-true, le-ltb, lt-ltb}
 use Rattle.laws.specs.If.{if_then_else_}
 use Rattle.laws.proofs.Choice.{by-if}
 use Rattle.field.specs.Field.{mark}
@@ -356,3 +356,18 @@ pub peek-exactly : (v : World) → Fit (v .chip) (v .said) → v .doing ≡ idle
     → Answers v (Peek n buf) (b₁ ∷ b₂ ∷ b₃ ∷ b₄ ∷ b₅ ∷ b₆ ∷ b₇ ∷ []) (fetchSaid (Peek n buf) (v .chip) (buses b₂ (buses b₁ (v .chip))) n buf ∷ [])
 peek-exactly v f e n buf i h b₁ b₂ b₃ b₄ b₅ b₆ b₇ =
     fetches-exactly Want.Peek tt v f e n buf i h b₁ b₂ b₃ b₄ b₅ b₆ b₇ [] (λ g. let z : _≡_ {A = ℕ} 0 1 = cc in absurd (omega (arith, z)))
+
+-- a FIFO that receives and held one at the status read: the slot decodes, and the get is done with that message
+pub get-hands-out : (v : World) → Fit (v .chip) (v .said) → v .doing ≡ idle → (n : ℕ) (buf : List ℕ) → isFifo n ≡ true → 64 ≤ length buf
+    → (b₁ b₂ b₃ b₄ b₅ b₆ b₇ b₈ b₉ : List Bus) → sending (frozenAt (v .chip) n) ≡ false → 0 < fifoAt (buses b₂ (buses b₁ (v .chip))) n .count
+    → (m : Message) × (itemAt (buses b₂ (buses b₁ (v .chip))) n 0 ≡ holds m)
+    × Answers v (Get n buf) (b₁ ∷ b₂ ∷ b₃ ∷ b₄ ∷ b₅ ∷ b₆ ∷ b₇ ∷ b₈ ∷ b₉ ∷ []) (called (Get n buf) (Outcome.Message (found.foundOf m)) (put buf 0 (m .payload)) ∷ [])
+unfolding fetchSaid
+get-hands-out v f e n buf i h b₁ b₂ b₃ b₄ b₅ b₆ b₇ b₈ b₉ rx some =
+    let c : Model = v .chip in
+    let f₁ = buses-fit b₁ c (v .said) f in
+    let f₂ = buses-fit b₂ (buses b₁ c) _ f₁ in
+    let d : Model = buses b₂ (buses b₁ c) in
+    let (m, item) = oldest d (f₂ .sound) _ (f₂ .lists) n i some in
+    let said : fetchSaid (Get n buf) c d n buf ≡ called (Get n buf) (Outcome.Message (found.foundOf m)) (put buf 0 (m .payload)) = rw (rx, lt-ltb _ _ some, item) in
+    (m, item, get-exactly v f e n buf i h b₁ b₂ b₃ b₄ b₅ b₆ b₇ b₈ b₉ ∙ ap (λ (x : Said). calls (v .said) ++ (x ∷ [])) said)

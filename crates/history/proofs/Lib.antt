@@ -1,5 +1,6 @@
 pub mod Sound
 pub mod Bytes
+pub mod Received
 pub mod Slots
 pub mod Bus
 pub mod Foot

@@ -33,7 +33,7 @@ use Rattle.driver.specs.Start.{idlePlan, idleFetch, ofPush, ofTransmit}
 use Rattle.ring.specs.Ring.{sending, depth}
 use Rattle.state.specs.declared.Model.{Model}
 use Rattle.state.specs.Model.{fifoAt, frozenAt}
-use Rattle.bank.specs.Registers.{wordOf}
+use Rattle.bank.specs.Registers.{wordOf, controlWritten}
 use Rattle.bus.specs.Held.{slotOf}
 use Rattle.reach.specs.Bus.{Bus}
 use Rattle.history.specs.Command.{Command, Push, Transmit, Request, started}
@@ -42,9 +42,9 @@ use Rattle.history.specs.Lists.{doneWith, acceptedIn}
 use Rattle.history.specs.Demand.{buses, calm, calls, Answers, WellFormed, pushAnswer, PushedIff}
 use Rattle.history.proofs.Line.{world, spoken}
 use Rattle.history.proofs.Slots.{filled, filled-held, filled-sound}
-use Rattle.history.proofs.Asks.{hear-control, hear-status, hear-address}
+use Rattle.history.proofs.Asks.{hear-control, hear-status, hear-address, tell-control}
 use Rattle.history.proofs.Replies.{control-gentle, next-control, next-status, next-address}
-use Rattle.history.proofs.Requests.{requesting, request-begins, request-read, read-failed, write-failed}
+use Rattle.history.proofs.Requests.{requesting, request-begins, request-read, request-written, request-small, read-failed, write-failed}
 use Rattle.history.proofs.Planning as planning
 use Rattle.history.proofs.Pushing.{commanded, pushAt, pushing, turned, still, refused, done, half}
 use Rattle.history.proofs.Mid.{Tx, PushMid}
@@ -360,3 +360,84 @@ request-fails v g e n header seq payload (bs, h) b₁ b₂ b₃ b₄ b₅ o r l 
     ∙ fails-there n i (pushAt n (length payload) bs PushAt.Done) refl idleFetch r l b d (u ++ first)
     ∙ ap (λ (w : List Said). w ++ second) (calls-snoc u (Push n header seq payload) Outcome.Done [] ∙ ap (λ (w : List Said). w ++ first) s)
     ∙ append-assoc (calls t) first second
+
+-- ---- 5. a transmit in which no exchange fails: its push answers as a push does, and where it is done the request is done too
+
+module _ (n : ℕ) (i : isFifo n ≡ true) (u : Pushes) (over : push.isDone u ≡ true) (f : Fetch) where
+  asked-for : (b b′ : List Bus) (c : Model) (t : List Said)
+      → calls (after (calm (b ∷ b′ ∷ [])) (asking n i u over f (reading n i u over f) c t) .said) ≡ calls t ++ (called (Request n) Outcome.Done [] ∷ [])
+  unfolding after calm event
+  asked-for b b′ c t =
+      let d : Model = buses b c in
+      let x : ℕ = wordOf d (Register.Control n) in
+      let w : ℕ = modified (requestChange n) (x % 2 ^ 32) in
+      let t′ : List Said = t ++ spokenOf b c in
+      let d′ : Model = buses b′ d in
+      let t″ : List Said = t′ ++ spokenOf b′ d in
+      let z : Model = controlWritten d′ n w in
+      ap (λ (v : World). calls (v .said))
+      (after-calm b (b′ ∷ []) c _ t
+      ∙ ap (after (calm (b′ ∷ [])))
+      (planning.turned u f true (λ y. over) (reading n i u over f) t′ (Request n) d (leBytes x) d refl (λ y. hear-control y d n i)
+      ∙ ap (λ (q : Plan). settled d t′ (Request n) (planning.planned true q u f) (leBytes x)) (request-read n x)
+      ∙ planning.still u f true (λ y. over) (writing n i u over f x) t′ (Request n) d (leBytes x) refl refl)
+      ∙ after-calm b′ [] d _ t′
+      ∙ planning.turned u f true (λ y. over) (writing n i u over f x) t″ (Request n) d′ [] z refl (λ y. tell-control y d′ n i w (request-small n x))
+      ∙ ap (λ (q : Plan). settled z t″ (Request n) (planning.planned true q u f) []) (request-written n (CiFIFOCON .address n) w)
+      ∙ planning.over u f true (λ y. over) (requesting n 15 PlanAt.Done) t″ (Request n) z [] refl)
+      ∙ calls-snoc t″ (Request n) Outcome.Done [] ∙ rw (calls-buses t′ b′ d, calls-buses t b c)
+
+pub transmit-done : (v : World) → Fit (v .chip) (v .said) → v .doing ≡ idle → (n : ℕ) (header : Header) (seq : ℕ) (payload : List ℕ)
+    → WellFormed n header seq payload → (b₁ b₂ b₃ b₄ b₅ b₆ b₇ : List Bus)
+    → pushAnswer (v .chip) (buses b₂ (buses b₁ (v .chip))) n payload ≡ Outcome.Done
+    → Answers v (Transmit n header seq payload) (b₁ ∷ b₂ ∷ b₃ ∷ b₄ ∷ b₅ ∷ b₆ ∷ b₇ ∷ [])
+    (called (Push n header seq payload) Outcome.Done [] ∷ called (Request n) Outcome.Done [] ∷ [])
+unfolding ofTransmit transmitStart push.startOf
+transmit-done v g e n header seq payload (bs, h) b₁ b₂ b₃ b₄ b₅ b₆ b₇ o =
+    let c : Model = v .chip in
+    let t : List Said = v .said in
+    let r : List (List Bus) = b₆ ∷ b₇ ∷ [] in
+    let xs : List (List Bus) = b₁ ∷ b₂ ∷ b₃ ∷ b₄ ∷ b₅ ∷ r in
+    let first : List Said = called (Push n header seq payload) Outcome.Done [] ∷ [] in
+    let second : List Said = called (Request n) Outcome.Done [] ∷ [] in
+    let (i, coded) = encoded-for n header seq payload bs h in
+    let (x, y, z) = good c (buses b₂ (buses b₁ c)) n payload (λ q. q ≡ Outcome.Done) (λ w q. let z : _≡_ {A = ℕ} 0 1 = cc in absurd (omega (arith, z))) o in
+    let p : Plan = requestStart n in
+    let (d, u, s, q) = from-control true n header seq payload bs p idleFetch i coded b₁ b₂ b₃ b₄ b₅ c t g x y z in
+    let begin : plan.outcomeOf p ≡ Outcome.Running = rw (request-begins n i) in
+    ap (λ (w : World). calls (w .said))
+    (begun v e (Transmit n header seq payload) (calm xs)
+    ∙ ap (after (calm xs)) (begins true n header seq payload bs h p c t)
+    ∙ q r ∙ ap (after (calm r)) (half n (length payload) bs p idleFetch header seq payload u d [] begin
+    ∙ ap (λ (y : Plan). world d (busy (Request n) (pushing true n (length payload) bs PushAt.Done y idleFetch)) (u ++ first)) (request-begins n i)))
+    ∙ asked-for n i (pushAt n (length payload) bs PushAt.Done) refl idleFetch b₆ b₇ d (u ++ first)
+    ∙ ap (λ (w : List Said). w ++ second) (calls-snoc u (Push n header seq payload) Outcome.Done [] ∙ ap (λ (w : List Said). w ++ first) s)
+    ∙ append-assoc (calls t) first second
+
+pub transmit-refused : (v : World) → Fit (v .chip) (v .said) → v .doing ≡ idle → (n : ℕ) (header : Header) (seq : ℕ) (payload : List ℕ)
+    → WellFormed n header seq payload → (b₁ b₂ b₃ b₄ b₅ : List Bus) → (r : Refusal)
+    → pushAnswer (v .chip) (buses b₂ (buses b₁ (v .chip))) n payload ≡ Outcome.Refused r
+    → Answers v (Transmit n header seq payload) (b₁ ∷ b₂ ∷ b₃ ∷ b₄ ∷ b₅ ∷ []) (called (Push n header seq payload) (Outcome.Refused r) [] ∷ [])
+unfolding ofTransmit transmitStart push.startOf pushAnswer
+transmit-refused v g e n header seq payload (bs, h) b₁ b₂ b₃ b₄ b₅ r =
+    let c : Model = v .chip in
+    let t : List Said = v .said in
+    let p : Plan = requestStart n in
+    let xs : List (List Bus) = b₁ ∷ b₂ ∷ b₃ ∷ b₄ ∷ b₅ ∷ [] in
+    let (i, coded) = encoded-for n header seq payload bs h in
+    let k : Command = Push n header seq payload in
+    let a : World = after (Begin (Transmit n header seq payload) ∷ calm xs) v in
+    let start : a ≡ after (calm xs) (world c (busy (Transmit n header seq payload) (pushing true n (length payload) bs PushAt.Control p idleFetch)) t) =
+    begun v e (Transmit n header seq payload) (calm xs) ∙ ap (after (calm xs)) (begins true n header seq payload bs h p c t) in
+    let P : Outcome → Type 0 = λ o. o ≡ Outcome.Refused r → calls (a .said) ≡ calls t ++ (called k (Outcome.Refused r) [] ∷ []) in
+    let to : (o : Outcome) → calls (after (calm xs) (world c (busy (Transmit n header seq payload) (pushing true n (length payload) bs PushAt.Control p idleFetch)) t) .said) ≡ calls t ++ (called k o [] ∷ []) → P o =
+    λ o q m. ap (λ (w : World). calls (w .said)) start ∙ q ∙ ap (λ (x : Outcome). calls t ++ (called k x [] ∷ [])) m in
+    by-if P (sending (frozenAt c n))
+    (λ x. by-if P (leb (length payload) (payloadOf (frozenAt c n)))
+    (λ y. by-if P (ltb (fifoAt (buses b₂ (buses b₁ c)) n .count) (depth (frozenAt c n)))
+    (λ z m. let w : _≡_ {A = ℕ} 0 1 = cc in absurd (omega (arith, w)))
+    (λ z. to (Outcome.Refused Refusal.FifoFull) (status-full true n header seq payload bs p idleFetch i coded b₁ b₂ b₃ b₄ b₅ c t g x (leb-true _ _ y) z)))
+    (λ y. to (Outcome.Refused Refusal.FifoTooSmall) (control-away true n header seq payload bs p idleFetch i coded b₁ c t g (b₂ ∷ b₃ ∷ b₄ ∷ b₅ ∷ []) Refusal.FifoTooSmall
+    (to-control true n header seq payload bs p idleFetch i coded b₁ c t g ∙ rw (x, lt-ltb _ _ (leb-false _ _ y))))))
+    (λ x. to (Outcome.Refused Refusal.FifoNotTx) (control-away true n header seq payload bs p idleFetch i coded b₁ c t g (b₂ ∷ b₃ ∷ b₄ ∷ b₅ ∷ []) Refusal.FifoNotTx
+    (to-control true n header seq payload bs p idleFetch i coded b₁ c t g ∙ rw x)))

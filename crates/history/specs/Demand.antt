@@ -141,6 +141,14 @@ GotIff =
     → (handedOutIn n (fetchSaid (Get n buf) c d n buf) ≡ m ∷ [])
     ↔ ((sending (frozenAt c n) ≡ false) × (0 < fifoAt d n .count) × (itemAt d n 0 ≡ holds m))
 
+-- and every slot held decodes: a get from a FIFO that receives and held one then is done with the oldest
+abbrev pub GetHandsOut : Type 0
+GetHandsOut =
+    NextCall (λ v. (n : ℕ) (buf : List ℕ) → isFifo n ≡ true → 64 ≤ length buf → (b₁ b₂ b₃ b₄ b₅ b₆ b₇ b₈ b₉ : List Bus)
+    → sending (frozenAt (v .chip) n) ≡ false → 0 < fifoAt (buses b₂ (buses b₁ (v .chip))) n .count
+    → (m : Message) × (itemAt (buses b₂ (buses b₁ (v .chip))) n 0 ≡ holds m)
+    × Answers v (Get n buf) (b₁ ∷ b₂ ∷ b₃ ∷ b₄ ∷ b₅ ∷ b₆ ∷ b₇ ∷ b₈ ∷ b₉ ∷ []) (called (Get n buf) (Outcome.Message (foundOf m)) (put buf 0 (m .payload)) ∷ []))
+
 -- a peek shows the oldest, hands nothing out and leaves the chip as the bus steps alone leave it; at most seven exchanges
 abbrev pub all : List (List Bus) → List Bus
 all [] = []
@@ -188,6 +196,26 @@ RequestFails =
     → (r : List (List Bus)) → length r ≤ 1 → (b : List Bus)
     → calls (after (Begin (Transmit n header seq payload) ∷ (calm (b₁ ∷ b₂ ∷ b₃ ∷ b₄ ∷ b₅ ∷ r) ++ (map On b ++ (Fail ∷ [])))) v .said)
     ≡ calls (v .said) ++ (called (Push n header seq payload) Outcome.Done [] ∷ called (Request n) (Outcome.Refused Refusal.SpiRead) [] ∷ []))
+
+-- one in which no exchange fails: its push answers as a push does, and where that is done the request is done too
+abbrev pub TransmitDone : Type 0
+TransmitDone =
+    NextCall (λ v. (n : ℕ) (header : Header) (seq : ℕ) (payload : List ℕ) → WellFormed n header seq payload → (b₁ b₂ b₃ b₄ b₅ b₆ b₇ : List Bus)
+    → pushAnswer (v .chip) (buses b₂ (buses b₁ (v .chip))) n payload ≡ Outcome.Done
+    → Answers v (Transmit n header seq payload) (b₁ ∷ b₂ ∷ b₃ ∷ b₄ ∷ b₅ ∷ b₆ ∷ b₇ ∷ [])
+    (called (Push n header seq payload) Outcome.Done [] ∷ called (Request n) Outcome.Done [] ∷ []))
+
+abbrev pub TransmitRefused : Type 0
+TransmitRefused =
+    NextCall (λ v. (n : ℕ) (header : Header) (seq : ℕ) (payload : List ℕ) → WellFormed n header seq payload → (b₁ b₂ b₃ b₄ b₅ : List Bus) → (r : Refusal)
+    → pushAnswer (v .chip) (buses b₂ (buses b₁ (v .chip))) n payload ≡ Outcome.Refused r
+    → Answers v (Transmit n header seq payload) (b₁ ∷ b₂ ∷ b₃ ∷ b₄ ∷ b₅ ∷ []) (called (Push n header seq payload) (Outcome.Refused r) [] ∷ []))
+
+-- one of whose push an exchange fails
+abbrev pub TransmitFails : Type 0
+TransmitFails =
+    NextCall (λ v. (n : ℕ) (header : Header) (seq : ℕ) (payload : List ℕ) → (bs : List (List Bus)) → length bs ≤ 4 → (b : List Bus)
+    → OnlyFree n (buses (all bs ++ b) (v .chip)) (after (Begin (Transmit n header seq payload) ∷ (calm bs ++ (map On b ++ (Fail ∷ [])))) v .chip))
 
 -- ---- 6. no push, request, transmit, has-next, peek or get answers 3, 23, 25 or 26
 
