@@ -1,4 +1,5 @@
 pub mod Sound
+pub mod Few
 pub mod Bytes
 pub mod Received
 pub mod Slots
@@ -24,9 +25,11 @@ pub mod FetchSteps
 pub mod PlanSteps
 pub mod Calm
 pub mod PushExactly
+pub mod Transmits
 pub mod FetchExactly
 pub mod GotIff
 pub mod PeekKeeps
 pub mod PushFails
 pub mod Theorem
 pub mod Example
+pub mod Demand3

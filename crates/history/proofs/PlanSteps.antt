@@ -70,7 +70,7 @@ look-silent : (x : Look) → Silent (Reading x)
 look-silent x = record { whole = λ s. refl; takes = λ j o buf. refl; gives = λ j o buf. refl }
 
 -- a plan that no push came before
-alone : (u : Pushes) (f : Fetch) → Ready u f false
+pub alone : (u : Pushes) (f : Fetch) → Ready u f false
 alone u f e = absurd (false≢true e)
 
 -- what a plan hears: the chip is sound, and the plan stays harmless by it
