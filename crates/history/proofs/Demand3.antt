@@ -2,6 +2,7 @@
 -- Assumes nothing.
 use Rattle.history.specs.Demand3.{Demand3}
 use Rattle.history.proofs.Received.{answered-whole}
+use Rattle.history.proofs.GoesOut.{oldest-goes, request-sends, transmit-sends}
 use Rattle.history.proofs.Theorem as theorem
 use Rattle.history.proofs.Example as example
 
@@ -22,6 +23,9 @@ demand3 = record {
   transmitRefused = theorem.transmit-refused-always;
   transmitDone = theorem.transmit-done-always;
   requestFails = theorem.request-fails-always;
+  oldestGoes = oldest-goes;
+  requestSends = request-sends;
+  transmitSends = transmit-sends;
   neverCaused = theorem.never-caused;
   answeredWhole = answered-whole;
   begins = example.begins;

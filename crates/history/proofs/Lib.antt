@@ -31,5 +31,6 @@ pub mod GotIff
 pub mod PeekKeeps
 pub mod PushFails
 pub mod Theorem
+pub mod GoesOut
 pub mod Example
 pub mod Demand3

@@ -102,7 +102,7 @@ module _ (also : Bool) (n : ℕ) (header : Header) (seq : ℕ) (payload bs : Lis
   from-commit : (b : List Bus) (w : ℕ) (c : Model) (t : List Said) → Fit c t → PushMid c n m bs (PushAt.Commit w) → Pushed (b ∷ []) (PushAt.Commit w) c t
   from-commit b w c t g x =
       let g′ = buses-fit b c t g in
-      let (v, told, vh, vc) = uinc-told (buses b c) (g′ .sound) n header seq payload bs i coded w (buses-push n i m bs (PushAt.Commit w) b c t g x) in
+      let (v, told, vh, vc, va) = uinc-told (buses b c) (g′ .sound) n header seq payload bs i coded w (buses-push n i m bs (PushAt.Commit w) b c t g x) in
       (_, _, calls-buses t b c, λ r. takes b r (PushAt.Commit w) PushAt.Done refl c t [] _ told refl)
 
   from-write : (b₁ b₂ : List Bus) (w a : ℕ) (c : Model) (t : List Said) → Fit c t → PushMid c n m bs (PushAt.Write w a)

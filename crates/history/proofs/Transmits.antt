@@ -31,7 +31,7 @@ use Rattle.reach.specs.Bus.{Bus}
 use Rattle.history.specs.Command.{Command, Push, Transmit, Request}
 use Rattle.history.specs.History.{Event, Begin, Fail, On, Said, called, idle, busy, World, waits, settled, event, after}
 use Rattle.history.specs.Demand.{buses, calm, atStatus, calls, Answers, done, Ends, WellFormed, pushAnswer, Takes, failing}
-use Rattle.history.proofs.Few.{two, five}
+use Rattle.history.proofs.Few.{two, five, seven}
 use Rattle.history.proofs.Line.{world}
 use Rattle.history.proofs.Asks.{hear-control, tell-control}
 use Rattle.history.proofs.Requests.{requesting, request-begins, request-read, request-written, request-small, read-failed, write-failed}
@@ -43,7 +43,7 @@ use Rattle.history.proofs.PlanSteps.{alone}
 use Rattle.history.proofs.PushExactly.{begun, begins, push-by, push-goes}
 use Rattle.history.proofs.Calm.{spokenOf, after-append, after-buses, after-calm, calls-buses, calls-snoc, idle-calm, Fit, at-status}
 
-nothing-more : (v : World) → after (calm []) v ≡ v
+pub nothing-more : (v : World) → after (calm []) v ≡ v
 unfolding after calm
 nothing-more v = refl
 
@@ -132,7 +132,7 @@ module _ (n : ℕ) (i : isFifo n ≡ true) (also : Bool) (u : Pushes) (f : Fetch
 
 -- ---- a request alone
 
-request-starts-at : (v : World) → v .doing ≡ idle → (n : ℕ) → (i : isFifo n ≡ true) → (es : List Event)
+pub request-starts-at : (v : World) → v .doing ≡ idle → (n : ℕ) → (i : isFifo n ≡ true) → (es : List Event)
     → after (Begin (Request n) ∷ es) v
     ≡ after es (asking n i false idlePush idleFetch (alone idlePush idleFetch) (reading n i false idlePush idleFetch (alone idlePush idleFetch)) (v .chip) (v .said))
 unfolding ofPlan
@@ -156,101 +156,106 @@ request-exactly v e n i xs l =
 -- ---- a transmit
 
 module _ (v : World) (g : Fit (v .chip) (v .said)) (e : v .doing ≡ idle) (n : ℕ) (header : Header) (seq : ℕ) (payload bs : List ℕ)
-    (h : push.encodingFor n header seq payload ≡ Encoding.object bs) (b₁ b₂ b₃ b₄ b₅ : List Bus) (r : List (List Bus)) where
+    (h : push.encodingFor n header seq payload ≡ Encoding.object bs) (b₁ b₂ b₃ b₄ b₅ : List Bus) where
   abbrev call : Command
   call = Transmit n header seq payload
 
-  abbrev xs : List (List Bus)
-  xs = b₁ ∷ b₂ ∷ b₃ ∷ b₄ ∷ b₅ ∷ r
+  -- the bus steps, r those after the push
+  abbrev xs : List (List Bus) → List (List Bus)
+  xs r = b₁ ∷ b₂ ∷ b₃ ∷ b₄ ∷ b₅ ∷ r
 
-  status-chip : atStatus v xs ≡ buses b₂ (buses b₁ (v .chip))
-  status-chip = at-status v b₁ b₂ (b₃ ∷ b₄ ∷ b₅ ∷ r)
+  abbrev Fits : Type 0
+  Fits = Takes (atStatus v (xs [])) n payload
+
+  status-chip : atStatus v (xs []) ≡ buses b₂ (buses b₁ (v .chip))
+  status-chip = at-status v b₁ b₂ (b₃ ∷ b₄ ∷ b₅ ∷ [])
 
   transmit-starts : (es : List Event) → after (Begin call ∷ es) v
       ≡ after es (world (v .chip) (busy call (pushing true n (length payload) bs PushAt.Control (requestStart n) idleFetch)) (v .said))
   unfolding ofTransmit transmitStart push.startOf
   transmit-starts es = begun v e call es ∙ ap (after es) (begins true n header seq payload bs h (requestStart n) (v .chip) (v .said))
 
-  abbrev pushed : Pushes
+  abbrev pub pushed : Pushes
   pushed = pushAt n (length payload) bs PushAt.Done
 
-  pushed-ready : Ready pushed idleFetch true
+  pub pushed-ready : Ready pushed idleFetch true
   pushed-ready x = refl
 
+  -- the request of FIFO n begins
+  abbrev requesting-at : isFifo n ≡ true → Model → List Said → World
+  requesting-at i d s = asking n i true pushed idleFetch pushed-ready (reading n i true pushed idleFetch pushed-ready) d s
+
+  abbrev first : List Said
+  first = called (Push n header seq payload) Outcome.Done [] ∷ []
+
   -- its push is done, and its request begins
-  half-way : (i : isFifo n ≡ true) → Takes (atStatus v xs) n payload
-      → (d : Model) × (s : List Said) × (calls s ≡ calls (v .said) ++ (called (Push n header seq payload) Outcome.Done [] ∷ []))
-      × (after (Begin call ∷ calm xs) v ≡ after (calm r) (asking n i true pushed idleFetch pushed-ready (reading n i true pushed idleFetch pushed-ready) d s))
+  pub half-way : (i : isFifo n ≡ true) → Fits
+      → (d : Model) × (s : List Said) × (calls s ≡ calls (v .said) ++ first) × ((r : List (List Bus)) → after (Begin call ∷ calm (xs r)) v ≡ after (calm r) (requesting-at i d s))
   half-way i ok =
       let (i′, coded) = encoded-for n header seq payload bs h in
       let p : Plan = requestStart n in
-      let (d, u, s, q) = push-goes true n header seq payload bs p idleFetch i′ coded b₁ b₂ (b₃ ∷ b₄ ∷ b₅ ∷ r) (v .chip) (v .said) g (rw status-chip at ok) b₃ b₄ b₅ in
-      let first : List Said = called (Push n header seq payload) Outcome.Done [] ∷ [] in
+      let (d, u, s, q) = push-goes true n header seq payload bs p idleFetch i′ coded b₁ b₂ (b₃ ∷ b₄ ∷ b₅ ∷ []) (v .chip) (v .said) g (rw status-chip at ok) b₃ b₄ b₅ in
       let begin : plan.outcomeOf p ≡ Outcome.Running = rw (request-begins n i) in (
         d,
         u ++ first,
         calls-snoc u (Push n header seq payload) Outcome.Done [] ∙ ap (λ (w : List Said). w ++ first) s,
-        transmit-starts (calm xs) ∙ q r
+        λ r. transmit-starts (calm (xs r)) ∙ q r
             ∙ ap (after (calm r)) (half n (length payload) bs p idleFetch header seq payload u d [] begin
             ∙ ap (λ (y : Plan). world d (busy (Request n) (pushing true n (length payload) bs PushAt.Done y idleFetch)) (u ++ first)) (request-begins n i)),
       )
 
-  transmit-no : (Takes (atStatus v xs) n payload → ⊥) → Ends v call xs (pushAnswer (atStatus v xs) n payload)
-  transmit-no never =
+  transmit-no : (r : List (List Bus)) → (Fits → ⊥) → Ends v call (xs r) (pushAnswer (atStatus v (xs [])) n payload)
+  transmit-no r never =
       let (i, coded) = encoded-for n header seq payload bs h in
       rw status-chip
-      (push-by true n header seq payload bs (requestStart n) idleFetch i coded b₁ b₂ (b₃ ∷ b₄ ∷ b₅ ∷ r) (v .chip) (v .said) g (Ends v call xs)
+      (push-by true n header seq payload bs (requestStart n) idleFetch i coded b₁ b₂ (b₃ ∷ b₄ ∷ b₅ ∷ r) (v .chip) (v .said) g (Ends v call (xs r))
       (λ ok. absurd (never (rw status-chip ok)))
-      (λ x is. (Outcome.Refused x, refl, ap (λ (w : World). calls (w .said)) (transmit-starts (calm xs)) ∙ is)))
+      (λ x is. (Outcome.Refused x, refl, ap (λ (w : World). calls (w .said)) (transmit-starts (calm (xs r))) ∙ is)))
 
-  transmit-yes : Takes (atStatus v xs) n payload → 2 ≤ length r
-      → Answers v call xs (called (Push n header seq payload) Outcome.Done [] ∷ called (Request n) Outcome.Done [] ∷ [])
-  transmit-yes ok l =
+  transmit-yes : Fits → (b b′ : List Bus) → Answers v call (xs (b ∷ b′ ∷ [])) (called (Push n header seq payload) Outcome.Done [] ∷ called (Request n) Outcome.Done [] ∷ [])
+  transmit-yes ok b b′ =
       let (i, coded) = encoded-for n header seq payload bs h in
-      let (d, s, first, is) = half-way i ok in
+      let (d, s, one, is) = half-way i ok in
       let second : List Said = called (Request n) Outcome.Done [] ∷ [] in
-      ap (λ (w : World). calls (w .said)) is
-      ∙ two (λ ys. calls (after (calm ys) (asking n i true pushed idleFetch pushed-ready (reading n i true pushed idleFetch pushed-ready) d s) .said) ≡ calls s ++ second)
-      (λ b b′ q. request-says n i true pushed idleFetch pushed-ready b b′ q d s) r l
-      ∙ ap (λ (w : List Said). w ++ second) first
-      ∙ append-assoc (calls (v .said)) (called (Push n header seq payload) Outcome.Done [] ∷ []) second
+      ap (λ (w : World). calls (w .said)) (is (b ∷ b′ ∷ []))
+      ∙ request-says n i true pushed idleFetch pushed-ready b b′ [] d s
+      ∙ ap (λ (w : List Said). w ++ second) one ∙ append-assoc (calls (v .said)) first second
 
   -- an exchange of the request fails
-  request-lost : Takes (atStatus v xs) n payload → length r ≤ 1 → (b : List Bus)
-      → calls (after (Begin call ∷ failing xs b) v .said)
+  request-lost : (r : List (List Bus)) → Fits → length r ≤ 1 → (b : List Bus)
+      → calls (after (Begin call ∷ failing (xs r) b) v .said)
       ≡ calls (v .said) ++ (called (Push n header seq payload) Outcome.Done [] ∷ called (Request n) (Outcome.Refused Refusal.SpiRead) [] ∷ [])
-  request-lost ok l b =
+  request-lost r ok l b =
       let (i, coded) = encoded-for n header seq payload bs h in
-      let (d, s, first, is) = half-way i ok in
+      let (d, s, one, is) = half-way i ok in
       let end : List Event = map On b ++ (Fail ∷ []) in
       let second : List Said = called (Request n) (Outcome.Refused Refusal.SpiRead) [] ∷ [] in
-      ap (λ (w : World). calls (w .said)) (after-append (Begin call ∷ calm xs) end v ∙ ap (after end) is)
+      ap (λ (w : World). calls (w .said)) (after-append (Begin call ∷ calm (xs r)) end v ∙ ap (after end) (is r))
       ∙ fails-there n i true pushed idleFetch pushed-ready r l b d s
-      ∙ ap (λ (w : List Said). w ++ second) first
-      ∙ append-assoc (calls (v .said)) (called (Push n header seq payload) Outcome.Done [] ∷ []) second
+      ∙ ap (λ (w : List Said). w ++ second) one ∙ append-assoc (calls (v .said)) first second
 
 module _ (v : World) (g : Fit (v .chip) (v .said)) (e : v .doing ≡ idle) (n : ℕ) (header : Header) (seq : ℕ) (payload : List ℕ) (w : WellFormed n header seq payload)
-    (xs : List (List Bus)) where
-  pub transmit-refused : length xs ≡ 5 → (Takes (atStatus v xs) n payload → ⊥) → Ends v (Transmit n header seq payload) xs (pushAnswer (atStatus v xs) n payload)
+    (ys : List (List Bus)) where
+  pub transmit-refused : length ys ≡ 5 → (Takes (atStatus v ys) n payload → ⊥) → Ends v (Transmit n header seq payload) ys (pushAnswer (atStatus v ys) n payload)
   transmit-refused l =
-      five (λ ys. (Takes (atStatus v ys) n payload → ⊥) → Ends v (Transmit n header seq payload) ys (pushAnswer (atStatus v ys) n payload))
-      (transmit-no v g e n header seq payload (w .0) (w .1)) xs (omega (arith, l))
+      five (λ zs. (Takes (atStatus v zs) n payload → ⊥) → Ends v (Transmit n header seq payload) zs (pushAnswer (atStatus v zs) n payload))
+      (transmit-no v g e n header seq payload (w .0) (w .1)) ys (omega (arith, l))
 
-  pub transmit-done : length xs ≡ 7 → Takes (atStatus v xs) n payload
-      → Answers v (Transmit n header seq payload) xs (called (Push n header seq payload) Outcome.Done [] ∷ called (Request n) Outcome.Done [] ∷ [])
-  transmit-done l ok =
-      five (λ ys. length ys ≡ 7 → Takes (atStatus v ys) n payload
-      → Answers v (Transmit n header seq payload) ys (called (Push n header seq payload) Outcome.Done [] ∷ called (Request n) Outcome.Done [] ∷ []))
-      (λ b₁ b₂ b₃ b₄ b₅ r m k. transmit-yes v g e n header seq payload (w .0) (w .1) b₁ b₂ b₃ b₄ b₅ r k (omega (arith, m))) xs (omega (arith, l)) l ok
+  pub transmit-done : length ys ≡ 7 → Takes (atStatus v ys) n payload
+      → Answers v (Transmit n header seq payload) ys (called (Push n header seq payload) Outcome.Done [] ∷ called (Request n) Outcome.Done [] ∷ [])
+  transmit-done =
+      seven (λ zs. Takes (atStatus v zs) n payload
+      → Answers v (Transmit n header seq payload) zs (called (Push n header seq payload) Outcome.Done [] ∷ called (Request n) Outcome.Done [] ∷ []))
+      (λ b₁ b₂ b₃ b₄ b₅ b b′ ok. transmit-yes v g e n header seq payload (w .0) (w .1) b₁ b₂ b₃ b₄ b₅ ok b b′) ys
 
-  pub request-fails : 5 ≤ length xs → length xs ≤ 6 → Takes (atStatus v xs) n payload → (b : List Bus)
+  pub request-fails : 5 ≤ length ys → length ys ≤ 6 → Takes (atStatus v ys) n payload → (b : List Bus)
       → (o : Outcome) × (outcomeNumbers o ≡ 1 ∷ [])
-      × (calls (after (Begin (Transmit n header seq payload) ∷ failing xs b) v .said)
+      × (calls (after (Begin (Transmit n header seq payload) ∷ failing ys b) v .said)
       ≡ calls (v .said) ++ (called (Push n header seq payload) Outcome.Done [] ∷ called (Request n) o [] ∷ []))
   request-fails l m ok b = (
     Outcome.Refused Refusal.SpiRead,
     refl,
-    five (λ ys. length ys ≤ 6 → Takes (atStatus v ys) n payload → calls (after (Begin (Transmit n header seq payload) ∷ failing ys b) v .said)
+    five (λ zs. length zs ≤ 6 → Takes (atStatus v zs) n payload → calls (after (Begin (Transmit n header seq payload) ∷ failing zs b) v .said)
         ≡ calls (v .said) ++ (called (Push n header seq payload) Outcome.Done [] ∷ called (Request n) (Outcome.Refused Refusal.SpiRead) [] ∷ []))
-        (λ b₁ b₂ b₃ b₄ b₅ r q k. request-lost v g e n header seq payload (w .0) (w .1) b₁ b₂ b₃ b₄ b₅ r k (omega (arith, q)) b) xs l m ok,
+        (λ b₁ b₂ b₃ b₄ b₅ r q k. request-lost v g e n header seq payload (w .0) (w .1) b₁ b₂ b₃ b₄ b₅ r k (omega (arith, q)) b) ys l m ok,
   )

@@ -10,10 +10,11 @@ use lib.Dec.{ltb, leb, eqb}
 use Rattle.laws.specs.If.{if_then_else_}
 use Rattle.field.specs.Field.{read, digit}
 use Rattle.configuration.specs.CanControl.{REQOP}
-use Rattle.fifo.specs.Control.{payloadOf, isFifo}
+use Rattle.fifo.specs.Control.{TXREQ, payloadOf, isFifo}
 use Rattle.parts.specs.Parts.{put}
 use Rattle.spi.specs.declared.refusal.Refusal.{Refusal}
 use Rattle.spi.specs.Refusals.{numbered}
+use Rattle.operation.specs.declared.place.Register.{Register}
 use Rattle.operation.specs.Laws.{among}
 use Rattle.header.specs.declared.Header.{Header}
 use Rattle.message.specs.Message.{Message, Encoding, Decoding, holds, bad, short}
@@ -25,10 +26,11 @@ use Rattle.ring.specs.Ring.{sending, depth}
 use Rattle.ring.specs.Layout.{size}
 use Rattle.state.specs.declared.Model.{Model}
 use Rattle.state.specs.Model.{fifoAt, frozenAt}
-use Rattle.bank.specs.Registers.{granted, conWritten}
+use Rattle.bank.specs.Registers.{wordOf, granted, conWritten}
 use Rattle.model.specs.Exchange.{Reply, failed, received, noLayout, exchange}
 use Rattle.bus.specs.Held.{slotOf, itemAt, held}
-use Rattle.reach.specs.Bus.{Bus, stepped}
+use Rattle.bus.specs.Bus.{frame, sends}
+use Rattle.reach.specs.Bus.{Bus, Send, Deliver, stepped}
 use Rattle.reach.specs.Reach.{Reached}
 use Rattle.history.specs.Command.{Command, Push, Transmit, Request, HasNext, Peek, Get, Reading, Configuring, firstCall}
 use Rattle.history.specs.History.{Event, Begin, Exchange, Fail, On, Said, called, left, arrived, idle, World, after}
@@ -260,7 +262,53 @@ RequestFails =
     × (calls (after (Begin (Transmit n header seq payload) ∷ failing bs b) v .said)
     ≡ calls (v .said) ++ (called (Push n header seq payload) Outcome.Done [] ∷ called (Request n) o [] ∷ [])))
 
--- ---- 6. no push, request, transmit, has-next, peek or get answers 3, 23, 25 or 26
+-- ---- 6. a send takes the oldest of a transmit FIFO if TXREQ is 1 and one is held, and TXREQ is 1 from a request on
+
+-- TXREQ of FIFO n reads 1
+abbrev pub Requested : Model → ℕ → Type 0
+Requested c n = read TXREQ (wordOf c (Register.Control n)) ≡ 1
+
+-- a send from FIFO n puts the oldest that it holds on the bus, and takes that one only
+abbrev pub SendsOldest : World → ℕ → Type 0
+SendsOldest v n =
+    let z = after (On (Send n) ∷ []) v in
+    (m : Message) × (held (v .chip) n ≡ holds m ∷ held (z .chip) n) × (z .said ≡ v .said ++ (left n (frame m) ∷ []))
+
+abbrev pub OldestGoes : Type 0
+OldestGoes =
+    Always (λ v. (n : ℕ) → isFifo n ≡ true → sending (frozenAt (v .chip) n) ≡ true → Requested (v .chip) n → 0 < fifoAt (v .chip) n .count → SendsOldest v n)
+
+-- e is a send that takes the last of FIFO n
+abbrev pub TakesLast : ℕ → Event → Model → Type 0
+TakesLast n (Begin k) c = ⊥
+TakesLast n Exchange c = ⊥
+TakesLast n Fail c = ⊥
+TakesLast n (On (Send k)) c = (k ≡ n) × (sends c n ≡ true) × (fifoAt c n .count ≡ 1)
+TakesLast n (On (Deliver k header time payload)) c = ⊥
+
+-- none of the events from v on is
+abbrev pub LastStays : ℕ → List Event → World → Type 0
+LastStays n [] v = Unit {0}
+LastStays n (e ∷ es) v = (TakesLast n e (v .chip) → ⊥) × LastStays n es (after (e ∷ []) v)
+
+-- until a send takes the last, TXREQ of FIFO n reads 1, and if it transmits and holds a message a send puts the oldest on the bus
+abbrev pub GoesOut : World → ℕ → Type 0
+GoesOut v n =
+    (es : List Event) → LastStays n es v
+    → (let z = after es v in Requested (z .chip) n × (sending (frozenAt (z .chip) n) ≡ true → 0 < fifoAt (z .chip) n .count → SendsOldest z n))
+
+-- so it is after a request that is done, whatever calls and bus steps follow and whichever of their exchanges fail
+abbrev pub RequestSends : Type 0
+RequestSends =
+    NextCall (λ v. (n : ℕ) → isFifo n ≡ true → (bs : List (List Bus)) → length bs ≡ 2 → GoesOut (after (Begin (Request n) ∷ calm bs) v) n)
+
+-- and after a transmit that is done
+abbrev pub TransmitSends : Type 0
+TransmitSends =
+    NextCall (λ v. (n : ℕ) (header : Header) (seq : ℕ) (payload : List ℕ) → WellFormed n header seq payload → (bs : List (List Bus)) → length bs ≡ 7
+    → Takes (atStatus v bs) n payload → GoesOut (after (Begin (Transmit n header seq payload) ∷ calm bs) v) n)
+
+-- ---- 7. no push, request, transmit, has-next, peek or get answers 3, 23, 25 or 26
 
 abbrev pub NotCaused : Refusal → Type 0
 NotCaused r = among (3 ∷ 23 ∷ 25 ∷ 26 ∷ []) (getD (numbered r) 0 0) ≡ false
@@ -299,7 +347,7 @@ Each P (x ∷ t) = P x × Each P t
 abbrev pub NeverCaused : Type 0
 NeverCaused = Always (λ v. Each TellsWell (v .said))
 
--- ---- 7. an exchange that the chip answers receives as many bytes as were wanted
+-- ---- 8. an exchange that the chip answers receives as many bytes as were wanted
 
 abbrev pub Whole : Reply → ℕ → Type 0
 Whole failed want = Unit {0}

@@ -1,7 +1,7 @@
 -- Demand 3 whole: each of its statements.
 -- Assumes nothing.
 use Rattle.history.specs.Demand.{Lists, PushExactly, PushedIff, GetExactly, GotIff, GetHandsOut, PeekExactly, PeekKeeps, HasNextExactly}
-use Rattle.history.specs.Demand.{PushFails, TransmitFails, RequestExactly, TransmitRefused, TransmitDone, RequestFails, NeverCaused, AnsweredWhole}
+use Rattle.history.specs.Demand.{PushFails, TransmitFails, RequestExactly, TransmitRefused, TransmitDone, RequestFails, OldestGoes, RequestSends, TransmitSends, NeverCaused, AnsweredWhole}
 use Rattle.history.specs.Example.{Begins, Sends, SendsNot}
 
 pub record Demand3 : Type 0 where
@@ -20,6 +20,9 @@ pub record Demand3 : Type 0 where
   pub transmitRefused : TransmitRefused
   pub transmitDone : TransmitDone
   pub requestFails : RequestFails
+  pub oldestGoes : OldestGoes
+  pub requestSends : RequestSends
+  pub transmitSends : TransmitSends
   pub neverCaused : NeverCaused
   pub answeredWhole : AnsweredWhole
   pub begins : Begins
