@@ -14,7 +14,7 @@ use Rattle.reach.specs.Bus.{Bus, Send, Deliver, stepped}
 use Rattle.reach.proofs.Kept.{bus-valid}
 use Rattle.history.specs.Command.{Command}
 use Rattle.history.specs.History.{Event, Exchange, On, Said, called, left, arrived, Doing, idle, World, says, event, after}
-use Rattle.history.specs.Demand.{buses, calm, calls}
+use Rattle.history.specs.Demand.{buses, calm, atStatus, calls}
 use Rattle.history.proofs.Sound.{Sound}
 use Rattle.history.proofs.Bus.{Listed, lists-snoc, Later, bus-good}
 use Rattle.history.proofs.Line.{world}
@@ -120,3 +120,7 @@ pub buses-append : (xs bs : List Bus) (c : Model) → buses (xs ++ bs) c ≡ bus
 unfolding buses
 buses-append [] bs c = refl
 buses-append (x ∷ xs) bs c = buses-append xs bs (stepped x c)
+
+-- the chip at the status read
+pub at-status : (v : World) (b₁ b₂ : List Bus) (r : List (List Bus)) → atStatus v (b₁ ∷ b₂ ∷ r) ≡ buses b₂ (buses b₁ (v .chip))
+at-status v b₁ b₂ r = buses-append b₁ (b₂ ++ []) (v .chip) ∙ ap (λ (bs : List Bus). buses bs (buses b₁ (v .chip))) (append-nil b₂)

@@ -1,27 +1,28 @@
--- What a get and a peek answer where no exchange fails, and that a peek leaves the chip to the bus.
+-- What has-next, peek and get answer where no exchange fails.
 -- Assumes nothing.
 use Prim.Native.Nat.{ℕ, _+_, _%_, _^_, _≤_, _<_}
 use native.Mathlib.Nat.{mod-lt}
 use native.Mathlib.Omega.{arith}
-use mathlib.Core.Path.{_≡_, refl, ap, _∙_}
+use mathlib.Core.Path.{_≡_, refl, sym, ap, _∙_}
 use mathlib.Core.Bool.{Bool, true, false}
 use mathlib.Core.List.{List, [], _∷_, _++_}
 use lib.ListN.{length, replicate}
-use lib.Dec.{ltb, leb}
+use lib.Dec.{ltb, leb, eqb}
 use lib.Pow.{pow-pos}
-use borrow.Author.Tests.{ltb-true, le-ltb}
+use borrow.Author.Tests.{ltb-true, ltb-false, le-ltb, eq-eqb, ne-eqb}
 use Rattle.laws.specs.If.{if_then_else_}
 use Rattle.laws.proofs.Choice.{by-if}
-use Rattle.field.specs.Field.{mark}
+use Rattle.field.specs.Field.{mark, digit}
 use Rattle.fifo.specs.Control.{UINC, isFifo}
 use Rattle.words.specs.Words.{leBytes, roundUp}
 use Rattle.words.proofs.Laws.{up-four}
 use Rattle.parts.specs.Parts.{part, put}
 use Rattle.spi.specs.declared.refusal.Refusal.{Refusal}
 use Rattle.spi.specs.declared.ask.Answer.{Answer}
-use Rattle.message.specs.Message.{Message, bodyAt, holds, decoding}
+use Rattle.message.specs.Message.{Message, bodyAt, Decoding, holds, bad, short, decoding}
 use Rattle.call.specs.declared.Found.{Found}
 use Rattle.call.specs.declared.Outcome.{Outcome}
+use Rattle.call.specs.Numbers.{outcomeNumbers}
 use Rattle.plan.specs.declared.plan.Plan.{Plan}
 use Rattle.tx_fifo.specs.declared.push.Push.{Push as Pushes}
 use Rattle.fetch.specs.declared.Want.{Want}
@@ -39,9 +40,10 @@ use Rattle.operation.specs.declared.place.Register.{Register}
 use Rattle.bank.specs.Registers.{wordOf, controlWritten}
 use Rattle.bus.specs.Held.{slotOf, itemAt}
 use Rattle.reach.specs.Bus.{Bus, stepped}
-use Rattle.history.specs.Command.{Command, HasNext, Peek, Get, started, lent}
+use Rattle.history.specs.Command.{Command, HasNext, Peek, Get, started, lent, firstCall}
 use Rattle.history.specs.History.{Begin, Said, called, Doing, idle, busy, World, hears, heard, isOver, settled, goesOn, event, after}
-use Rattle.history.specs.Demand.{buses, calm, calls, Answers, tells, fetchSaid, all}
+use Rattle.history.specs.Demand.{buses, calm, atStatus, calls, Answers, Ending, ending, Ends, readAs, fetchAnswer, hasNextAnswer}
+use Rattle.history.proofs.Few.{two, five}
 use Rattle.history.proofs.Line.{world, spoken}
 use Rattle.history.proofs.Asks.{hear-control, hear-status, hear-address, hear-ram, hear-behind, tell-control}
 use Rattle.history.proofs.Replies.{control-stamp, mark-small, fetch-control, fetch-status, fetch-address, fetch-next, fetch-commit}
@@ -52,9 +54,7 @@ use Rattle.history.proofs.Fetching as reading
 use Rattle.history.proofs.Fetchings.{fetched, fetching, turned, still, over}
 use Rattle.history.proofs.Mid.{Oldest, oldest-later}
 use Rattle.history.proofs.FetchSteps.{by-body}
-use Rattle.history.proofs.Calm.{spokenOf, after-calm, calls-buses, calls-snoc, idle-calm, Fit, step-later, buses-keep, buses-fit, buses-fixed}
-
--- ---- one exchange of a call, and what is said in the end
+use Rattle.history.proofs.Calm.{spokenOf, after-calm, calls-buses, calls-snoc, idle-calm, Fit, step-later, buses-keep, buses-fit, buses-fixed, at-status}
 
 -- nothing is put into the lent buffer
 filled-none : (held buf : List ℕ) → found.filled held 0 buf ≡ buf
@@ -85,10 +85,42 @@ start-is Want.HasNext x n buf = absurd x
 start-is Want.Peek x n buf = refl
 start-is Want.Get x n buf = refl
 
--- only what is fixed of the chip as the call begins counts
-same-said : (k : Command) (c d e : Model) (n : ℕ) (buf : List ℕ) → c .fixed ≡ d .fixed → fetchSaid k c e n buf ≡ fetchSaid k d e n buf
-unfolding fetchSaid
-same-said k c d e n buf h = rw h
+-- ---- what is said, d being the chip at the status read
+
+-- of a message read
+abbrev pub tells : Command → Decoding → List ℕ → Said
+tells k (holds m) buf = called k (Outcome.Message (found.foundOf m)) (put buf 0 (m .payload))
+tells k (bad r) buf = called k (Outcome.Refused r) buf
+tells k short buf = called k Outcome.Running buf
+
+-- of a FIFO that receives
+abbrev pub found-said : Command → Model → ℕ → List ℕ → Said
+found-said k d n buf = if eqb (fifoAt d n .count) 0 then called k Outcome.Empty buf else tells k (itemAt d n 0) buf
+
+unfoldable pub fetchSaid : Command → Model → ℕ → List ℕ → Said
+fetchSaid k d n buf = if sending (frozenAt d n) then called k (Outcome.Refused Refusal.FifoNotRx) buf else found-said k d n buf
+
+-- by numbers
+module _ (k : Command) (d : Model) (n : ℕ) (buf : List ℕ) where
+  abbrev As : Said → Ending → Type 0
+  As x y = (o : Outcome) × (outcomeNumbers o ≡ y .numbers) × (x ≡ called k o (y .buffer))
+
+  read-numbers : (x : Decoding) → As (tells k x buf) (readAs x buf)
+  read-numbers (holds m) = (Outcome.Message (found.foundOf m), refl, refl)
+  read-numbers (bad r) = (Outcome.Refused r, refl, refl)
+  read-numbers short = (Outcome.Running, refl, refl)
+
+  fetch-numbers : As (fetchSaid k d n buf) (fetchAnswer d n buf)
+  unfolding fetchSaid fetchAnswer
+  fetch-numbers = go (sending (frozenAt d n)) (eqb (fifoAt d n .count) 0)
+    where
+      go : (x y : Bool) → As (if x then called k (Outcome.Refused Refusal.FifoNotRx) buf else if y then called k Outcome.Empty buf else tells k (itemAt d n 0) buf)
+          (if x then ending (9 ∷ []) buf else if y then ending (0 ∷ []) buf else readAs (itemAt d n 0) buf)
+      go true y = (Outcome.Refused Refusal.FifoNotRx, refl, refl)
+      go false true = (Outcome.Empty, refl, refl)
+      go false false = read-numbers (itemAt d n 0)
+
+-- ---- one exchange of a call
 
 module _ (want : Want) (n : ℕ) (buf : List ℕ) (p : Plan) (u : Pushes) where
   abbrev k : Command
@@ -286,73 +318,158 @@ module _ (want : Want) (n : ℕ) (buf : List ℕ) (p : Plan) (u : Pushes) where
       abbrev rest : List (List Bus)
       rest = b₃ ∷ b₄ ∷ b₅ ∷ b₆ ∷ b₇ ∷ r
 
-      -- by the chip at the status read
-      abbrev told : Model → Said
-      told d = if ltb 0 (fifoAt d n .count) then tells k (itemAt d n 0) buf else called k Outcome.Empty buf
-
-      statuses : (d : Model) (t : List Said) → Fit d t → sending (frozenAt d n) ≡ false → Now rest held FetchAt.Status d t (told d)
+      statuses : (d : Model) (t : List Said) → Fit d t → sending (frozenAt d n) ≡ false → Now rest held FetchAt.Status d t (found-said k d n buf)
       statuses d t ok e =
           let w : ℕ = wordOf d (Register.Status n) in
           let c : ℕ = fifoAt d n .count in
-          then-to rest held FetchAt.Status d t (told d) (leBytes w) d (toAddress (ltb 0 c)) (hear-status [] d n i) (fetch-status d n want (ok .sound) e ∙ status-is want reads (ltb 0 c))
+          then-to rest held FetchAt.Status d t (found-said k d n buf) (leBytes w) d (toAddress (ltb 0 c)) (hear-status [] d n i)
+          (fetch-status d n want (ok .sound) e ∙ status-is want reads (ltb 0 c))
           (go (ltb 0 c) refl)
         where
-          go : (y : Bool) → ltb 0 (fifoAt d n .count) ≡ y
-              → To rest held (toAddress y) (leBytes (wordOf d (Register.Status n))) d t (if y then tells k (itemAt d n 0) buf else called k Outcome.Empty buf)
+          go : (y : Bool) → ltb 0 (fifoAt d n .count) ≡ y → To rest held (toAddress y) (leBytes (wordOf d (Register.Status n))) d t (found-said k d n buf)
           go true y =
               let some : 0 < fifoAt d n .count = ltb-true _ _ y in
               let (m, item) = oldest d (ok .sound) t (ok .lists) n i some in
               let s : Shows (slotOf d n 0) (frozenAt d n) m d = record { oldest = record { rx = e; some = some; item = item }; place = refl; frozen = refl } in
-              rw item (runs rest held FetchAt.Address _ d t _ refl (addresses (slotOf d n 0) (frozenAt d n) m b₃ b₄ b₅ b₆ b₇ r more held d t ok s))
-          go false y = ends rest held FetchAt.Empty _ d t refl ∙ rw (lent-is want reads n buf, filled-none held buf)
+              rw (ne-eqb (fifoAt d n .count) 0 (λ z. omega (arith, z, some)), item)
+              (runs rest held FetchAt.Address _ d t _ refl (addresses (slotOf d n 0) (frozenAt d n) m b₃ b₄ b₅ b₆ b₇ r more held d t ok s))
+          go false y =
+              let none : 0 ≡ fifoAt d n .count = omega (arith, ltb-false 0 (fifoAt d n .count) y) in
+              rw (eq-eqb (fifoAt d n .count) 0 (sym none)) (ends rest held FetchAt.Empty _ d t refl ∙ rw (lent-is want reads n buf, filled-none held buf))
 
-      controls : (b₁ b₂ : List Bus) (c : Model) (t : List Said) → Fit c t
-          → From (b₁ ∷ b₂ ∷ rest) held FetchAt.Control c t (fetchSaid k c (buses b₂ (buses b₁ c)) n buf)
-      unfolding fetchSaid
-      controls b₁ b₂ c t f =
-          let d : Model = buses b₁ c in
-          let w : ℕ = wordOf d (Register.Control n) in
-          let ok : Fit d (t ++ spokenOf b₁ c) = buses-fit b₁ c t f in
-          then-now b₁ (b₂ ∷ rest) held FetchAt.Control c t _
-          (then-to (b₂ ∷ rest) held FetchAt.Control d (t ++ spokenOf b₁ c) _ (leBytes w) d _ (hear-control [] d n i) (fetch-control d n want)
-          (go d (t ++ spokenOf b₁ c) ok (leBytes w) (sending (frozenAt d n)) refl))
-          ∙ ap (λ (x : Said). calls t ++ (x ∷ [])) (same-said k d c (buses b₂ d) n buf (buses-fixed b₁ c t f))
-        where
-          go : (d : Model) (t : List Said) → Fit d t → (rx : List ℕ) (y : Bool) → sending (frozenAt d n) ≡ y
-              → To (b₂ ∷ rest) held (if y then FetchAt.Refused Refusal.FifoNotRx else FetchAt.Status) rx d t
-              (if y then called k (Outcome.Refused Refusal.FifoNotRx) buf else told (buses b₂ d))
-          go d t ok rx true y = ends (b₂ ∷ rest) held (FetchAt.Refused Refusal.FifoNotRx) rx d t refl ∙ rw (lent-is want reads n buf, filled-none held buf)
-          go d t ok rx false y =
-              runs (b₂ ∷ rest) held FetchAt.Status rx d t (told (buses b₂ d)) refl
-              (then-now b₂ rest held FetchAt.Status d t (told (buses b₂ d))
-              (statuses (buses b₂ d) _ (buses-fit b₂ d t ok) (rw (buses-fixed b₂ d t ok) y)))
+  -- ---- the control read, which all three begin with; what is told of the chip at the status read then follows
+
+  module _ (i : isFifo n ≡ true) (rest : List (List Bus)) (held : List ℕ) (told : Model → Said)
+      (status : (d : Model) (t : List Said) → Fit d t → sending (frozenAt d n) ≡ false → Now rest held FetchAt.Status d t (told d)) where
+    abbrev sayings : Model → Said
+    sayings d = if sending (frozenAt d n) then called k (Outcome.Refused Refusal.FifoNotRx) (lent k) else told d
+
+    controls : (b₁ b₂ : List Bus) (c : Model) (t : List Said) → Fit c t → From (b₁ ∷ b₂ ∷ rest) held FetchAt.Control c t (sayings (buses b₂ (buses b₁ c)))
+    controls b₁ b₂ c t f =
+        let d : Model = buses b₁ c in
+        let w : ℕ = wordOf d (Register.Control n) in
+        let ok : Fit d (t ++ spokenOf b₁ c) = buses-fit b₁ c t f in
+        then-now b₁ (b₂ ∷ rest) held FetchAt.Control c t _
+        (then-to (b₂ ∷ rest) held FetchAt.Control d (t ++ spokenOf b₁ c) _ (leBytes w) d _ (hear-control [] d n i) (fetch-control d n want)
+        (go d (t ++ spokenOf b₁ c) ok (leBytes w) (sending (frozenAt d n)) refl))
+      where
+        go : (d : Model) (t : List Said) → Fit d t → (rx : List ℕ) (y : Bool) → sending (frozenAt d n) ≡ y
+            → To (b₂ ∷ rest) held (if y then FetchAt.Refused Refusal.FifoNotRx else FetchAt.Status) rx d t (sayings (buses b₂ d))
+        go d t ok rx true y =
+            let later : sending (frozenAt (buses b₂ d) n) ≡ true = rw (buses-fixed b₂ d t ok) y in
+            rw later (ends (b₂ ∷ rest) held (FetchAt.Refused Refusal.FifoNotRx) rx d t refl ∙ rw (filled-none held (lent k)))
+        go d t ok rx false y =
+            let later : sending (frozenAt (buses b₂ d) n) ≡ false = rw (buses-fixed b₂ d t ok) y in
+            rw later
+            (runs (b₂ ∷ rest) held FetchAt.Status rx d t (told (buses b₂ d)) refl
+            (then-now b₂ rest held FetchAt.Status d t (told (buses b₂ d)) (status (buses b₂ d) _ (buses-fit b₂ d t ok) later)))
+
+-- ---- the beginning
 
 -- the buffer is long enough, and FIFO n is one
 lent-control : (n room : ℕ) → isFifo n ≡ true → 64 ≤ room → fetch.lentAt n room ≡ FetchAt.Control
 unfolding fetch.lentAt
 lent-control n room i h = rw (i, le-ltb room 64 h)
 
-fetches-exactly : (want : Want) → Reading want → (v : World) → Fit (v .chip) (v .said) → v .doing ≡ idle → (n : ℕ) (buf : List ℕ) → isFifo n ≡ true → 64 ≤ length buf
-    → (b₁ b₂ b₃ b₄ b₅ b₆ b₇ : List Bus) (r : List (List Bus)) → (want ≡ Want.Get → 2 ≤ length r)
-    → Answers v (fetched want n buf) (b₁ ∷ b₂ ∷ b₃ ∷ b₄ ∷ b₅ ∷ b₆ ∷ b₇ ∷ r) (fetchSaid (fetched want n buf) (v .chip) (buses b₂ (buses b₁ (v .chip))) n buf ∷ [])
+-- a call that begins with its control read
+fetch-starts : (want : Want) (v : World) → v .doing ≡ idle → (n : ℕ) (buf : List ℕ)
+    → started (fetched want n buf) ≡ fetching want n (replicate 64 0) FetchAt.Control idlePlan idlePush → (xs : List (List Bus)) (x : Said)
+    → From want n buf idlePlan idlePush xs (replicate 64 0) FetchAt.Control (v .chip) (v .said) x → Answers v (fetched want n buf) xs (x ∷ [])
 unfolding after event
-fetches-exactly want reads v f e n buf i long b₁ b₂ b₃ b₄ b₅ b₆ b₇ r more =
-    let l : List (List Bus) = b₁ ∷ b₂ ∷ b₃ ∷ b₄ ∷ b₅ ∷ b₆ ∷ b₇ ∷ r in
-    let k : Command = fetched want n buf in
-    let zeros : List ℕ = replicate 64 0 in
-    let start : started k ≡ fetching want n zeros FetchAt.Control idlePlan idlePush = start-is want reads n buf ∙ rw (lent-control n (length buf) i long) in
-    ap (λ (d : Doing). calls (after (calm l) (event (Begin k) d (v .chip) (v .said)) .said)) e
-    ∙ ap (λ (s : Call). calls (after (calm l) (settled (v .chip) (v .said) k s []) .said)) start
-    ∙ runs want n buf idlePlan idlePush l zeros FetchAt.Control [] (v .chip) (v .said) _ refl
-    (controls want n buf idlePlan idlePush i long reads b₃ b₄ b₅ b₆ b₇ r more zeros b₁ b₂ (v .chip) (v .said) f)
+fetch-starts want v e n buf start xs x from =
+    ap (λ (d : Doing). calls (after (calm xs) (event (Begin (fetched want n buf)) d (v .chip) (v .said)) .said)) e
+    ∙ ap (λ (s : Call). calls (after (calm xs) (settled (v .chip) (v .said) (fetched want n buf) s []) .said)) start
+    ∙ runs want n buf idlePlan idlePush xs (replicate 64 0) FetchAt.Control [] (v .chip) (v .said) x refl from
 
-pub get-exactly : (v : World) → Fit (v .chip) (v .said) → v .doing ≡ idle → (n : ℕ) (buf : List ℕ) → isFifo n ≡ true → 64 ≤ length buf
-    → (b₁ b₂ b₃ b₄ b₅ b₆ b₇ b₈ b₉ : List Bus)
-    → Answers v (Get n buf) (b₁ ∷ b₂ ∷ b₃ ∷ b₄ ∷ b₅ ∷ b₆ ∷ b₇ ∷ b₈ ∷ b₉ ∷ []) (fetchSaid (Get n buf) (v .chip) (buses b₂ (buses b₁ (v .chip))) n buf ∷ [])
-get-exactly v f e n buf i h b₁ b₂ b₃ b₄ b₅ b₆ b₇ b₈ b₉ = fetches-exactly Want.Get tt v f e n buf i h b₁ b₂ b₃ b₄ b₅ b₆ b₇ (b₈ ∷ b₉ ∷ []) (λ g. omega arith)
+-- ---- has-next
 
-pub peek-exactly : (v : World) → Fit (v .chip) (v .said) → v .doing ≡ idle → (n : ℕ) (buf : List ℕ) → isFifo n ≡ true → 64 ≤ length buf
-    → (b₁ b₂ b₃ b₄ b₅ b₆ b₇ : List Bus)
-    → Answers v (Peek n buf) (b₁ ∷ b₂ ∷ b₃ ∷ b₄ ∷ b₅ ∷ b₆ ∷ b₇ ∷ []) (fetchSaid (Peek n buf) (v .chip) (buses b₂ (buses b₁ (v .chip))) n buf ∷ [])
-peek-exactly v f e n buf i h b₁ b₂ b₃ b₄ b₅ b₆ b₇ =
-    fetches-exactly Want.Peek tt v f e n buf i h b₁ b₂ b₃ b₄ b₅ b₆ b₇ [] (λ g. let z : _≡_ {A = ℕ} 0 1 = cc in absurd (omega (arith, z)))
+abbrev isNext : Bool → Outcome
+isNext true = Outcome.Yes
+isNext false = Outcome.No
+
+module _ (v : World) (f : Fit (v .chip) (v .said)) (e : v .doing ≡ idle) (n : ℕ) (i : isFifo n ≡ true) where
+  abbrev next-said : Model → Said
+  next-said d = called (HasNext n) (isNext (ltb 0 (fifoAt d n .count))) []
+
+  next-status : (r : List (List Bus)) (d : Model) (t : List Said) → Fit d t → sending (frozenAt d n) ≡ false
+      → Now Want.HasNext n [] idlePlan idlePush r (replicate 64 0) FetchAt.Status d t (next-said d)
+  next-status r d t ok x =
+      let w : ℕ = wordOf d (Register.Status n) in
+      let y : Bool = ltb 0 (fifoAt d n .count) in
+      then-to Want.HasNext n [] idlePlan idlePush r (replicate 64 0) FetchAt.Status d t (next-said d) (leBytes w) d (FetchAt.Told y)
+      (hear-status [] d n i) (fetch-status d n Want.HasNext (ok .sound) x) (go (leBytes w) y)
+    where
+      go : (rx : List ℕ) (y : Bool) → To Want.HasNext n [] idlePlan idlePush r (replicate 64 0) (FetchAt.Told y) rx d t (called (HasNext n) (isNext y) [])
+      go rx true = ends Want.HasNext n [] idlePlan idlePush r (replicate 64 0) (FetchAt.Told true) rx d t refl ∙ rw (filled-none (replicate 64 0) [])
+      go rx false = ends Want.HasNext n [] idlePlan idlePush r (replicate 64 0) (FetchAt.Told false) rx d t refl ∙ rw (filled-none (replicate 64 0) [])
+
+  next-starts : started (HasNext n) ≡ fetching Want.HasNext n (replicate 64 0) FetchAt.Control idlePlan idlePush
+  unfolding ofFetch fetch.hasNextStart fetch.firstAt
+  next-starts = rw i
+
+  next-numbers : (d : Model) → (o : Outcome) × (outcomeNumbers o ≡ hasNextAnswer d n .numbers)
+      × ((if sending (frozenAt d n) then called (HasNext n) (Outcome.Refused Refusal.FifoNotRx) [] else next-said d) ≡ called (HasNext n) o (hasNextAnswer d n .buffer))
+  unfolding hasNextAnswer
+  next-numbers d = go (sending (frozenAt d n)) (ltb 0 (fifoAt d n .count))
+    where
+      go : (x y : Bool) → (o : Outcome) × (outcomeNumbers o ≡ (if x then ending (9 ∷ []) [] else ending (0 ∷ digit y ∷ []) []) .numbers)
+          × ((if x then called (HasNext n) (Outcome.Refused Refusal.FifoNotRx) [] else called (HasNext n) (isNext y) [])
+          ≡ called (HasNext n) o ((if x then ending (9 ∷ []) [] else ending (0 ∷ digit y ∷ []) []) .buffer))
+      go true y = (Outcome.Refused Refusal.FifoNotRx, refl, refl)
+      go false true = (Outcome.Yes, refl, refl)
+      go false false = (Outcome.No, refl, refl)
+
+  next-exact : (b₁ b₂ : List Bus) (r : List (List Bus)) → Ends v (HasNext n) (b₁ ∷ b₂ ∷ r) (hasNextAnswer (atStatus v (b₁ ∷ b₂ ∷ r)) n)
+  next-exact b₁ b₂ r =
+      let d : Model = buses b₂ (buses b₁ (v .chip)) in
+      let (o, is, said) = next-numbers d in
+      let from = controls Want.HasNext n [] idlePlan idlePush i r (replicate 64 0) next-said (next-status r) b₁ b₂ (v .chip) (v .said) f in
+      rw (at-status v b₁ b₂ r)
+      (o, is, fetch-starts Want.HasNext v e n [] next-starts (b₁ ∷ b₂ ∷ r) _ from ∙ ap (λ (x : Said). calls (v .said) ++ (x ∷ [])) said)
+
+  pub has-next-exactly : (xs : List (List Bus)) → length xs ≡ 2 → Ends v (HasNext n) xs (hasNextAnswer (atStatus v xs) n)
+  has-next-exactly xs l = two (λ ys. Ends v (HasNext n) ys (hasNextAnswer (atStatus v ys) n)) next-exact xs (omega (arith, l))
+
+-- ---- peek and get
+
+module _ (want : Want) (reads : Reading want) (v : World) (f : Fit (v .chip) (v .said)) (e : v .doing ≡ idle) (n : ℕ) (buf : List ℕ) (i : isFifo n ≡ true)
+    (long : 64 ≤ length buf) where
+  abbrev call : Command
+  call = fetched want n buf
+
+  fetch-said : (xs : List (List Bus)) → 7 ≤ length xs → (want ≡ Want.Get → 9 ≤ length xs) → Answers v call xs (fetchSaid call (atStatus v xs) n buf ∷ [])
+  unfolding fetchSaid
+  fetch-said =
+      let start : started call ≡ fetching want n (replicate 64 0) FetchAt.Control idlePlan idlePush = start-is want reads n buf ∙ rw (lent-control n (length buf) i long) in
+      let P : List (List Bus) → Type 0 = λ xs. 7 ≤ length xs → (want ≡ Want.Get → 9 ≤ length xs) → Answers v call xs (fetchSaid call (atStatus v xs) n buf ∷ []) in
+      λ xs l. five P
+      (λ b₁ b₂ b₃ b₄ b₅ r m. two (λ ys. (want ≡ Want.Get → 9 ≤ length (b₁ ∷ b₂ ∷ b₃ ∷ b₄ ∷ b₅ ∷ ys)) → Answers v call (b₁ ∷ b₂ ∷ b₃ ∷ b₄ ∷ b₅ ∷ ys)
+      (fetchSaid call (atStatus v (b₁ ∷ b₂ ∷ b₃ ∷ b₄ ∷ b₅ ∷ ys)) n buf ∷ []))
+      (λ b₆ b₇ q more.
+      let rest : List (List Bus) = b₃ ∷ b₄ ∷ b₅ ∷ b₆ ∷ b₇ ∷ q in
+      let d : Model = buses b₂ (buses b₁ (v .chip)) in
+      rw (at-status v b₁ b₂ rest)
+      (fetch-starts want v e n buf start (b₁ ∷ b₂ ∷ rest) _
+      (controls want n buf idlePlan idlePush i rest (replicate 64 0) (λ d. found-said call d n buf)
+      (statuses want n buf idlePlan idlePush i long reads b₃ b₄ b₅ b₆ b₇ q (λ g. omega (arith, more g)) (replicate 64 0)) b₁ b₂ (v .chip) (v .said) f)
+      ∙ ap (λ (y : List ℕ). calls (v .said) ++ ((if sending (frozenAt d n) then called call (Outcome.Refused Refusal.FifoNotRx) y else found-said call d n buf) ∷ []))
+      (lent-is want reads n buf)))
+      r (omega (arith, m))) xs (omega (arith, l)) l
+
+  pub fetch-exactly : firstCall call ≡ call → (xs : List (List Bus)) → 7 ≤ length xs → (want ≡ Want.Get → 9 ≤ length xs)
+      → Ends v call xs (fetchAnswer (atStatus v xs) n buf)
+  fetch-exactly one xs l m =
+      let d : Model = atStatus v xs in
+      let (o, is, said) = fetch-numbers call d n buf in
+      (o, is, fetch-said xs l m ∙ ap (λ (x : Said). calls (v .said) ++ (x ∷ [])) (said ∙ ap (λ (k : Command). called k o (fetchAnswer d n buf .buffer)) (sym one)))
+
+module _ (v : World) (f : Fit (v .chip) (v .said)) (e : v .doing ≡ idle) (n : ℕ) (buf : List ℕ) (i : isFifo n ≡ true) (long : 64 ≤ length buf) (xs : List (List Bus)) where
+  pub peek-exactly : length xs ≡ 7 → Ends v (Peek n buf) xs (fetchAnswer (atStatus v xs) n buf)
+  peek-exactly l =
+      fetch-exactly Want.Peek tt v f e n buf i long refl xs (omega (arith, l)) (λ g. let z : _≡_ {A = ℕ} 0 1 = cc in absurd (omega (arith, z)))
+
+  pub get-exactly : length xs ≡ 9 → Ends v (Get n buf) xs (fetchAnswer (atStatus v xs) n buf)
+  get-exactly l = fetch-exactly Want.Get tt v f e n buf i long refl xs (omega (arith, l)) (λ g. omega (arith, l))
+
+  pub get-said : length xs ≡ 9 → Answers v (Get n buf) xs (fetchSaid (Get n buf) (atStatus v xs) n buf ∷ [])
+  get-said l = fetch-said Want.Get tt v f e n buf i long xs (omega (arith, l)) (λ g. omega (arith, l))

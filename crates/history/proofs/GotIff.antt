@@ -1,29 +1,45 @@
 -- A get hands out the oldest message exactly if its FIFO receives and held one at the status read.
 -- Assumes nothing.
-use Prim.Native.Nat.{ℕ, min, _≤_, _<_}
+use Prim.Native.Nat.{ℕ, zero, suc, min, _≤_, _<_}
 use native.Mathlib.Omega.{arith}
 use mathlib.Core.Path.{_≡_, refl, sym, ap, _∙_}
-use mathlib.Core.Bool.{Bool, false}
-use mathlib.Core.List.{List, [], _∷_}
+use mathlib.Core.Bool.{Bool, true, false}
+use mathlib.Core.Logic.{_↔_}
+use mathlib.Core.List.{List, [], _∷_, _++_}
 use lib.ListN.{length, take, drop, length-take}
-use lib.Dec.{ltb, eqb}
-use borrow.Author.Tests.{ltb-true, lt-ltb, eq-eqb}
+use lib.Dec.{eqb}
+use borrow.Author.Tests.{eqb-false, eq-eqb, ne-eqb}
 use Rattle.laws.specs.If.{if_then_else_}
 use Rattle.laws.proofs.Choice.{by-if}
 use Rattle.field.specs.Field.{flag, read}
+use Rattle.fifo.specs.Control.{isFifo}
+use Rattle.parts.specs.Parts.{put}
 use Rattle.words.specs.Words.{leAt}
 use Rattle.header.specs.Header.{DLC, FDF}
 use Rattle.header.proofs.Dlcs.{length-le}
 use Rattle.message.specs.Message.{Message, bodyAt, Decoding, holds, bad, short, messageIn, decoding}
 use Rattle.message.proofs.Round.{Held, is-held}
+use Rattle.call.specs.declared.Outcome.{Outcome}
+use Rattle.rx_fifo.specs.Outcome as found
 use Rattle.ring.specs.Ring.{sending}
+use Rattle.state.specs.declared.Model.{Model}
 use Rattle.state.specs.Model.{fifoAt, frozenAt}
 use Rattle.bus.specs.Held.{itemAt}
+use Rattle.reach.specs.Bus.{Bus}
 use Rattle.history.specs.Command.{Get}
-use Rattle.history.specs.History.{Said}
+use Rattle.history.specs.History.{Said, called, idle, World}
 use Rattle.history.specs.Lists.{handedOutIn}
-use Rattle.history.specs.Demand.{tells, fetchSaid, GotIff}
+use Rattle.history.specs.Demand.{all, atStatus, calls, Answers}
+use Rattle.history.proofs.Few.{same-last}
+use Rattle.history.proofs.Bus.{oldest}
+use Rattle.history.proofs.Calm.{Fit, buses-fit}
+use Rattle.history.proofs.FetchExactly.{tells, fetchSaid, get-said}
 use Rattle.history.proofs.Fetching.{put-message, item-is}
+
+-- what is not 0 is above it
+above : (a : ℕ) → (a ≡ 0 → ⊥) → 0 < a
+above zero h = absurd (h refl)
+above (suc a) h = omega arith
 
 -- a message received has SEQ 0 and no more than 64 bytes, so it comes back out of the lent buffer
 module _ (n : ℕ) (buf : List ℕ) where
@@ -54,24 +70,42 @@ module _ (n : ℕ) (buf : List ℕ) where
   out-only y b (bad r) e m h = absurd (out-none m h)
   out-only y b short e m h = absurd (out-none m h)
 
-pub got-iff : GotIff
-unfolding fetchSaid
-got-iff c d fixed n buf m = (to, from)
-  where
-    Good : Type 0
-    Good = (sending (frozenAt c n) ≡ false) × (0 < fifoAt d n .count) × (itemAt d n 0 ≡ holds m)
+module _ (d : Model) (n : ℕ) (buf : List ℕ) (m : Message) where
+  abbrev Good : Type 0
+  Good = (sending (frozenAt d n) ≡ false) × (0 < fifoAt d n .count) × (itemAt d n 0 ≡ holds m)
 
-    rx : sending (frozenAt c n) ≡ false → sending (frozenAt d n) ≡ false
-    rx e = rw fixed e
+  if-got : handedOutIn n (fetchSaid (Get n buf) d n buf) ≡ m ∷ [] → Good
+  unfolding fetchSaid
+  if-got =
+      let P : Said → Type 0 = λ x. handedOutIn n x ≡ m ∷ [] → Good in
+      by-if P (sending (frozenAt d n))
+      (λ e h. absurd (out-none n buf m h))
+      (λ e. by-if P (eqb (fifoAt d n .count) 0)
+      (λ y h. absurd (out-none n buf m h))
+      (λ y h. (e, above _ (eqb-false (fifoAt d n .count) 0 y), out-only n buf _ _ (itemAt d n 0) (item-is d n e) m h)))
 
-    to : handedOutIn n (fetchSaid (Get n buf) c d n buf) ≡ m ∷ [] → Good
-    to =
-        let P : Said → Type 0 = λ x. handedOutIn n x ≡ m ∷ [] → Good in
-        by-if P (sending (frozenAt c n))
-        (λ e h. absurd (out-none n buf m h))
-        (λ e. by-if P (ltb 0 (fifoAt d n .count))
-        (λ y h. (e, ltb-true _ _ y, out-only n buf _ _ (itemAt d n 0) (item-is d n (rx e)) m h))
-        (λ y h. absurd (out-none n buf m h)))
+  got-if : Good → handedOutIn n (fetchSaid (Get n buf) d n buf) ≡ m ∷ []
+  unfolding fetchSaid
+  got-if (e, y, item) = rw (e, ne-eqb (fifoAt d n .count) 0 (λ z. omega (arith, z, y)), item) (comes-back n buf _ _ m (item-is d n e ∙ item))
 
-    from : Good → handedOutIn n (fetchSaid (Get n buf) c d n buf) ≡ m ∷ []
-    from (e, y, item) = rw (e, lt-ltb _ _ y, item) (comes-back n buf _ _ m (item-is d n (rx e) ∙ item))
+module _ (v : World) (f : Fit (v .chip) (v .said)) (e : v .doing ≡ idle) (n : ℕ) (buf : List ℕ) (i : isFifo n ≡ true) (long : 64 ≤ length buf)
+    (xs : List (List Bus)) (l : length xs ≡ 9) where
+  pub got-iff : (m : Message) → ((x : Said) × Answers v (Get n buf) xs (x ∷ []) × (handedOutIn n x ≡ m ∷ [])) ↔ Good (atStatus v xs) n buf m
+  got-iff m =
+      let says = get-said v f e n buf i long xs l in (
+        λ (x, said, out). if-got (atStatus v xs) n buf m (ap (handedOutIn n) (sym (same-last (calls (v .said)) _ _ (sym said ∙ says))) ∙ out),
+        λ good. (_, says, got-if (atStatus v xs) n buf m good),
+      )
+
+  -- the slot of the oldest decodes, and the get is done with that message
+  pub get-hands-out : sending (frozenAt (atStatus v xs) n) ≡ false → 0 < fifoAt (atStatus v xs) n .count
+      → (m : Message) × (itemAt (atStatus v xs) n 0 ≡ holds m)
+      × Answers v (Get n buf) xs (called (Get n buf) (Outcome.Message (found.foundOf m)) (put buf 0 (m .payload)) ∷ [])
+  unfolding fetchSaid
+  get-hands-out rx some =
+      let d : Model = atStatus v xs in
+      let g = buses-fit (all (take 2 xs)) (v .chip) (v .said) f in
+      let (m, item) = oldest d (g .sound) _ (g .lists) n i some in
+      let is : fetchSaid (Get n buf) d n buf ≡ called (Get n buf) (Outcome.Message (found.foundOf m)) (put buf 0 (m .payload))
+      = rw (rx, ne-eqb (fifoAt d n .count) 0 (λ z. omega (arith, z, some)), item) in
+      (m, item, get-said v f e n buf i long xs l ∙ ap (λ (x : Said). calls (v .said) ++ (x ∷ [])) is)

@@ -1,14 +1,15 @@
 -- Plans that do no harm to what FIFOs hold: they write registers that only hold as written, and control words without UINC and FRESET.
 -- Assumes nothing.
 use Prim.Native.Nat.{ℕ, zero, suc, _-_, _%_, _^_, _<_}
-use mathlib.Core.Path.{_≡_, ap, _∙_}
+use mathlib.Core.Path.{_≡_, sym, ap, subst, _∙_}
 use mathlib.Core.Bool.{true, false}
 use mathlib.Core.List.{List, [], _∷_, _++_}
 use lib.Dec.{eqb}
 use lib.ListN.{length, drop, replicate}
 use Rattle.laws.proofs.Choice.{by-if}
 use Rattle.words.specs.Words.{leBytes, leAt}
-use Rattle.fifo.specs.Control.{CiFIFOCON, isFifo}
+use Rattle.field.specs.Field.{read}
+use Rattle.fifo.specs.Control.{CiFIFOCON, TXREQ, isFifo}
 use Rattle.operation.specs.declared.place.Register.{Register}
 use Rattle.operation.specs.declared.place.Place.{Place}
 use Rattle.operation.specs.Place.{registerAt}
@@ -54,163 +55,169 @@ pub record Aside (a : ℕ) : Type 0 where
   pub small : a < 2 ^ 12
 
 -- a is the address of such a register, or of a FIFO's control with P to hold
-pub data Spares (a : ℕ) (P : Type 0) : Type 0 where
+pub data Spares (a : ℕ) (P : ℕ → Type 0) : Type 0 where
   aside : Aside a → Spares a P
-  control : (n : ℕ) → isFifo n ≡ true → a ≡ CiFIFOCON .address n → P → Spares a P
+  control : (n : ℕ) → isFifo n ≡ true → a ≡ CiFIFOCON .address n → P n → Spares a P
 
-abbrev pub HarmlessChange : Change → Type 0
-HarmlessChange c = Spares (c .address) ((w : ℕ) → Gentle w → Gentle (modified c w))
+-- X says of which FIFOs TXREQ stays 1
+module _ (X : ℕ → Type 0) where
+  -- a word that may be written to the control of FIFO n: if X says so, with TXREQ at 1
+  abbrev pub Careful : (n w : ℕ) → Type 0
+  Careful n w = Gentle w × (X n → read TXREQ w ≡ 1)
 
-abbrev pub HarmlessWrite : (a w : ℕ) → Type 0
-HarmlessWrite a w = Spares a (Gentle w)
+  abbrev pub HarmlessChange : Change → Type 0
+  HarmlessChange c = Spares (c .address) (λ n. (w : ℕ) → Careful n w → Careful n (modified c w))
 
--- the PLL is polled; the mode is not, since it is not changed
-abbrev pub HarmlessPoll : Poll → Type 0
-HarmlessPoll (Poll.Mode m late) = ⊥
-HarmlessPoll Poll.Pll = Unit {0}
+  abbrev pub HarmlessWrite : (a w : ℕ) → Type 0
+  HarmlessWrite a w = Spares a (λ n. Careful n w)
 
-abbrev pub HarmlessItem : Item → Type 0
-HarmlessItem (Item.Change c) = HarmlessChange c
-HarmlessItem (Item.Poll p more) = HarmlessPoll p
-HarmlessItem Item.Echo = ⊥
-HarmlessItem Item.Nothing = Unit {0}
+  -- the PLL is polled; the mode is not, since it is not changed
+  abbrev pub HarmlessPoll : Poll → Type 0
+  HarmlessPoll (Poll.Mode m late) = ⊥
+  HarmlessPoll Poll.Pll = Unit {0}
 
-abbrev pub HarmlessSlots : List Slot → Type 0
-HarmlessSlots [] = Unit {0}
-HarmlessSlots (s ∷ ss) = HarmlessItem (s .item) × HarmlessSlots ss
+  abbrev pub HarmlessItem : Item → Type 0
+  HarmlessItem (Item.Change c) = HarmlessChange c
+  HarmlessItem (Item.Poll p more) = HarmlessPoll p
+  HarmlessItem Item.Echo = ⊥
+  HarmlessItem Item.Nothing = Unit {0}
 
-abbrev pub HarmlessAt : PlanAt → Type 0
-HarmlessAt (PlanAt.Read c) = HarmlessChange c
-HarmlessAt (PlanAt.Write a w) = HarmlessWrite a w
-HarmlessAt (PlanAt.Poll p more) = HarmlessPoll p
-HarmlessAt (PlanAt.Wait p more) = HarmlessPoll p
-HarmlessAt (PlanAt.EchoWrite left) = ⊥
-HarmlessAt (PlanAt.EchoRead left) = ⊥
-HarmlessAt PlanAt.Done = Unit {0}
-HarmlessAt (PlanAt.Refused r) = Unit {0}
+  abbrev pub HarmlessSlots : List Slot → Type 0
+  HarmlessSlots [] = Unit {0}
+  HarmlessSlots (s ∷ ss) = HarmlessItem (s .item) × HarmlessSlots ss
 
-pub record Harmless (p : Plan) : Type 0 where
-  pub items : HarmlessSlots (p .items)
-  pub at : HarmlessAt (p .at)
+  abbrev pub HarmlessAt : PlanAt → Type 0
+  HarmlessAt (PlanAt.Read c) = HarmlessChange c
+  HarmlessAt (PlanAt.Write a w) = HarmlessWrite a w
+  HarmlessAt (PlanAt.Poll p more) = HarmlessPoll p
+  HarmlessAt (PlanAt.Wait p more) = HarmlessPoll p
+  HarmlessAt (PlanAt.EchoWrite left) = ⊥
+  HarmlessAt (PlanAt.EchoRead left) = ⊥
+  HarmlessAt PlanAt.Done = Unit {0}
+  HarmlessAt (PlanAt.Refused r) = Unit {0}
 
--- ---- the items that are left
+  pub record Harmless (p : Plan) : Type 0 where
+    pub items : HarmlessSlots (p .items)
+    pub at : HarmlessAt (p .at)
 
-slots-drop : (i : ℕ) (ss : List Slot) → HarmlessSlots ss → HarmlessSlots (drop i ss)
-slots-drop zero ss h = h
-slots-drop (suc i) [] h = tt
-slots-drop (suc i) (s ∷ ss) h = slots-drop i ss (h .1)
+  -- ---- the items that are left
 
-begun-harmless : (x : Item) → HarmlessItem x → HarmlessAt (begun x)
-begun-harmless (Item.Change c) h = h
-begun-harmless (Item.Poll p more) h = h
-begun-harmless Item.Echo h = absurd h
-begun-harmless Item.Nothing h = tt
+  slots-drop : (i : ℕ) (ss : List Slot) → HarmlessSlots ss → HarmlessSlots (drop i ss)
+  slots-drop zero ss h = h
+  slots-drop (suc i) [] h = tt
+  slots-drop (suc i) (s ∷ ss) h = slots-drop i ss (h .1)
 
-standing-harmless : (failed : Refusal) (items : List Slot) (i : ℕ) (ss : List Slot) → HarmlessSlots items → HarmlessSlots ss → Harmless (standing failed items i ss)
-standing-harmless failed items i [] h l = record { items = h; at = tt }
-standing-harmless failed items i (s ∷ ss) h l = record { items = h; at = begun-harmless (s .item) (l .0) }
+  begun-harmless : (x : Item) → HarmlessItem x → HarmlessAt (begun x)
+  begun-harmless (Item.Change c) h = h
+  begun-harmless (Item.Poll p more) h = h
+  begun-harmless Item.Echo h = absurd h
+  begun-harmless Item.Nothing h = tt
 
-pub arrived-harmless : (failed : Refusal) (items : List Slot) (from : ℕ) → HarmlessSlots items → Harmless (arrivedAt failed items from)
-unfolding arrivedAt
-arrived-harmless failed items from h =
-    let i = placeFrom from (drop from items) in
-    standing-harmless failed items i (drop i items) h (slots-drop i items h)
+  standing-harmless : (failed : Refusal) (items : List Slot) (i : ℕ) (ss : List Slot) → HarmlessSlots items → HarmlessSlots ss → Harmless (standing failed items i ss)
+  standing-harmless failed items i [] h l = record { items = h; at = tt }
+  standing-harmless failed items i (s ∷ ss) h l = record { items = h; at = begun-harmless (s .item) (l .0) }
 
--- ---- starts
+  pub arrived-harmless : (failed : Refusal) (items : List Slot) (from : ℕ) → HarmlessSlots items → Harmless (arrivedAt failed items from)
+  unfolding arrivedAt
+  arrived-harmless failed items from h =
+      let i = placeFrom from (drop from items) in
+      standing-harmless failed items i (drop i items) h (slots-drop i items h)
 
-abbrev pub HarmlessItems : List Item → Type 0
-HarmlessItems [] = Unit {0}
-HarmlessItems (x ∷ xs) = HarmlessItem x × HarmlessItems xs
+  -- ---- starts
 
-nothing-harmless : (n : ℕ) → HarmlessSlots (replicate n (record { item = Item.Nothing }))
-nothing-harmless zero = tt
-nothing-harmless (suc n) = (tt, nothing-harmless n)
+  abbrev pub HarmlessItems : List Item → Type 0
+  HarmlessItems [] = Unit {0}
+  HarmlessItems (x ∷ xs) = HarmlessItem x × HarmlessItems xs
 
-slots-harmless : (n : ℕ) (xs : List Item) → HarmlessItems xs → HarmlessSlots (slots xs ++ replicate n (record { item = Item.Nothing }))
-slots-harmless n [] h = nothing-harmless n
-slots-harmless n (x ∷ xs) h = (h .0, slots-harmless n xs (h .1))
+  nothing-harmless : (n : ℕ) → HarmlessSlots (replicate n (record { item = Item.Nothing }))
+  nothing-harmless zero = tt
+  nothing-harmless (suc n) = (tt, nothing-harmless n)
 
-pub plan-harmless : (failed : Refusal) (xs : List Item) → HarmlessItems xs → Harmless (planOf failed xs)
-plan-harmless failed xs h = arrived-harmless failed (filled xs) 0 (slots-harmless (15 - length xs) xs h)
+  slots-harmless : (n : ℕ) (xs : List Item) → HarmlessItems xs → HarmlessSlots (slots xs ++ replicate n (record { item = Item.Nothing }))
+  slots-harmless n [] h = nothing-harmless n
+  slots-harmless n (x ∷ xs) h = (h .0, slots-harmless n xs (h .1))
 
-pub refused-harmless : (r : Refusal) → Harmless (refusedPlan r)
-refused-harmless r = record { items = nothing-harmless 15; at = tt }
+  pub plan-harmless : (failed : Refusal) (xs : List Item) → HarmlessItems xs → Harmless (planOf failed xs)
+  plan-harmless failed xs h = arrived-harmless failed (filled xs) 0 (slots-harmless (15 - length xs) xs h)
 
--- ---- steps
+  pub refused-harmless : (r : Refusal) → Harmless (refusedPlan r)
+  refused-harmless r = record { items = nothing-harmless 15; at = tt }
 
--- bytes of a word that is gentle, as far as four bytes go
-pub record Fairly (rx : List ℕ) : Type 0 where
-  pub word : ℕ
-  pub bytes : rx ≡ leBytes word
-  pub gentle : Gentle (word % 2 ^ 32)
+  -- ---- steps
 
-abbrev pub FairAnswer : Answer → List ℕ → Type 0
-FairAnswer Answer.Exchanged rx = Fairly rx
-FairAnswer Answer.Failed rx = Unit {0}
-FairAnswer Answer.Waited rx = Unit {0}
+  -- bytes of a word that may be written back, as far as four bytes go
+  pub record Fairly (n : ℕ) (rx : List ℕ) : Type 0 where
+    pub word : ℕ
+    pub bytes : rx ≡ leBytes word
+    pub careful : Careful n (word % 2 ^ 32)
 
--- where a FIFO's control is read to be changed, a gentle word comes back
-abbrev pub FairAt : PlanAt → Answer → List ℕ → Type 0
-FairAt (PlanAt.Read c) a rx = (n : ℕ) → isFifo n ≡ true → c .address ≡ CiFIFOCON .address n → FairAnswer a rx
-FairAt (PlanAt.Write address w) a rx = Unit {0}
-FairAt (PlanAt.Poll p more) a rx = Unit {0}
-FairAt (PlanAt.Wait p more) a rx = Unit {0}
-FairAt (PlanAt.EchoWrite left) a rx = Unit {0}
-FairAt (PlanAt.EchoRead left) a rx = Unit {0}
-FairAt PlanAt.Done a rx = Unit {0}
-FairAt (PlanAt.Refused r) a rx = Unit {0}
+  abbrev pub FairAnswer : ℕ → Answer → List ℕ → Type 0
+  FairAnswer n Answer.Exchanged rx = Fairly n rx
+  FairAnswer n Answer.Failed rx = Unit {0}
+  FairAnswer n Answer.Waited rx = Unit {0}
 
-abbrev pub Fair : Plan → Answer → List ℕ → Type 0
-Fair p a rx = FairAt (p .at) a rx
+  -- where a FIFO's control is read to be changed, such a word comes back
+  abbrev pub FairAt : PlanAt → Answer → List ℕ → Type 0
+  FairAt (PlanAt.Read c) a rx = (n : ℕ) → isFifo n ≡ true → c .address ≡ CiFIFOCON .address n → FairAnswer n a rx
+  FairAt (PlanAt.Write address w) a rx = Unit {0}
+  FairAt (PlanAt.Poll p more) a rx = Unit {0}
+  FairAt (PlanAt.Wait p more) a rx = Unit {0}
+  FairAt (PlanAt.EchoWrite left) a rx = Unit {0}
+  FairAt (PlanAt.EchoRead left) a rx = Unit {0}
+  FairAt PlanAt.Done a rx = Unit {0}
+  FairAt (PlanAt.Refused r) a rx = Unit {0}
 
-gentle-bytes : (rx : List ℕ) → Fairly rx → Gentle (leAt rx 0)
-gentle-bytes rx h =
-    let e : leAt rx 0 ≡ h .word % 2 ^ 32 = ap (λ (s : List ℕ). leAt s 0) (h .bytes) ∙ le-said (h .word) in
-    rw e (h .gentle)
+  abbrev pub Fair : Plan → Answer → List ℕ → Type 0
+  Fair p a rx = FairAt (p .at) a rx
 
--- where an answer leads to
-abbrev HarmlessMove : Move → Type 0
-HarmlessMove (Move.To at) = HarmlessAt at
-HarmlessMove Move.Next = Unit {0}
+  careful-bytes : (n : ℕ) (rx : List ℕ) → Fairly n rx → Careful n (leAt rx 0)
+  careful-bytes n rx h =
+      let e : leAt rx 0 ≡ h .word % 2 ^ 32 = ap (λ (s : List ℕ). leAt s 0) (h .bytes) ∙ le-said (h .word) in
+      subst (Careful n) (sym e) (h .careful)
 
-by-word : (x : OneWord) (k : ℕ → Move) → ((w : ℕ) → HarmlessMove (k w)) → HarmlessMove (onWord stopped x k)
-by-word (OneWord.Word w) k h = h w
-by-word (OneWord.Bad r) k h = tt
+  -- where an answer leads to
+  abbrev HarmlessMove : Move → Type 0
+  HarmlessMove (Move.To at) = HarmlessAt at
+  HarmlessMove Move.Next = Unit {0}
 
-by-done : (x : Done) (m : Move) → HarmlessMove m → HarmlessMove (onDone stopped x m)
-by-done Done.Good m h = h
-by-done (Done.Bad r) m h = tt
+  by-word : (x : OneWord) (k : ℕ → Move) → ((w : ℕ) → HarmlessMove (k w)) → HarmlessMove (onWord stopped x k)
+  by-word (OneWord.Word w) k h = h w
+  by-word (OneWord.Bad r) k h = tt
 
-module _ (failed : Refusal) (c : Change) where
-  abbrev changed : ℕ → Move
-  changed w = Move.To (PlanAt.Write (c .address) (modified c w))
+  by-done : (x : Done) (m : Move) → HarmlessMove m → HarmlessMove (onDone stopped x m)
+  by-done Done.Good m h = h
+  by-done (Done.Bad r) m h = tt
 
-  change-harmless : (a : Answer) (rx : List ℕ) → HarmlessChange c → FairAt (PlanAt.Read c) a rx → HarmlessMove (onWord stopped (wordReply failed a rx) changed)
-  change-harmless a rx (aside x) f = by-word (wordReply failed a rx) changed (λ w. aside x)
-  change-harmless Answer.Exchanged rx (control n i e h) f =
-      by-if (λ (x : OneWord). HarmlessMove (onWord stopped x changed)) (eqb (length rx) 4)
-      (λ l. control n i e (h (leAt rx 0) (gentle-bytes rx (f n i e)))) (λ l. tt)
-  change-harmless Answer.Failed rx (control n i e h) f = tt
-  change-harmless Answer.Waited rx (control n i e h) f = tt
+  module _ (failed : Refusal) (c : Change) where
+    abbrev changed : ℕ → Move
+    changed w = Move.To (PlanAt.Write (c .address) (modified c w))
 
-poll-harmless : (p : Poll) (more w : ℕ) → HarmlessPoll p → HarmlessMove (afterPoll p more w)
-unfolding afterPoll
-poll-harmless p more w h = by-if HarmlessMove (shown p w) (λ e. tt) (λ e. by-if HarmlessMove (eqb more 0) (λ z. tt) (λ z. h))
+    change-harmless : (a : Answer) (rx : List ℕ) → HarmlessChange c → FairAt (PlanAt.Read c) a rx → HarmlessMove (onWord stopped (wordReply failed a rx) changed)
+    change-harmless a rx (aside x) f = by-word (wordReply failed a rx) changed (λ w. aside x)
+    change-harmless Answer.Exchanged rx (control n i e h) f =
+        by-if (λ (x : OneWord). HarmlessMove (onWord stopped x changed)) (eqb (length rx) 4)
+        (λ l. control n i e (h (leAt rx 0) (careful-bytes n rx (f n i e)))) (λ l. tt)
+    change-harmless Answer.Failed rx (control n i e h) f = tt
+    change-harmless Answer.Waited rx (control n i e h) f = tt
 
-next-harmless : (failed : Refusal) (at : PlanAt) (a : Answer) (rx : List ℕ) → HarmlessAt at → FairAt at a rx → HarmlessMove (nextAt failed at a rx)
-next-harmless failed (PlanAt.Read c) a rx h f = change-harmless failed c a rx h f
-next-harmless failed (PlanAt.Write address w) a rx h f = by-done (doneReply failed a (length rx) 0) Move.Next tt
-next-harmless failed (PlanAt.Poll p more) a rx h f = by-word (wordReply failed a rx) (afterPoll p more) (λ w. poll-harmless p more w h)
-next-harmless failed (PlanAt.Wait p more) a rx h f = by-done (waitReply a) (Move.To (PlanAt.Poll p more)) h
-next-harmless failed (PlanAt.EchoWrite left) a rx h f = absurd h
-next-harmless failed (PlanAt.EchoRead left) a rx h f = absurd h
-next-harmless failed PlanAt.Done a rx h f = tt
-next-harmless failed (PlanAt.Refused r) a rx h f = tt
+  poll-harmless : (p : Poll) (more w : ℕ) → HarmlessPoll p → HarmlessMove (afterPoll p more w)
+  unfolding afterPoll
+  poll-harmless p more w h = by-if HarmlessMove (shown p w) (λ e. tt) (λ e. by-if HarmlessMove (eqb more 0) (λ z. tt) (λ z. h))
 
-moved-harmless : (p : Plan) (m : Move) → HarmlessSlots (p .items) → HarmlessMove m → Harmless (movedTo p m)
-moved-harmless p (Move.To at) h l = record { items = h; at = l }
-moved-harmless p Move.Next h l = arrived-harmless (p .failed) (p .items) (p .next) h
+  next-harmless : (failed : Refusal) (at : PlanAt) (a : Answer) (rx : List ℕ) → HarmlessAt at → FairAt at a rx → HarmlessMove (nextAt failed at a rx)
+  next-harmless failed (PlanAt.Read c) a rx h f = change-harmless failed c a rx h f
+  next-harmless failed (PlanAt.Write address w) a rx h f = by-done (doneReply failed a (length rx) 0) Move.Next tt
+  next-harmless failed (PlanAt.Poll p more) a rx h f = by-word (wordReply failed a rx) (afterPoll p more) (λ w. poll-harmless p more w h)
+  next-harmless failed (PlanAt.Wait p more) a rx h f = by-done (waitReply a) (Move.To (PlanAt.Poll p more)) h
+  next-harmless failed (PlanAt.EchoWrite left) a rx h f = absurd h
+  next-harmless failed (PlanAt.EchoRead left) a rx h f = absurd h
+  next-harmless failed PlanAt.Done a rx h f = tt
+  next-harmless failed (PlanAt.Refused r) a rx h f = tt
 
-pub step-harmless : (p : Plan) (a : Answer) (rx : List ℕ) → Harmless p → Fair p a rx → Harmless (stepOf p a rx)
-unfolding stepOf
-step-harmless p a rx h f = moved-harmless p (nextAt (p .failed) (p .at) a rx) (h .items) (next-harmless (p .failed) (p .at) a rx (h .at) f)
+  moved-harmless : (p : Plan) (m : Move) → HarmlessSlots (p .items) → HarmlessMove m → Harmless (movedTo p m)
+  moved-harmless p (Move.To at) h l = record { items = h; at = l }
+  moved-harmless p Move.Next h l = arrived-harmless (p .failed) (p .items) (p .next) h
+
+  pub step-harmless : (p : Plan) (a : Answer) (rx : List ℕ) → Harmless p → Fair p a rx → Harmless (stepOf p a rx)
+  unfolding stepOf
+  step-harmless p a rx h f = moved-harmless p (nextAt (p .failed) (p .at) a rx) (h .items) (next-harmless (p .failed) (p .at) a rx (h .at) f)

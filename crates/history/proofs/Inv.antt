@@ -5,7 +5,8 @@ use mathlib.Core.Path.{_≡_, refl}
 use mathlib.Core.Bool.{Bool, true, false}
 use mathlib.Core.List.{List, [], _∷_, _++_}
 use lib.ListN.{length}
-use Rattle.fifo.specs.Control.{isFifo}
+use Rattle.field.specs.Field.{read}
+use Rattle.fifo.specs.Control.{TXREQ, isFifo}
 use Rattle.spi.specs.declared.refusal.Refusal.{Refusal}
 use Rattle.header.specs.declared.Header.{Header}
 use Rattle.message.specs.Message.{Message, Encoding, encoding}
@@ -26,7 +27,7 @@ use Rattle.history.specs.Command.{Command, Push, Transmit, Request, HasN
 use Rattle.history.specs.History.{Said, called, Doing, idle, busy, World, isOver}
 use Rattle.history.specs.Lists.{doneWith, foundIn, acceptedIn, handedOutIn}
 use Rattle.history.specs.Demand.{Each, TellsWell}
-use Rattle.history.proofs.Sound.{Sound}
+use Rattle.history.proofs.Sound.{Sound, Asked}
 use Rattle.history.proofs.Bus.{Listed, Moves, lists-snoc, Later, only-none, quiet}
 use Rattle.history.proofs.Harmless.{Harmless}
 use Rattle.history.proofs.Requests.{Requests}
@@ -44,44 +45,70 @@ Lent Want.HasNext buf = Unit {0}
 Lent Want.Peek buf = 64 ≤ length buf
 Lent Want.Get buf = 64 ≤ length buf
 
--- the call k, at which the driver stands at s
-pub data Mid (c : Model) (k : Command) (s : Call) : Type 0 where
+-- the control word that a push or a get has read and will write: if x, with TXREQ at 1
+abbrev pub PushAsked : Type 0 → PushAt → Type 0
+PushAsked x PushAt.Control = Unit {0}
+PushAsked x (PushAt.Status w) = x → read TXREQ w ≡ 1
+PushAsked x (PushAt.Address w) = x → read TXREQ w ≡ 1
+PushAsked x (PushAt.Write w a) = x → read TXREQ w ≡ 1
+PushAsked x (PushAt.Commit w) = x → read TXREQ w ≡ 1
+PushAsked x PushAt.Done = Unit {0}
+PushAsked x (PushAt.Refused r) = Unit {0}
+
+abbrev pub FetchAsked : Type 0 → FetchAt → Type 0
+FetchAsked x FetchAt.Control = Unit {0}
+FetchAsked x FetchAt.Status = Unit {0}
+FetchAsked x FetchAt.Address = Unit {0}
+FetchAsked x (FetchAt.Header a) = Unit {0}
+FetchAsked x (FetchAt.Again a f) = Unit {0}
+FetchAsked x (FetchAt.Time a f) = Unit {0}
+FetchAsked x (FetchAt.Body a f) = Unit {0}
+FetchAsked x (FetchAt.Next f) = Unit {0}
+FetchAsked x (FetchAt.Commit w f) = x → read TXREQ w ≡ 1
+FetchAsked x (FetchAt.Done f) = Unit {0}
+FetchAsked x FetchAt.Empty = Unit {0}
+FetchAsked x (FetchAt.Told next) = Unit {0}
+FetchAsked x (FetchAt.Refused r) = Unit {0}
+
+-- the call k, at which the driver stands at s; X says of which FIFOs TXREQ stays 1
+pub data Mid (X : ℕ → Type 0) (c : Model) (k : Command) (s : Call) : Type 0 where
   pushes :
       (also : Bool) (n : ℕ) (header : Header) (seq : ℕ) (payload bs : List ℕ) (at : PushAt) (p : Plan) (f : Fetch)
       → isFifo n ≡ true → encoding (toSend header seq payload) ≡ Encoding.object bs → (also ≡ true → p ≡ requestStart n)
-      → PushMid c n (toSend header seq payload) bs at
-      → k ≡ commanded also n header seq payload → s ≡ pushing also n (length payload) bs at p f → Mid c k s
+      → PushMid c n (toSend header seq payload) bs at → PushAsked (X n) at
+      → k ≡ commanded also n header seq payload → s ≡ pushing also n (length payload) bs at p f → Mid X c k s
   fetches :
       (want : Want) (n : ℕ) (buf held : List ℕ) (at : FetchAt) (p : Plan) (u : Pushes)
-      → isFifo n ≡ true → Lent want buf → length held ≡ 64 → FetchMid c want n held at
-      → k ≡ fetched want n buf → s ≡ fetching want n held at p u → Mid c k s
+      → isFifo n ≡ true → Lent want buf → length held ≡ 64 → FetchMid c want n held at → FetchAsked (X n) at
+      → k ≡ fetched want n buf → s ≡ fetching want n held at p u → Mid X c k s
   requests :
-      (also : Bool) (n : ℕ) (p : Plan) (u : Pushes) (f : Fetch) → Ready u f also → Requests n p → Harmless p
-      → isOver (plan.outcomeOf p) ≡ false → k ≡ Request n → s ≡ planned also p u f → Mid c k s
-  configures : (x : Setting) (p : Plan) (u : Pushes) (f : Fetch) → Harmless p → k ≡ Configuring x → s ≡ planned false p u f → Mid c k s
-  looks : (x : Look) → LooksAt (s .at) → k ≡ Reading x → Mid c k s
+      (also : Bool) (n : ℕ) (p : Plan) (u : Pushes) (f : Fetch) → Ready u f also → Requests n p → Harmless X p
+      → isOver (plan.outcomeOf p) ≡ false → k ≡ Request n → s ≡ planned also p u f → Mid X c k s
+  configures : (x : Setting) (p : Plan) (u : Pushes) (f : Fetch) → Harmless X p → k ≡ Configuring x → s ≡ planned false p u f → Mid X c k s
+  looks : (x : Look) → LooksAt (s .at) → k ≡ Reading x → Mid X c k s
 
-abbrev pub Doings : Model → Doing → Type 0
-Doings c idle = Unit {0}
-Doings c (busy k s) = Mid c k s
+abbrev pub Doings : (ℕ → Type 0) → Model → Doing → Type 0
+Doings X c idle = Unit {0}
+Doings X c (busy k s) = Mid X c k s
 
-pub doings-later : (c d : Model) → Later c d → (g : Doing) → Doings c g → Doings d g
-doings-later c d l idle i = tt
-doings-later c d l (busy k s) (pushes also n header seq payload bs at p f i e r g ek es) =
-    pushes also n header seq payload bs at p f i e r (push-later c d l n i _ bs at g) ek es
-doings-later c d l (busy k s) (fetches want n buf held at p u i b h g ek es) =
-    fetches want n buf held at p u i b h (fetch-later c d l n i want held at g) ek es
-doings-later c d l (busy k s) (requests also n p u f a r h b ek es) = requests also n p u f a r h b ek es
-doings-later c d l (busy k s) (configures x p u f h ek es) = configures x p u f h ek es
-doings-later c d l (busy k s) (looks x h ek) = looks x h ek
+pub doings-later : (X : ℕ → Type 0) (c d : Model) → Later c d → (g : Doing) → Doings X c g → Doings X d g
+doings-later X c d l idle i = tt
+doings-later X c d l (busy k s) (pushes also n header seq payload bs at p f i e r g a ek es) =
+    pushes also n header seq payload bs at p f i e r (push-later c d l n i _ bs at g) a ek es
+doings-later X c d l (busy k s) (fetches want n buf held at p u i b h g a ek es) =
+    fetches want n buf held at p u i b h (fetch-later c d l n i want held at g) a ek es
+doings-later X c d l (busy k s) (requests also n p u f a r h b ek es) = requests also n p u f a r h b ek es
+doings-later X c d l (busy k s) (configures x p u f h ek es) = configures x p u f h ek es
+doings-later X c d l (busy k s) (looks x h ek) = looks x h ek
 
 -- ---- the invariant
 
-pub record Inv (v : World) : Type 0 where
+pub record Inv (X : ℕ → Type 0) (v : World) : Type 0 where
   pub sound : Sound (v .chip)
+  pub asked : Asked X (v .chip)
   pub lists : Listed (v .chip) (v .said)
   pub tells : Each TellsWell (v .said)
-  pub doing : Doings (v .chip) (v .doing)
+  pub doing : Doings X (v .chip) (v .doing)
 
 pub each-snoc : (P : Said → Type 0) (t : List Said) (x : Said) → Each P t → P x → Each P (t ++ (x ∷ []))
 each-snoc P [] x e p = (p, tt)
@@ -116,13 +143,13 @@ quiet-refusal c k r buf =
 
 -- ---- worlds that keep it
 
-module _ (c : Model) (t : List Said) (l : Listed c t) (e : Each TellsWell t) where
+module _ (X : ℕ → Type 0) (c : Model) (t : List Said) (l : Listed c t) (e : Each TellsWell t) where
   -- a call goes on: the chip changed in nothing that is held
-  pub goes-on : (d : Model) (k : Command) (s : Call) → Sound d → ((j : ℕ) → held d j ≡ held c j) → Mid d k s
-      → Inv (record { chip = d; doing = busy k s; said = t })
-  goes-on d k s o h m = record { sound = o; lists = λ j i. rw (h j) (l j i); tells = e; doing = m }
+  pub goes-on : (d : Model) (k : Command) (s : Call) → Sound d → Asked X d → ((j : ℕ) → held d j ≡ held c j) → Mid X d k s
+      → Inv X (record { chip = d; doing = busy k s; said = t })
+  goes-on d k s o q h m = record { sound = o; asked = q; lists = λ j i. rw (h j) (l j i); tells = e; doing = m }
 
   -- something is said
-  pub says-more : (d : Model) (g : Doing) (x : Said) → Sound d → Moves c x d → TellsWell x → Doings d g
-      → Inv (record { chip = d; doing = g; said = t ++ (x ∷ []) })
-  says-more d g x o m w i = record { sound = o; lists = lists-snoc c d t x l m; tells = each-snoc TellsWell t x e w; doing = i }
+  pub says-more : (d : Model) (g : Doing) (x : Said) → Sound d → Asked X d → Moves c x d → TellsWell x → Doings X d g
+      → Inv X (record { chip = d; doing = g; said = t ++ (x ∷ []) })
+  says-more d g x o q m w i = record { sound = o; asked = q; lists = lists-snoc c d t x l m; tells = each-snoc TellsWell t x e w; doing = i }

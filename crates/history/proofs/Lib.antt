@@ -1,5 +1,7 @@
 pub mod Sound
+pub mod Few
 pub mod Bytes
+pub mod Received
 pub mod Slots
 pub mod Bus
 pub mod Foot
@@ -23,9 +25,12 @@ pub mod FetchSteps
 pub mod PlanSteps
 pub mod Calm
 pub mod PushExactly
+pub mod Transmits
 pub mod FetchExactly
 pub mod GotIff
 pub mod PeekKeeps
 pub mod PushFails
 pub mod Theorem
+pub mod GoesOut
 pub mod Example
+pub mod Demand3

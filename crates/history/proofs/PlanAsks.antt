@@ -24,12 +24,12 @@ use Rattle.plan.specs.declared.plan.Plan.{Plan}
 use Rattle.plan.specs.Item.{addressOf}
 use Rattle.plan.specs.Step.{askAt, askOf}
 use Rattle.history.specs.History.{Heard}
-use Rattle.history.proofs.Harmless.{Setup, Aside, aside, control as controls, HarmlessWrite, HarmlessAt, Harmless, FairAnswer, FairAt, Fair}
-use Rattle.history.proofs.Sound.{Sound}
+use Rattle.history.proofs.Harmless.{Setup, Aside, aside, control as controls, Careful, HarmlessWrite, HarmlessAt, Harmless, FairAnswer, FairAt, Fair}
+use Rattle.history.proofs.Sound.{Sound, Asked}
 use Rattle.history.proofs.Line.{spoken}
 use Rattle.history.proofs.Kept.{heard-chip}
 use Rattle.history.proofs.Asks.{does, hear-control, tell-control, hear-keeps}
-use Rattle.history.proofs.Replies.{Gentle, control-gentle}
+use Rattle.history.proofs.Replies.{control-gentle, control-asked}
 
 -- where nothing is asked nothing is sent
 module _ (b : List ℕ) (c : Model) where
@@ -43,25 +43,25 @@ module _ (b : List ℕ) (c : Model) where
 
 -- ---- what a plan does to the chip
 
-pub data Effect (c d : Model) : Type 0 where
-  none : d ≡ c → Effect c d
-  setup : (s : Held) → d ≡ withSetup c s → Effect c d
-  commands : (n w : ℕ) → isFifo n ≡ true → Gentle w → d ≡ controlWritten c n w → Effect c d
+pub data Effect (X : ℕ → Type 0) (c d : Model) : Type 0 where
+  none : d ≡ c → Effect X c d
+  setup : (s : Held) → d ≡ withSetup c s → Effect X c d
+  commands : (n w : ℕ) → isFifo n ≡ true → Careful X n w → d ≡ controlWritten c n w → Effect X c d
 
-set-effect : (c : Model) (r : Register) (w : ℕ) → Setup r → (d : Model) → d ≡ registerWritten c r w .model → Effect c d
+set-effect : (X : ℕ → Type 0) (c : Model) (r : Register) (w : ℕ) → Setup r → (d : Model) → d ≡ registerWritten c r w .model → Effect X c d
 unfolding registerWritten
-set-effect c Register.Con w s d e = absurd s
-set-effect c Register.Osc w s d e = setup _ e
-set-effect c (Register.Plain k) w s d e = setup _ e
-set-effect c (Register.Filter k) w s d e = setup _ e
-set-effect c (Register.Object k) w s d e = setup _ e
-set-effect c (Register.Mask k) w s d e = setup _ e
-set-effect c (Register.Control n) w s d e = absurd s
-set-effect c (Register.Status n) w s d e = absurd s
-set-effect c (Register.Address n) w s d e = absurd s
+set-effect X c Register.Con w s d e = absurd s
+set-effect X c Register.Osc w s d e = setup _ e
+set-effect X c (Register.Plain k) w s d e = setup _ e
+set-effect X c (Register.Filter k) w s d e = setup _ e
+set-effect X c (Register.Object k) w s d e = setup _ e
+set-effect X c (Register.Mask k) w s d e = setup _ e
+set-effect X c (Register.Control n) w s d e = absurd s
+set-effect X c (Register.Status n) w s d e = absurd s
+set-effect X c (Register.Address n) w s d e = absurd s
 
-module _ (b : List ℕ) (c : Model) where
-  aside-effect : (a w : ℕ) → Aside a → Effect c (spoken (Ask.Word a w) b c .chip)
+module _ (X : ℕ → Type 0) (b : List ℕ) (c : Model) where
+  aside-effect : (a w : ℕ) → Aside a → Effect X c (spoken (Ask.Word a w) b c .chip)
   unfolding performed sent writeAt commandOf beBytes leBytes
   aside-effect a w h =
       let s = sent (Ask.Word a w) b in
@@ -69,15 +69,15 @@ module _ (b : List ℕ) (c : Model) where
       let e : asked s 0 ≡ Operation.Write (h .register) v =
       rw (append-nil (headOf (Ask.Word a w)), asks-word a w (h .small)) (simp (h .outside, h .is)) in
       let x : Operation = Operation.Write (h .register) v in
-      set-effect c (h .register) v (h .setup) _
+      set-effect X c (h .register) v (h .setup) _
       (ap (λ (y : Heard). y .chip) (does (Ask.Word a w) b c x e) ∙ heard-chip (performed x s 0 c .reply) (performed x s 0 c .model))
 
-  write-effect : (a w : ℕ) → HarmlessWrite a w → Effect c (spoken (Ask.Word a w) b c .chip)
+  write-effect : (a w : ℕ) → HarmlessWrite X a w → Effect X c (spoken (Ask.Word a w) b c .chip)
   write-effect a w (aside h) = aside-effect a w h
   write-effect a w (controls n i e g) =
-      commands n w i g (ap (λ (x : ℕ). spoken (Ask.Word x w) b c .chip) e ∙ ap (λ (x : Heard). x .chip) (tell-control b c n i w (g .small)))
+      commands n w i g (ap (λ (x : ℕ). spoken (Ask.Word x w) b c .chip) e ∙ ap (λ (x : Heard). x .chip) (tell-control b c n i w (g .0 .small)))
 
-  at-effect : (at : PlanAt) → HarmlessAt at → Effect c (spoken (askAt at) b c .chip)
+  at-effect : (at : PlanAt) → HarmlessAt X at → Effect X c (spoken (askAt at) b c .chip)
   at-effect (PlanAt.Read x) h = none (hear-keeps b c (x .address) 4)
   at-effect (PlanAt.Write a w) h = write-effect a w h
   at-effect (PlanAt.Poll p more) h = none (hear-keeps b c (addressOf p) 4)
@@ -87,17 +87,17 @@ module _ (b : List ℕ) (c : Model) where
   at-effect PlanAt.Done h = none (nothing-keeps b c)
   at-effect (PlanAt.Refused r) h = none (nothing-keeps b c)
 
-  pub plan-effect : (p : Plan) → Harmless p → Effect c (spoken (askOf p) b c .chip)
+  pub plan-effect : (p : Plan) → Harmless X p → Effect X c (spoken (askOf p) b c .chip)
   plan-effect p h = at-effect (p .at) (h .at)
 
 -- ---- what a plan hears is fair
 
-module _ (b : List ℕ) (c : Model) (s : Sound c) where
-  at-fair : (at : PlanAt) → FairAt at (spoken (askAt at) b c .answer) (spoken (askAt at) b c .rx)
+module _ (X : ℕ → Type 0) (b : List ℕ) (c : Model) (s : Sound c) (q : Asked X c) where
+  at-fair : (at : PlanAt) → FairAt X at (spoken (askAt at) b c .answer) (spoken (askAt at) b c .rx)
   at-fair (PlanAt.Read x) = λ n i e.
-      subst (λ (h : Heard). FairAnswer (h .answer) (h .rx))
+      subst (λ (h : Heard). FairAnswer X n (h .answer) (h .rx))
       (sym (ap (λ (a : ℕ). spoken (Ask.Read a 4) b c) e ∙ hear-control b c n i))
-      (record { word = wordOf c (Register.Control n); bytes = refl; gentle = control-gentle c n s })
+      (record { word = wordOf c (Register.Control n); bytes = refl; careful = (control-gentle c n s, λ x. control-asked c n ∙ q n x) })
   at-fair (PlanAt.Write a w) = tt
   at-fair (PlanAt.Poll p more) = tt
   at-fair (PlanAt.Wait p more) = tt
@@ -106,22 +106,22 @@ module _ (b : List ℕ) (c : Model) (s : Sound c) where
   at-fair PlanAt.Done = tt
   at-fair (PlanAt.Refused r) = tt
 
-  pub plan-fair : (p : Plan) → Fair p (spoken (askOf p) b c .answer) (spoken (askOf p) b c .rx)
+  pub plan-fair : (p : Plan) → Fair X p (spoken (askOf p) b c .answer) (spoken (askOf p) b c .rx)
   plan-fair p = at-fair (p .at)
 
 -- so is whatever is no answer of the chip
-unanswered-fair : (at : PlanAt) (rx : List ℕ) → FairAt at Answer.Failed rx × FairAt at Answer.Waited rx
-unanswered-fair (PlanAt.Read x) rx = (λ n i e. tt, λ n i e. tt)
-unanswered-fair (PlanAt.Write a w) rx = (tt, tt)
-unanswered-fair (PlanAt.Poll p more) rx = (tt, tt)
-unanswered-fair (PlanAt.Wait p more) rx = (tt, tt)
-unanswered-fair (PlanAt.EchoWrite left) rx = (tt, tt)
-unanswered-fair (PlanAt.EchoRead left) rx = (tt, tt)
-unanswered-fair PlanAt.Done rx = (tt, tt)
-unanswered-fair (PlanAt.Refused r) rx = (tt, tt)
+unanswered-fair : (X : ℕ → Type 0) (at : PlanAt) (rx : List ℕ) → FairAt X at Answer.Failed rx × FairAt X at Answer.Waited rx
+unanswered-fair X (PlanAt.Read x) rx = (λ n i e. tt, λ n i e. tt)
+unanswered-fair X (PlanAt.Write a w) rx = (tt, tt)
+unanswered-fair X (PlanAt.Poll p more) rx = (tt, tt)
+unanswered-fair X (PlanAt.Wait p more) rx = (tt, tt)
+unanswered-fair X (PlanAt.EchoWrite left) rx = (tt, tt)
+unanswered-fair X (PlanAt.EchoRead left) rx = (tt, tt)
+unanswered-fair X PlanAt.Done rx = (tt, tt)
+unanswered-fair X (PlanAt.Refused r) rx = (tt, tt)
 
-pub failed-fair : (p : Plan) (rx : List ℕ) → Fair p Answer.Failed rx
-failed-fair p rx = unanswered-fair (p .at) rx .0
+pub failed-fair : (X : ℕ → Type 0) (p : Plan) (rx : List ℕ) → Fair X p Answer.Failed rx
+failed-fair X p rx = unanswered-fair X (p .at) rx .0
 
-pub waited-fair : (p : Plan) (rx : List ℕ) → Fair p Answer.Waited rx
-waited-fair p rx = unanswered-fair (p .at) rx .1
+pub waited-fair : (X : ℕ → Type 0) (p : Plan) (rx : List ℕ) → Fair X p Answer.Waited rx
+waited-fair X p rx = unanswered-fair X (p .at) rx .1

@@ -23,11 +23,11 @@ use Rattle.history.specs.Command.{Command, Request, Reading, Configuring
 use Rattle.history.specs.History.{Said, called, idle, Heard, heard, isOver, halfway, settled, goesOn}
 use Rattle.history.specs.Lists.{acceptedIn, handedOutIn}
 use Rattle.history.specs.Demand.{Each, TellsWell, Told}
-use Rattle.history.proofs.Sound.{Sound}
+use Rattle.history.proofs.Sound.{Sound, Asked}
 use Rattle.history.proofs.Bus.{Listed, quiet}
 use Rattle.history.proofs.Line.{heard-by}
 use Rattle.history.proofs.Kept.{spoken-sound}
-use Rattle.history.proofs.Slots.{setup-held, kept-held}
+use Rattle.history.proofs.Slots.{setup-held, next-asked, kept-held}
 use Rattle.history.proofs.Replies.{plain-written}
 use Rattle.history.proofs.Harmless.{Harmless, Fair, step-harmless}
 use Rattle.history.proofs.Plans.{set-harmless, request-harmless}
@@ -39,19 +39,28 @@ use Rattle.history.proofs.Inv.{Mid, requests, configures, looks, Inv, g
 
 -- ---- what a plan does changes nothing that is held
 
-pub effect-fixed : (c d : Model) → Sound c → Effect c d → d .fixed ≡ c .fixed
-effect-fixed c d s (none e) = ap (λ (x : Model). x .fixed) e
-effect-fixed c d s (setup x e) = ap (λ (x : Model). x .fixed) e
-effect-fixed c d s (commands n w i g e) =
-    let (v, is, vh, vc) = plain-written c n s w (g .uinc) (g .freset) in
-    ap (λ (x : Model). x .fixed) (e ∙ is)
+module _ (X : ℕ → Type 0) (c d : Model) (s : Sound c) where
+  effect-fixed : Effect X c d → d .fixed ≡ c .fixed
+  effect-fixed (none e) = ap (λ (x : Model). x .fixed) e
+  effect-fixed (setup x e) = ap (λ (x : Model). x .fixed) e
+  effect-fixed (commands n w i (g, a) e) =
+      let (v, is, vh, vc, va) = plain-written c n s w (g .uinc) (g .freset) in
+      ap (λ (x : Model). x .fixed) (e ∙ is)
 
-pub effect-held : (c d : Model) → Sound c → Effect c d → (j : ℕ) → held d j ≡ held c j
-effect-held c d s (none e) j = ap (λ (x : Model). held x j) e
-effect-held c d s (setup y e) j = ap (λ (x : Model). held x j) e ∙ setup-held c y j
-effect-held c d s (commands n w i g e) j =
-    let (v, is, vh, vc) = plain-written c n s w (g .uinc) (g .freset) in
-    ap (λ (x : Model). held x j) (e ∙ is) ∙ kept-held c s n i v vh vc j
+  effect-held : Effect X c d → (j : ℕ) → held d j ≡ held c j
+  effect-held (none e) j = ap (λ (x : Model). held x j) e
+  effect-held (setup y e) j = ap (λ (x : Model). held x j) e ∙ setup-held c y j
+  effect-held (commands n w i (g, a) e) j =
+      let (v, is, vh, vc, va) = plain-written c n s w (g .uinc) (g .freset) in
+      ap (λ (x : Model). held x j) (e ∙ is) ∙ kept-held c s n i v vh vc j
+
+  -- TXREQ that is to stay 1 does
+  effect-asked : Asked X c → Effect X c d → Asked X d
+  effect-asked q (none e) = subst (Asked X) (sym e) q
+  effect-asked q (setup y e) = subst (Asked X) (sym e) q
+  effect-asked q (commands n w i (g, a) e) =
+      let (v, is, vh, vc, va) = plain-written c n s w (g .uinc) (g .freset) in
+      subst (Asked X) (sym (e ∙ is)) (next-asked c s n i v X q (λ x. va ∙ a x))
 
 -- ---- calls that are one call and move no message
 
@@ -70,26 +79,26 @@ look-silent : (x : Look) → Silent (Reading x)
 look-silent x = record { whole = λ s. refl; takes = λ j o buf. refl; gives = λ j o buf. refl }
 
 -- a plan that no push came before
-alone : (u : Pushes) (f : Fetch) → Ready u f false
+pub alone : (u : Pushes) (f : Fetch) → Ready u f false
 alone u f e = absurd (false≢true e)
 
 -- what a plan hears: the chip is sound, and the plan stays harmless by it
-record Hears (c : Model) (p : Plan) (h : Heard) : Type 0 where
-  effect : Effect c (h .chip)
+record Hears (X : ℕ → Type 0) (c : Model) (p : Plan) (h : Heard) : Type 0 where
+  effect : Effect X c (h .chip)
   sound : Sound (h .chip)
-  fair : Fair p (h .answer) (h .rx)
+  fair : Fair X p (h .answer) (h .rx)
 
-module _ (c : Model) (o : Sound c) (t : List Said) (l : Listed c t) (e : Each TellsWell t) where
+module _ (X : ℕ → Type 0) (c : Model) (o : Sound c) (ok : Asked X c) (t : List Said) (l : Listed c t) (e : Each TellsWell t) where
   -- the driver stands at s: it goes on, or it is over
-  settles : (k : Command) → Silent k → (d : Model) → Sound d → ((j : ℕ) → held d j ≡ held c j) → (s : Call) (rx : List ℕ)
-      → (isOver (outcomeOf s) ≡ false → Mid d k s) → (isOver (outcomeOf s) ≡ true → Told (firstCall k) (outcomeOf s)) → Inv (settled d t k s rx)
+  settles : (k : Command) → Silent k → (d : Model) → Sound d → Asked X d → ((j : ℕ) → held d j ≡ held c j) → (s : Call) (rx : List ℕ)
+      → (isOver (outcomeOf s) ≡ false → Mid X d k s) → (isOver (outcomeOf s) ≡ true → Told (firstCall k) (outcomeOf s)) → Inv X (settled d t k s rx)
   unfolding settled
-  settles k q d sd h s rx m w =
+  settles k q d sd ad h s rx m w =
       let buf = filledBy s rx (lent k) in
       let said : Said = called (firstCall k) (outcomeOf s) buf in
-      by-if Inv (isOver (outcomeOf s))
-      (λ x. says-more c t l e d idle said sd (quiet c d said (λ j. q .takes j (outcomeOf s) buf) (λ j. q .gives j (outcomeOf s) buf) h) (w x) tt)
-      (λ x. rw (q .whole s) (goes-on c t l e d k s sd h (m x)))
+      by-if (Inv X) (isOver (outcomeOf s))
+      (λ x. says-more X c t l e d idle said sd ad (quiet c d said (λ j. q .takes j (outcomeOf s) buf) (λ j. q .gives j (outcomeOf s) buf) h) (w x) tt)
+      (λ x. rw (q .whole s) (goes-on X c t l e d k s sd ad h (m x)))
 
   -- ---- plans
 
@@ -97,35 +106,35 @@ module _ (c : Model) (o : Sound c) (t : List Said) (l : Listed c t) (e : Each Te
     abbrev at : Plan → Call
     at p = planned also p u f
 
-    hears-well : (b : Bool) (p : Plan) → Harmless p → Hears c p (heard b (at p) c)
+    hears-well : (b : Bool) (p : Plan) → Harmless X p → Hears X c p (heard b (at p) c)
     hears-well b p h =
-        heard-by (Hears c p) b (at p) (plan.askOf p) (asks u f also r p) c
-        (λ w. record { effect = none refl; sound = o; fair = waited-fair p [] })
+        heard-by (Hears X c p) b (at p) (plan.askOf p) (asks u f also r p) c
+        (λ w. record { effect = none refl; sound = o; fair = waited-fair X p [] })
         (let body = bodyOf (at p) [] in
-        let x = plan-effect body c p h in
-        record { effect = x; sound = spoken-sound (plan.askOf p) body c o _ refl (effect-fixed c _ o x); fair = plan-fair body c o p })
-        (record { effect = none refl; sound = o; fair = failed-fair p [] })
+        let x = plan-effect X body c p h in
+        record { effect = x; sound = spoken-sound (plan.askOf p) body c o _ refl (effect-fixed X c _ o x); fair = plan-fair X body c o ok p })
+        (record { effect = none refl; sound = o; fair = failed-fair X p [] })
 
-    stands : (k : Command) → Silent k → (d : Model) → Sound d → ((j : ℕ) → held d j ≡ held c j) → (p : Plan) (rx : List ℕ)
-        → (isOver (plan.outcomeOf p) ≡ false → Mid d k (at p)) → (isOver (plan.outcomeOf p) ≡ true → Told (firstCall k) (plan.outcomeOf p))
-        → Inv (settled d t k (at p) rx)
-    stands k q d sd h p rx =
-        subst (λ (x : Outcome). (isOver x ≡ false → Mid d k (at p)) → (isOver x ≡ true → Told (firstCall k) x) → Inv (settled d t k (at p) rx))
-        (outcomes u f also r p) (settles k q d sd h (at p) rx)
+    stands : (k : Command) → Silent k → (d : Model) → Sound d → Asked X d → ((j : ℕ) → held d j ≡ held c j) → (p : Plan) (rx : List ℕ)
+        → (isOver (plan.outcomeOf p) ≡ false → Mid X d k (at p)) → (isOver (plan.outcomeOf p) ≡ true → Told (firstCall k) (plan.outcomeOf p))
+        → Inv X (settled d t k (at p) rx)
+    stands k q d sd ad h p rx =
+        subst (λ (x : Outcome). (isOver x ≡ false → Mid X d k (at p)) → (isOver x ≡ true → Told (firstCall k) x) → Inv X (settled d t k (at p) rx))
+        (outcomes u f also r p) (settles k q d sd ad h (at p) rx)
 
     -- whatever is heard
-    plan-heard : (k : Command) → Silent k → (b : Bool) (p : Plan) → Harmless p
+    plan-heard : (k : Command) → Silent k → (b : Bool) (p : Plan) → Harmless X p
         → (let h = heard b (at p) c in let z = plan.stepOf p (h .answer) (h .rx) in
-        (Harmless z → isOver (plan.outcomeOf z) ≡ false → Mid (h .chip) k (at z))
+        (Harmless X z → isOver (plan.outcomeOf z) ≡ false → Mid X (h .chip) k (at z))
         → (isOver (plan.outcomeOf z) ≡ true → Told (firstCall k) (plan.outcomeOf z))
-        → Inv (goesOn t k (at p) h))
+        → Inv X (goesOn t k (at p) h))
     plan-heard k q b p x m w =
         let h = heard b (at p) c in
         let g = hears-well b p x in
         let z = plan.stepOf p (h .answer) (h .rx) in
-        let y : Harmless z = step-harmless p (h .answer) (h .rx) x (g .fair) in
-        subst (λ (s : Call). Inv (settled (h .chip) t k s (h .rx))) (sym (steps u f also r p (h .answer) (h .rx)))
-        (stands k q (h .chip) (g .sound) (effect-held c (h .chip) o (g .effect)) z (h .rx) (m y) w)
+        let y : Harmless X z = step-harmless X p (h .answer) (h .rx) x (g .fair) in
+        subst (λ (s : Call). Inv X (settled (h .chip) t k s (h .rx))) (sym (steps u f also r p (h .answer) (h .rx)))
+        (stands k q (h .chip) (g .sound) (effect-asked X c (h .chip) o ok (g .effect)) (effect-held X c (h .chip) o (g .effect)) z (h .rx) (m y) w)
 
     -- ---- a request
 
@@ -137,8 +146,8 @@ module _ (c : Model) (o : Sound c) (t : List Said) (l : Listed c t) (e : Each Te
         (request-answered n p (bodyOf (at p) []) c x y)
         (fails (request-failed n p [] x y))
 
-    pub request-heard : (b : Bool) (n : ℕ) (p : Plan) → Requests n p → Harmless p → isOver (plan.outcomeOf p) ≡ false
-        → Inv (goesOn t (Request n) (at p) (heard b (at p) c))
+    pub request-heard : (b : Bool) (n : ℕ) (p : Plan) → Requests n p → Harmless X p → isOver (plan.outcomeOf p) ≡ false
+        → Inv X (goesOn t (Request n) (at p) (heard b (at p) c))
     request-heard b n p x y z =
         let a = request-stays b n p x z in
         plan-heard (Request n) (request-silent n) b p y
@@ -146,36 +155,36 @@ module _ (c : Model) (o : Sound c) (t : List Said) (l : Listed c t) (e : Each Te
         (request-ordinary n _ a)
 
   -- a request that begins
-  pub request-starts-well : (n : ℕ) → Inv (settled c t (Request n) (started (Request n)) [])
+  pub request-starts-well : (n : ℕ) → Inv X (settled c t (Request n) (started (Request n)) [])
   unfolding ofPlan
   request-starts-well n =
       let r : Ready idlePush idleFetch false = alone idlePush idleFetch in
-      stands false idlePush idleFetch r (Request n) (request-silent n) c o (λ j. refl) (requestStart n) []
-      (λ x. requests false n (requestStart n) idlePush idleFetch r (request-starts n) (request-harmless n) x refl refl)
+      stands false idlePush idleFetch r (Request n) (request-silent n) c o ok (λ j. refl) (requestStart n) []
+      (λ x. requests false n (requestStart n) idlePush idleFetch r (request-starts n) (request-harmless X n) x refl refl)
       (request-ordinary n (requestStart n) (request-starts n))
 
   -- ---- a call that sets a part of the chip up
 
-  pub configure-heard : (b : Bool) (x : Setting) (p : Plan) (u : Pushes) (f : Fetch) → Harmless p
-      → (let s = planned false p u f in Inv (goesOn t (Configuring x) s (heard b s c)))
+  pub configure-heard : (b : Bool) (x : Setting) (p : Plan) (u : Pushes) (f : Fetch) → Harmless X p
+      → (let s = planned false p u f in Inv X (goesOn t (Configuring x) s (heard b s c)))
   configure-heard b x p u f h =
       plan-heard false u f (alone u f) (Configuring x) (set-silent x) b p h (λ y z. configures x _ u f y refl refl) (λ z. tt)
 
-  pub configure-starts-well : (x : Setting) → Inv (settled c t (Configuring x) (started (Configuring x)) [])
+  pub configure-starts-well : (x : Setting) → Inv X (settled c t (Configuring x) (started (Configuring x)) [])
   unfolding ofPlan
   configure-starts-well x =
-      stands false idlePush idleFetch (alone idlePush idleFetch) (Configuring x) (set-silent x) c o (λ j. refl) (planFor (sets x)) []
-      (λ z. configures x (planFor (sets x)) idlePush idleFetch (set-harmless x) refl refl) (λ z. tt)
+      stands false idlePush idleFetch (alone idlePush idleFetch) (Configuring x) (set-silent x) c o ok (λ j. refl) (planFor (sets x)) []
+      (λ z. configures x (planFor (sets x)) idlePush idleFetch (set-harmless X x) refl refl) (λ z. tt)
 
   -- ---- a call that only reads
 
-  pub look-heard : (b : Bool) (x : Look) (s : Call) → LooksAt (s .at) → Inv (goesOn t (Reading x) s (heard b s c))
+  pub look-heard : (b : Bool) (x : Look) (s : Call) → LooksAt (s .at) → Inv X (goesOn t (Reading x) s (heard b s c))
   look-heard b x s h =
       let z = heard b s c in
       let same : z .chip ≡ c = heard-by (λ (y : Heard). y .chip ≡ c) b s (askOf s) refl c (λ w. refl) (look-keeps s (bodyOf s []) c h) refl in
-      settles (Reading x) (look-silent x) (z .chip) (subst Sound (sym same) o) (λ j. ap (λ (y : Model). held y j) same) (stepOf s (z .answer) (z .rx)) (z .rx)
+      settles (Reading x) (look-silent x) (z .chip) (subst Sound (sym same) o) (subst (Asked X) (sym same) ok) (λ j. ap (λ (y : Model). held y j) same) (stepOf s (z .answer) (z .rx)) (z .rx)
       (λ y. looks x (look-steps s (z .answer) (z .rx) h) refl) (λ y. tt)
 
-  pub look-starts-well : (x : Look) → Inv (settled c t (Reading x) (started (Reading x)) [])
+  pub look-starts-well : (x : Look) → Inv X (settled c t (Reading x) (started (Reading x)) [])
   look-starts-well x =
-      settles (Reading x) (look-silent x) c o (λ j. refl) (started (Reading x)) [] (λ y. looks x (look-starts x) refl) (λ y. tt)
+      settles (Reading x) (look-silent x) c o ok (λ j. refl) (started (Reading x)) [] (λ y. looks x (look-starts x) refl) (λ y. tt)

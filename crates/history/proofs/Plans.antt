@@ -1,15 +1,16 @@
 -- The calls of a history that are plans do no harm: request, and every call that sets a part of the chip up.
 -- Assumes nothing.
 use Prim.Native.Nat.{ℕ, _/_, _<_}
-use mathlib.Core.Path.{_≡_, refl, _∙_}
+use mathlib.Core.Path.{_≡_, refl, ap, _∙_}
 use mathlib.Core.Bool.{Bool, true, false, _&&_}
 use mathlib.Core.List.{List, [], _∷_}
 use native.Mathlib.Omega.{arith}
 use borrow.Author.Tests.{ltb-true, lt-leb}
 use Rattle.laws.specs.All.{all}
 use Rattle.laws.proofs.Choice.{by-if}
-use Rattle.field.specs.Field.{place, digit, Fits, apart, within}
+use Rattle.field.specs.Field.{place, digit, read, Fits, apart, within}
 use Rattle.field.specs.Settings.{Setting as FieldSetting, _:=_, fieldsOf, settings, AllFit}
+use Rattle.field.proofs.Laws.{read-write}
 use Rattle.field.proofs.Sets.{off, settings-lt}
 use Rattle.fifo.specs.Control.{CiFIFOCON, UINC, FRESET, TXREQ, FSIZE, PLSIZE, storedSize, isFifo}
 use Rattle.chip.specs.OscillatorControl.{OSC}
@@ -45,8 +46,7 @@ use Rattle.areas.proofs.Tests.{transmit-told, fifo-told}
 use Rattle.adjust.specs.Calls.{failed, oscillatorItems, timingItems, filterItems, configureOsc, configureBitTiming, configureFifo, disableFilter, configureFilter}
 use Rattle.transmit.specs.Transmit.{requestChange, requestStart}
 use Rattle.history.specs.Command.{Setting, Fifo, Filter, FilterOff, Osc, Io, BitTiming, sets}
-use Rattle.history.proofs.Replies.{Gentle}
-use Rattle.history.proofs.Harmless.{Setup, Aside, aside, control, HarmlessChange, HarmlessItem, Harmless, plan-harmless, refused-harmless}
+use Rattle.history.proofs.Harmless.{Setup, Aside, aside, control, Careful, HarmlessChange, HarmlessItem, Harmless, plan-harmless, refused-harmless}
 
 -- ---- control words: fields other than UINC and FRESET are set
 
@@ -56,27 +56,36 @@ module _ (ss : List FieldSetting) where
     pub inside : all (within 32) (fieldsOf ss) ≡ true
     pub uinc : all (apart UINC) (fieldsOf ss) ≡ true
     pub freset : all (apart FRESET) (fieldsOf ss) ≡ true
+    pub asked : (w : ℕ) → read TXREQ w ≡ 1 → read TXREQ (settings ss w) ≡ 1
 
-  pub gentle-change : Spared → (a w : ℕ) → Gentle w → Gentle (modified (changeOf a ss) w)
-  gentle-change h a w g =
-      let e : modified (changeOf a ss) w ≡ settings ss w = change-sets a ss w (g .small) (h .fit) in
-      record {
-        small = rw e (settings-lt 32 ss w (h .inside) (h .fit) (g .small));
-        uinc = rw e (off UINC ss w (h .uinc) (h .fit) ∙ g .uinc);
-        freset = rw e (off FRESET ss w (h .freset) (h .fit) ∙ g .freset);
-      }
+  careful-change : (X : ℕ → Type 0) (n : ℕ) → Spared → (a w : ℕ) → Careful X n w → Careful X n (modified (changeOf a ss) w)
+  careful-change X n h a w (g, x) =
+      let e : modified (changeOf a ss) w ≡ settings ss w = change-sets a ss w (g .small) (h .fit) in (
+        record {
+          small = rw e (settings-lt 32 ss w (h .inside) (h .fit) (g .small));
+          uinc = rw e (off UINC ss w (h .uinc) (h .fit) ∙ g .uinc);
+          freset = rw e (off FRESET ss w (h .freset) (h .fit) ∙ g .freset);
+        },
+        λ y. ap (read TXREQ) e ∙ h .asked w (x y),
+      )
 
 -- setting fields leaves the address
 address-of : (ss : List FieldSetting) (c : Change) → settingAll ss c .address ≡ c .address
 address-of [] c = refl
 address-of (place p k := v ∷ ss) c = address-of ss (setting (place p k := v) c)
 
-pub control-harmless : (n : ℕ) (ss : List FieldSetting) → isFifo n ≡ true → Spared ss → HarmlessChange (changeOf (CiFIFOCON .address n) ss)
-control-harmless n ss i h = control n i (address-of ss _) (gentle-change ss h (CiFIFOCON .address n))
+control-harmless : (X : ℕ → Type 0) (n : ℕ) (ss : List FieldSetting) → isFifo n ≡ true → Spared ss → HarmlessChange X (changeOf (CiFIFOCON .address n) ss)
+control-harmless X n ss i h = control n i (address-of ss _) (careful-change ss X n h (CiFIFOCON .address n))
 
 flag-fits : (b : Bool) → digit b < 2
 flag-fits true = omega arith
 flag-fits false = omega arith
+
+-- TXREQ is not among them either
+spared : (ss : List FieldSetting) → AllFit ss → all (within 32) (fieldsOf ss) ≡ true → all (apart UINC) (fieldsOf ss) ≡ true
+    → all (apart FRESET) (fieldsOf ss) ≡ true → all (apart TXREQ) (fieldsOf ss) ≡ true → Spared ss
+spared ss fit inside uinc freset txreq =
+    record { fit = fit; inside = inside; uinc = uinc; freset = freset; asked = λ w x. off TXREQ ss w txreq fit ∙ x }
 
 fifo-spared : (c : FifoConfiguration) → fifoFits c ≡ true → Spared (fifoSettings c)
 fifo-spared c e = go (fifo-told c e .1) (c .mode) (fifo-told c e .2)
@@ -84,8 +93,9 @@ fifo-spared c e = go (fifo-told c e .1) (c .mode) (fifo-told c e .2)
     go : Fits PLSIZE (c .plsize) → (m : FifoMode) → directionFits m ≡ true → Spared (FSIZE := storedSize (c .size) ∷ PLSIZE := c .plsize ∷ directionSettings m)
     go f (FifoMode.Transmit t) d =
         let h = transmit-told t d in
-        record { fit = search (flag-fits, arith) depth 12; inside = refl; uinc = refl; freset = refl }
-    go f (FifoMode.Receive r) d = record { fit = search (flag-fits, arith) depth 12; inside = refl; uinc = refl; freset = refl }
+        spared (FSIZE := storedSize (c .size) ∷ PLSIZE := c .plsize ∷ directionSettings (FifoMode.Transmit t)) (search (flag-fits, arith) depth 12) refl refl refl refl
+    go f (FifoMode.Receive r) d =
+        spared (FSIZE := storedSize (c .size) ∷ PLSIZE := c .plsize ∷ directionSettings (FifoMode.Receive r)) (search (flag-fits, arith) depth 12) refl refl refl refl
 
 -- ---- registers that hold as written
 
@@ -114,67 +124,68 @@ mask-aside f h = low-aside (CiMASK .address f) (Register.Mask f) (all-carried .m
 
 -- ---- the calls
 
-abbrev Spare : Prepared → Type 0
-Spare p = Harmless (planFor p)
+module _ (X : ℕ → Type 0) where
+  abbrev Spare : Prepared → Type 0
+  Spare p = Harmless X (planFor p)
 
-fifo-harmless : (n : ℕ) (c : FifoConfiguration) → Spare (configureFifo n c)
-unfolding configureFifo
-fifo-harmless n c =
-    by-if Spare (isFifo n)
-    (λ i. by-if Spare (fifoFits c)
-    (λ e. plan-harmless Refusal.SpiRead (Item.Change (fifoChange n c) ∷ []) (control-harmless n (fifoSettings c) i (fifo-spared c e), tt))
-    (λ e. refused-harmless Refusal.BadSetting))
-    (λ i. refused-harmless Refusal.BadNumber)
+  fifo-harmless : (n : ℕ) (c : FifoConfiguration) → Spare (configureFifo n c)
+  unfolding configureFifo
+  fifo-harmless n c =
+      by-if Spare (isFifo n)
+      (λ i. by-if Spare (fifoFits c)
+      (λ e. plan-harmless X Refusal.SpiRead (Item.Change (fifoChange n c) ∷ []) (control-harmless X n (fifoSettings c) i (fifo-spared c e), tt))
+      (λ e. refused-harmless X Refusal.BadSetting))
+      (λ i. refused-harmless X Refusal.BadNumber)
 
-filter-harmless : (f : ℕ) (c : FilterConfiguration) → Spare (configureFilter f c)
-unfolding configureFilter filterCheck
-filter-harmless f c =
-    let P : Done → Type 0 = λ d. Spare (onDone turnedDown d (ready Refusal.SpiRead (filterItems f c))) in
-    by-if P (isFilter f)
-    (λ e. by-if P (isFifo (c .fifo))
-    (λ i. by-if P (isIdentifier (c .object) && isIdentifier (c .mask))
-    (λ j. let h = ltb-true f 32 e in
-    plan-harmless Refusal.SpiRead (filterItems f c) (aside (filter-aside f h), (aside (object-aside f h), (aside (mask-aside f h), (aside (filter-aside f h), tt)))))
-    (λ j. refused-harmless Refusal.BadIdentifier))
-    (λ i. refused-harmless Refusal.BadNumber))
-    (λ e. refused-harmless Refusal.BadNumber)
+  filter-harmless : (f : ℕ) (c : FilterConfiguration) → Spare (configureFilter f c)
+  unfolding configureFilter filterCheck
+  filter-harmless f c =
+      let P : Done → Type 0 = λ d. Spare (onDone turnedDown d (ready Refusal.SpiRead (filterItems f c))) in
+      by-if P (isFilter f)
+      (λ e. by-if P (isFifo (c .fifo))
+      (λ i. by-if P (isIdentifier (c .object) && isIdentifier (c .mask))
+      (λ j. let h = ltb-true f 32 e in
+      plan-harmless X Refusal.SpiRead (filterItems f c) (aside (filter-aside f h), (aside (object-aside f h), (aside (mask-aside f h), (aside (filter-aside f h), tt)))))
+      (λ j. refused-harmless X Refusal.BadIdentifier))
+      (λ i. refused-harmless X Refusal.BadNumber))
+      (λ e. refused-harmless X Refusal.BadNumber)
 
-off-harmless : (f : ℕ) → Spare (disableFilter f)
-unfolding disableFilter
-off-harmless f =
-    by-if Spare (isFilter f)
-    (λ e. plan-harmless Refusal.SpiRead (Item.Change (offChange f) ∷ []) (aside (filter-aside f (ltb-true f 32 e)), tt))
-    (λ e. refused-harmless Refusal.BadNumber)
+  off-harmless : (f : ℕ) → Spare (disableFilter f)
+  unfolding disableFilter
+  off-harmless f =
+      by-if Spare (isFilter f)
+      (λ e. plan-harmless X Refusal.SpiRead (Item.Change (offChange f) ∷ []) (aside (filter-aside f (ltb-true f 32 e)), tt))
+      (λ e. refused-harmless X Refusal.BadNumber)
 
-osc-harmless : (o : OscillatorConfiguration) → Spare (configureOsc o)
-osc-harmless o =
-    plan-harmless failed (oscillatorItems o) (aside osc-aside, (by-if HarmlessItem (o .pll) (λ e. tt) (λ e. tt), tt))
+  osc-harmless : (o : OscillatorConfiguration) → Spare (configureOsc o)
+  osc-harmless o =
+      plan-harmless X failed (oscillatorItems o) (aside osc-aside, (by-if (HarmlessItem X) (o .pll) (λ e. tt) (λ e. tt), tt))
 
-timing-harmless : (b : BitTimeConfiguration) → Spare (configureBitTiming b)
-unfolding configureBitTiming
-timing-harmless b =
-    by-if Spare (timingFits b)
-    (λ e. plan-harmless failed (timingItems b) (
-      aside (low-aside (CiNBTCFG .address 0) (Register.Plain 0) (all-carried .nominal) tt (omega arith)),
-      (
-        aside (low-aside (CiDBTCFG .address 0) (Register.Plain 1) (all-carried .data-phase) tt (omega arith)),
-        (aside (low-aside (CiTDC .address 0) (Register.Plain 2) (all-carried .delay) tt (omega arith)), tt),
-      ),
-    ))
-    (λ e. refused-harmless Refusal.BadSetting)
+  timing-harmless : (b : BitTimeConfiguration) → Spare (configureBitTiming b)
+  unfolding configureBitTiming
+  timing-harmless b =
+      by-if Spare (timingFits b)
+      (λ e. plan-harmless X failed (timingItems b) (
+        aside (low-aside (CiNBTCFG .address 0) (Register.Plain 0) (all-carried .nominal) tt (omega arith)),
+        (
+          aside (low-aside (CiDBTCFG .address 0) (Register.Plain 1) (all-carried .data-phase) tt (omega arith)),
+          (aside (low-aside (CiTDC .address 0) (Register.Plain 2) (all-carried .delay) tt (omega arith)), tt),
+        ),
+      ))
+      (λ e. refused-harmless X Refusal.BadSetting)
 
-pub set-harmless : (x : Setting) → Harmless (planFor (sets x))
-set-harmless (Fifo n c) = fifo-harmless n c
-set-harmless (Filter f c) = filter-harmless f c
-set-harmless (FilterOff f) = off-harmless f
-set-harmless (Osc o) = osc-harmless o
-set-harmless (Io c) = plan-harmless failed (Item.Change (ioChange c) ∷ []) (aside pins-aside, tt)
-set-harmless (BitTiming b) = timing-harmless b
+  pub set-harmless : (x : Setting) → Harmless X (planFor (sets x))
+  set-harmless (Fifo n c) = fifo-harmless n c
+  set-harmless (Filter f c) = filter-harmless f c
+  set-harmless (FilterOff f) = off-harmless f
+  set-harmless (Osc o) = osc-harmless o
+  set-harmless (Io c) = plan-harmless X failed (Item.Change (ioChange c) ∷ []) (aside pins-aside, tt)
+  set-harmless (BitTiming b) = timing-harmless b
 
-pub request-harmless : (n : ℕ) → Harmless (requestStart n)
-unfolding requestStart
-request-harmless n =
-    by-if Harmless (isFifo n)
-    (λ i. plan-harmless Refusal.SpiRead (Item.Change (requestChange n) ∷ [])
-    (control-harmless n (TXREQ := 1 ∷ []) i (record { fit = (omega arith, tt); inside = refl; uinc = refl; freset = refl }), tt))
-    (λ i. refused-harmless Refusal.BadNumber)
+  pub request-harmless : (n : ℕ) → Harmless X (requestStart n)
+  unfolding requestStart
+  request-harmless n =
+      by-if (Harmless X) (isFifo n)
+      (λ i. plan-harmless X Refusal.SpiRead (Item.Change (requestChange n) ∷ [])
+      (control-harmless X n (TXREQ := 1 ∷ []) i (record { fit = (omega arith, tt); inside = refl; uinc = refl; freset = refl; asked = λ w x. read-write TXREQ 1 w (omega arith) }), tt))
+      (λ i. refused-harmless X Refusal.BadNumber)

@@ -1,55 +1,51 @@
--- A push of which no exchange fails says exactly what it must; a transmit whose request fails has its message accepted.
+-- A push of which no exchange fails, alone or in a transmit, answers exactly what it must.
 -- Assumes nothing.
-use Prim.Native.Nat.{ℕ, suc, _+_, _%_, _^_, _≤_, _<_}
+use Prim.Native.Nat.{ℕ, _+_, _%_, _^_, _≤_, _<_}
 use native.Mathlib.Omega.{arith}
-use borrow.Author.Tests.{ltb-true, leb-true, leb-false, lt-ltb, le-leb, le-ltb, eq-eqb}
+use borrow.Author.Tests.{ltb-false, leb-true, leb-false, lt-ltb, le-ltb, eq-eqb, not-true, not-false}
 use mathlib.Core.Path.{_≡_, refl, sym, ap, _∙_}
-use mathlib.Core.Bool.{Bool, true, false}
-use mathlib.Core.List.{List, [], _∷_, _++_, map, append-assoc}
+use mathlib.Core.Bool.{Bool, true, false, not}
+use mathlib.Core.Logic.{_↔_}
+use mathlib.Core.List.{List, [], _∷_, _++_}
 use lib.Dec.{ltb, leb}
 use lib.ListN.{length}
 use Rattle.laws.specs.If.{if_then_else_}
 use Rattle.laws.proofs.Choice.{by-if}
-use Rattle.fifo.specs.Control.{CiFIFOCON, payloadOf, isFifo}
+use Rattle.fifo.specs.Control.{payloadOf, isFifo}
 use Rattle.parts.specs.Parts.{zeroed}
 use Rattle.words.specs.Words.{leBytes}
 use Rattle.spi.specs.declared.refusal.Refusal.{Refusal}
+use Rattle.spi.specs.Refusals.{numbered}
 use Rattle.spi.specs.declared.ask.Answer.{Answer}
 use Rattle.header.specs.declared.Header.{Header}
 use Rattle.message.specs.Message.{Message, Encoding, encoding}
 use Rattle.operation.specs.declared.place.Register.{Register}
 use Rattle.call.specs.declared.Outcome.{Outcome}
-use Rattle.plan.specs.declared.plan.PlanAt.{PlanAt}
 use Rattle.plan.specs.declared.plan.Plan.{Plan}
-use Rattle.plan.specs.Step as plan
-use Rattle.plan.specs.Change.{modified}
-use Rattle.tx_fifo.specs.declared.push.Push.{Push as Pushes}
 use Rattle.tx_fifo.specs.declared.push.PushAt.{PushAt}
 use Rattle.tx_fifo.specs.Step as push
-use Rattle.transmit.specs.Transmit.{requestChange, requestStart, transmitStart}
 use Rattle.rx_fifo.specs.declared.Fetch.{Fetch}
 use Rattle.driver.specs.declared.calls.Call.{Call}
-use Rattle.driver.specs.Start.{idlePlan, idleFetch, ofPush, ofTransmit}
+use Rattle.driver.specs.Start.{idlePlan, idleFetch, ofPush}
 use Rattle.ring.specs.Ring.{sending, depth}
 use Rattle.state.specs.declared.Model.{Model}
 use Rattle.state.specs.Model.{fifoAt, frozenAt}
 use Rattle.bank.specs.Registers.{wordOf}
 use Rattle.bus.specs.Held.{slotOf}
 use Rattle.reach.specs.Bus.{Bus}
-use Rattle.history.specs.Command.{Command, Push, Transmit, Request, started}
-use Rattle.history.specs.History.{Event, Begin, Fail, On, Said, called, Doing, idle, busy, World, hears, waits, settled, event, after}
+use Rattle.history.specs.Command.{Command, Push, started}
+use Rattle.history.specs.History.{Event, Begin, Said, called, Doing, idle, busy, World, hears, settled, event, after}
 use Rattle.history.specs.Lists.{doneWith, acceptedIn}
-use Rattle.history.specs.Demand.{buses, calm, calls, Answers, WellFormed, pushAnswer, PushedIff}
+use Rattle.history.specs.Demand.{buses, calm, atStatus, calls, Answers, Ending, ending, done, Ends, WellFormed, pushAnswer, Takes}
+use Rattle.history.proofs.Few.{five, same-last}
 use Rattle.history.proofs.Line.{world, spoken}
 use Rattle.history.proofs.Slots.{filled, filled-held, filled-sound}
 use Rattle.history.proofs.Asks.{hear-control, hear-status, hear-address}
 use Rattle.history.proofs.Replies.{control-gentle, next-control, next-status, next-address}
-use Rattle.history.proofs.Requests.{requesting, request-begins, request-read, read-failed, write-failed}
-use Rattle.history.proofs.Planning as planning
-use Rattle.history.proofs.Pushing.{commanded, pushAt, pushing, turned, still, refused, done, half}
+use Rattle.history.proofs.Pushing.{commanded, pushing, turned, still, refused, done as finished}
 use Rattle.history.proofs.Mid.{Tx, PushMid}
 use Rattle.history.proofs.PushSteps.{object-fits, encoded-for, starting, inside, object-told, object-mid, uinc-told}
-use Rattle.history.proofs.Calm.{spokenOf, after-append, after-buses, after-calm, calls-buses, calls-snoc, idle-calm, Fit, buses-fit, buses-fixed, buses-push}
+use Rattle.history.proofs.Calm.{spokenOf, after-calm, calls-buses, calls-snoc, idle-calm, Fit, buses-fit, buses-fixed, buses-push, at-status}
 
 -- ---- exchange by exchange
 
@@ -94,7 +90,7 @@ module _ (also : Bool) (n : ℕ) (header : Header) (seq : ℕ) (payload bs : Lis
   -- ---- the exchanges of a push that is done
 
   -- with the bus steps xs before its exchanges it is done, and has said nothing yet
-  abbrev Pushed : List (List Bus) → PushAt → Model → List Said → Type 0
+  abbrev pub Pushed : List (List Bus) → PushAt → Model → List Said → Type 0
   Pushed xs a c t =
       (d : Model) × (u : List Said) × (calls u ≡ calls t) × ((r : List (List Bus)) → after (calm (xs ++ r)) (here a c t) ≡ after (calm r) (settled d u k (at PushAt.Done) []))
 
@@ -106,7 +102,7 @@ module _ (also : Bool) (n : ℕ) (header : Header) (seq : ℕ) (payload bs : Lis
   from-commit : (b : List Bus) (w : ℕ) (c : Model) (t : List Said) → Fit c t → PushMid c n m bs (PushAt.Commit w) → Pushed (b ∷ []) (PushAt.Commit w) c t
   from-commit b w c t g x =
       let g′ = buses-fit b c t g in
-      let (v, told, vh, vc) = uinc-told (buses b c) (g′ .sound) n header seq payload bs i coded w (buses-push n i m bs (PushAt.Commit w) b c t g x) in
+      let (v, told, vh, vc, va) = uinc-told (buses b c) (g′ .sound) n header seq payload bs i coded w (buses-push n i m bs (PushAt.Commit w) b c t g x) in
       (_, _, calls-buses t b c, λ r. takes b r (PushAt.Commit w) PushAt.Done refl c t [] _ told refl)
 
   from-write : (b₁ b₂ : List Bus) (w a : ℕ) (c : Model) (t : List Said) → Fit c t → PushMid c n m bs (PushAt.Write w a)
@@ -135,6 +131,10 @@ module _ (also : Bool) (n : ℕ) (header : Header) (seq : ℕ) (payload bs : Lis
       (next-address c′ n (length payload) (length bs) (g′ .sound) (y .0 .tx) w (inside c′ (g′ .sound) n header seq payload bs i coded w (y .0))) refl refl)
       (from-write b₂ b₃ w a c′ _ g′ (y .0, y .1, refl))
 
+  -- it is refused so
+  abbrev pub Refused : List (List Bus) → Model → List Said → Refusal → Type 0
+  Refused xs c t x = calls (after (calm xs) (here PushAt.Control c t) .said) ≡ calls t ++ (called (Push n header seq payload) (Outcome.Refused x) [] ∷ [])
+
   -- ---- control and status, where the FIFO's frozen word is still that of the beginning
 
   module _ (b : List Bus) (c : Model) (t : List Said) (g : Fit c t) where
@@ -155,7 +155,7 @@ module _ (also : Bool) (n : ℕ) (header : Header) (seq : ℕ) (payload bs : Lis
     to-control = next-control (buses b c) n (length payload) (length bs) ∙ rw frozen-stays
 
     control-away : (r : List (List Bus)) (x : Refusal) → push.nextAt (length payload) (length bs) PushAt.Control Answer.Exchanged (leBytes control) ≡ PushAt.Refused x
-        → calls (after (calm (b ∷ r)) (here PushAt.Control c t) .said) ≡ calls t ++ (called (Push n header seq payload) (Outcome.Refused x) [] ∷ [])
+        → Refused (b ∷ r) c t x
     control-away r x e = stops b r PushAt.Control x refl c t _ _ (hear-control _ (buses b c) n i) e
 
     module _ (x : sending (frozenAt c n) ≡ true) (y : length payload ≤ payloadOf (frozenAt c n)) where
@@ -180,183 +180,131 @@ module _ (also : Bool) (n : ℕ) (header : Header) (seq : ℕ) (payload bs : Lis
       (λ r. goes b₁ r (PushAt.Status w) (PushAt.Address w) refl c t _ _ (hear-status _ c′ n i) (to-status b₁ c t g w x ∙ rw (lt-ltb _ _ z)) refl refl)
       (from-address b₂ b₃ b₄ w c′ _ (buses-fit b₁ c t g) (buses-push n i m bs (PushAt.Status w) b₁ c t g x, rw (frozen-stays b₁ c t g) z))
 
-  module _ (b₁ b₂ b₃ b₄ b₅ : List Bus) (c : Model) (t : List Said) (g : Fit c t) (x : sending (frozenAt c n) ≡ true) (y : length payload ≤ payloadOf (frozenAt c n)) where
-    from-control : fifoAt (buses b₂ (buses b₁ c)) n .count < depth (frozenAt c n) → Pushed (b₁ ∷ b₂ ∷ b₃ ∷ b₄ ∷ b₅ ∷ []) PushAt.Control c t
-    from-control z =
+  module _ (b₁ b₂ : List Bus) (c : Model) (t : List Said) (g : Fit c t) (x : sending (frozenAt c n) ≡ true) (y : length payload ≤ payloadOf (frozenAt c n)) where
+    pub from-control : (b₃ b₄ b₅ : List Bus) → fifoAt (buses b₂ (buses b₁ c)) n .count < depth (frozenAt c n) → Pushed (b₁ ∷ b₂ ∷ b₃ ∷ b₄ ∷ b₅ ∷ []) PushAt.Control c t
+    from-control b₃ b₄ b₅ z =
         joined b₁ (b₂ ∷ b₃ ∷ b₄ ∷ b₅ ∷ []) PushAt.Control _ c t (buses b₁ c) (control-read b₁ c t g x y)
         (from-status b₂ b₃ b₄ b₅ _ (buses b₁ c) _ (buses-fit b₁ c t g) (control-knows b₁ c t g x y) (rw (frozen-stays b₁ c t g) z))
 
     -- no room at the status read
-    status-full : ltb (fifoAt (buses b₂ (buses b₁ c)) n .count) (depth (frozenAt c n)) ≡ false
-        → calls (after (calm (b₁ ∷ b₂ ∷ b₃ ∷ b₄ ∷ b₅ ∷ [])) (here PushAt.Control c t) .said)
-        ≡ calls t ++ (called (Push n header seq payload) (Outcome.Refused Refusal.FifoFull) [] ∷ [])
-    status-full z =
+    status-full : (r : List (List Bus)) → depth (frozenAt c n) ≤ fifoAt (buses b₂ (buses b₁ c)) n .count → Refused (b₁ ∷ b₂ ∷ r) c t Refusal.FifoFull
+    status-full r z =
         let c′ : Model = buses b₁ c in
-        ap (λ (v : World). calls (v .said)) (control-read b₁ c t g x y (b₂ ∷ b₃ ∷ b₄ ∷ b₅ ∷ []))
-        ∙ stops b₂ (b₃ ∷ b₄ ∷ b₅ ∷ []) (PushAt.Status _) Refusal.FifoFull refl c′ (t ++ spokenOf b₁ c) _ _ (hear-status _ (buses b₂ c′) n i)
-        (to-status b₂ c′ _ (buses-fit b₁ c t g) _ (control-knows b₁ c t g x y) ∙ rw (frozen-stays b₁ c t g, z))
+        ap (λ (v : World). calls (v .said)) (control-read b₁ c t g x y (b₂ ∷ r))
+        ∙ stops b₂ r (PushAt.Status _) Refusal.FifoFull refl c′ (t ++ spokenOf b₁ c) _ _ (hear-status _ (buses b₂ c′) n i)
+        (to-status b₂ c′ _ (buses-fit b₁ c t g) _ (control-knows b₁ c t g x y) ∙ rw (frozen-stays b₁ c t g, le-ltb _ _ z))
         ∙ rw (calls-buses t b₁ c)
 
 -- ---- the beginning
 
 -- where no call is under way, one begins
-begun : (v : World) → v .doing ≡ idle → (k : Command) (es : List Event) → after (Begin k ∷ es) v ≡ after es (settled (v .chip) (v .said) k (started k) [])
+pub begun : (v : World) → v .doing ≡ idle → (k : Command) (es : List Event) → after (Begin k ∷ es) v ≡ after es (settled (v .chip) (v .said) k (started k) [])
 unfolding after event
 begun v e k es = ap (λ (d : Doing). after es (event (Begin k) d (v .chip) (v .said))) e
 
 module _ (also : Bool) (n : ℕ) (header : Header) (seq : ℕ) (payload bs : List ℕ) (coded : push.encodingFor n header seq payload ≡ Encoding.object bs) where
-  begins : (p : Plan) (c : Model) (t : List Said) → settled c t (commanded also n header seq payload) (starting also n (length payload) (push.encodingFor n header seq payload) p) []
+  pub begins : (p : Plan) (c : Model) (t : List Said) → settled c t (commanded also n header seq payload) (starting also n (length payload) (push.encodingFor n header seq payload) p) []
       ≡ world c (busy (commanded also n header seq payload) (pushing also n (length payload) bs PushAt.Control p idleFetch)) t
   begins p c t =
       ap (λ (x : Encoding). settled c t (commanded also n header seq payload) (starting also n (length payload) x p) []) coded
       ∙ still n (length payload) bs p idleFetch header seq payload t c [] also PushAt.Control refl refl
 
+-- ---- how a push ends, alone or in a transmit
+
+module _ (also : Bool) (n : ℕ) (header : Header) (seq : ℕ) (payload bs : List ℕ) (p : Plan) (f : Fetch)
+    (i : isFifo n ≡ true) (coded : encoding (push.toSend header seq payload) ≡ Encoding.object bs)
+    (b₁ b₂ : List Bus) (r : List (List Bus)) (c : Model) (t : List Said) (g : Fit c t) where
+  -- the chip at the status read
+  abbrev d : Model
+  d = buses b₂ (buses b₁ c)
+
+  frozen-then : frozenAt d n ≡ frozenAt c n
+  frozen-then = rw (buses-fixed b₂ (buses b₁ c) _ (buses-fit b₁ c t g), buses-fixed b₁ c t g)
+
+  -- what holds where its FIFO takes it, and of each refusal, holds of its answer
+  pub push-by : (P : Ending → Type 0) → (Takes d n payload → P done)
+      → ((x : Refusal) → Refused also n header seq payload bs p f i coded (b₁ ∷ b₂ ∷ r) c t x → P (ending (numbered x) [])) → P (pushAnswer d n payload)
+  unfolding pushAnswer
+  push-by P good bad =
+      let fr : frozenAt d n ≡ frozenAt c n = frozen-then in
+      let control = to-control also n header seq payload bs p f i coded b₁ c t g in
+      let away = control-away also n header seq payload bs p f i coded b₁ c t g (b₂ ∷ r) in
+      by-if P (not (sending (frozenAt d n)))
+      (λ x. bad Refusal.FifoNotTx (away Refusal.FifoNotTx (control ∙ rw (← fr, not-true (sending (frozenAt d n)) x))))
+      (λ x. by-if P (ltb (payloadOf (frozenAt d n)) (length payload))
+      (λ y. bad Refusal.FifoTooSmall (away Refusal.FifoTooSmall (control ∙ rw (← fr, not-false (sending (frozenAt d n)) x, y))))
+      (λ y. by-if P (leb (depth (frozenAt d n)) (fifoAt d n .count))
+      (λ z. bad Refusal.FifoFull (status-full also n header seq payload bs p f i coded b₁ b₂ c t g
+      (rw (← fr) (not-false _ x)) (rw (← fr) (ltb-false _ _ y)) r (rw (← fr) (leb-true _ _ z))))
+      (λ z. good (not-false _ x, ltb-false _ _ y, leb-false _ _ z))))
+
+  -- and it takes a push that is done
+  pub push-goes : Takes d n payload → (b₃ b₄ b₅ : List Bus) → Pushed also n header seq payload bs p f i coded (b₁ ∷ b₂ ∷ b₃ ∷ b₄ ∷ b₅ ∷ []) PushAt.Control c t
+  push-goes (x, y, z) b₃ b₄ b₅ =
+      let fr : frozenAt d n ≡ frozenAt c n = frozen-then in
+      from-control also n header seq payload bs p f i coded b₁ b₂ c t g (rw fr at x) (rw fr at y) b₃ b₄ b₅ (rw fr at z)
+
 -- ---- 2. what a push answers
 
-module _ (n : ℕ) (header : Header) (seq : ℕ) (payload bs : List ℕ) (i : isFifo n ≡ true) (coded : encoding (push.toSend header seq payload) ≡ Encoding.object bs)
-    (b₁ b₂ b₃ b₄ b₅ : List Bus) (c : Model) (t : List Said) (g : Fit c t) where
-  push-answers : calls (after (calm (b₁ ∷ b₂ ∷ b₃ ∷ b₄ ∷ b₅ ∷ [])) (world c (busy (Push n header seq payload) (pushing false n (length payload) bs PushAt.Control idlePlan idleFetch)) t) .said)
-      ≡ calls t ++ (called (Push n header seq payload) (pushAnswer c (buses b₂ (buses b₁ c)) n payload) [] ∷ [])
-  unfolding pushAnswer
-  push-answers =
-      let xs : List (List Bus) = b₁ ∷ b₂ ∷ b₃ ∷ b₄ ∷ b₅ ∷ [] in
-      let k : Command = Push n header seq payload in
-      let v : World = world c (busy k (pushing false n (length payload) bs PushAt.Control idlePlan idleFetch)) t in
-      let P : Outcome → Type 0 = λ o. calls (after (calm xs) v .said) ≡ calls t ++ (called k o [] ∷ []) in
-      by-if P (sending (frozenAt c n))
-      (λ x. by-if P (leb (length payload) (payloadOf (frozenAt c n)))
-      (λ y. by-if P (ltb (fifoAt (buses b₂ (buses b₁ c)) n .count) (depth (frozenAt c n)))
-      (λ z. let (d, u, s, e) = from-control false n header seq payload bs idlePlan idleFetch i coded b₁ b₂ b₃ b₄ b₅ c t g x (leb-true _ _ y) (ltb-true _ _ z) in
-      ap (λ (w : World). calls (w .said)) (e [] ∙ ap (after (calm [])) (done n (length payload) bs idlePlan idleFetch header seq payload u d []))
-      ∙ idle-calm [] d _ ∙ calls-snoc u k Outcome.Done [] ∙ rw s)
-      (λ z. status-full false n header seq payload bs idlePlan idleFetch i coded b₁ b₂ b₃ b₄ b₅ c t g x (leb-true _ _ y) z))
-      (λ y. control-away false n header seq payload bs idlePlan idleFetch i coded b₁ c t g (b₂ ∷ b₃ ∷ b₄ ∷ b₅ ∷ []) Refusal.FifoTooSmall
-      (to-control false n header seq payload bs idlePlan idleFetch i coded b₁ c t g ∙ rw (x, lt-ltb _ _ (leb-false _ _ y)))))
-      (λ x. control-away false n header seq payload bs idlePlan idleFetch i coded b₁ c t g (b₂ ∷ b₃ ∷ b₄ ∷ b₅ ∷ []) Refusal.FifoNotTx
-      (to-control false n header seq payload bs idlePlan idleFetch i coded b₁ c t g ∙ rw x))
+module _ (v : World) (g : Fit (v .chip) (v .said)) (e : v .doing ≡ idle) (n : ℕ) (header : Header) (seq : ℕ) (payload bs : List ℕ)
+    (h : push.encodingFor n header seq payload ≡ Encoding.object bs) (b₁ b₂ b₃ b₄ b₅ : List Bus) (r : List (List Bus)) where
+  abbrev call : Command
+  call = Push n header seq payload
+
+  abbrev xs : List (List Bus)
+  xs = b₁ ∷ b₂ ∷ b₃ ∷ b₄ ∷ b₅ ∷ r
+
+  status-chip : atStatus v xs ≡ buses b₂ (buses b₁ (v .chip))
+  status-chip = at-status v b₁ b₂ (b₃ ∷ b₄ ∷ b₅ ∷ r)
+
+  push-starts : after (Begin call ∷ calm xs) v ≡ after (calm xs) (world (v .chip) (busy call (pushing false n (length payload) bs PushAt.Control idlePlan idleFetch)) (v .said))
+  unfolding ofPush push.startOf
+  push-starts = begun v e call (calm xs) ∙ ap (after (calm xs)) (begins false n header seq payload bs h idlePlan (v .chip) (v .said))
+
+  push-done : Takes (atStatus v xs) n payload → Answers v call xs (called call Outcome.Done [] ∷ [])
+  push-done ok =
+      let (i, coded) = encoded-for n header seq payload bs h in
+      let (d, u, s, q) = push-goes false n header seq payload bs idlePlan idleFetch i coded b₁ b₂ (b₃ ∷ b₄ ∷ b₅ ∷ r) (v .chip) (v .said) g (rw status-chip at ok) b₃ b₄ b₅ in
+      ap (λ (w : World). calls (w .said)) (push-starts ∙ q r ∙ ap (after (calm r)) (finished n (length payload) bs idlePlan idleFetch header seq payload u d []))
+      ∙ idle-calm r d _ ∙ calls-snoc u call Outcome.Done [] ∙ rw s
+
+  -- it is done where its FIFO takes it, and else refused
+  push-ends : (P : Ending → Type 0) → (Takes (atStatus v xs) n payload → P done)
+      → ((x : Refusal) → Answers v call xs (called call (Outcome.Refused x) [] ∷ []) → P (ending (numbered x) [])) → P (pushAnswer (atStatus v xs) n payload)
+  push-ends P good bad =
+      let (i, coded) = encoded-for n header seq payload bs h in
+      rw status-chip
+      (push-by false n header seq payload bs idlePlan idleFetch i coded b₁ b₂ (b₃ ∷ b₄ ∷ b₅ ∷ r) (v .chip) (v .said) g P
+      (λ ok. good (rw status-chip ok)) (λ x no. bad x (ap (λ (w : World). calls (w .said)) push-starts ∙ no)))
+
+  push-exact : Ends v call xs (pushAnswer (atStatus v xs) n payload)
+  push-exact = push-ends (Ends v call xs) (λ ok. (Outcome.Done, refl, push-done ok)) (λ x no. (Outcome.Refused x, refl, no))
+
+  abbrev sent : Message
+  sent = push.toSend header seq payload
+
+  accepts : (o : Outcome) → acceptedIn n (called call o []) ≡ doneWith o sent
+  accepts o = rw (eq-eqb n n refl)
+
+  push-iff : ((x : Said) × Answers v call xs (x ∷ []) × (acceptedIn n x ≡ sent ∷ [])) ↔ Takes (atStatus v xs) n payload
+  push-iff = (
+    λ (x, said, one).
+        push-ends (λ y. Takes (atStatus v xs) n payload) (λ ok. ok)
+        (λ y no.
+        let is : x ≡ called call (Outcome.Refused y) [] = same-last (calls (v .said)) _ _ (sym said ∙ no) in
+        let none : _≡_ {A = List Message} [] (sent ∷ []) = sym (accepts (Outcome.Refused y)) ∙ ap (acceptedIn n) (sym is) ∙ one in
+        let z : _≡_ {A = ℕ} 0 1 = ap length none in absurd (omega (arith, z))),
+    λ ok. (called call Outcome.Done [], push-done ok, accepts Outcome.Done),
+  )
 
 pub push-exactly : (v : World) → Fit (v .chip) (v .said) → v .doing ≡ idle → (n : ℕ) (header : Header) (seq : ℕ) (payload : List ℕ)
-    → WellFormed n header seq payload → (b₁ b₂ b₃ b₄ b₅ : List Bus)
-    → Answers v (Push n header seq payload) (b₁ ∷ b₂ ∷ b₃ ∷ b₄ ∷ b₅ ∷ [])
-    (called (Push n header seq payload) (pushAnswer (v .chip) (buses b₂ (buses b₁ (v .chip))) n payload) [] ∷ [])
-unfolding ofPush push.startOf
-push-exactly v g e n header seq payload (bs, h) b₁ b₂ b₃ b₄ b₅ =
-    let xs : List (List Bus) = b₁ ∷ b₂ ∷ b₃ ∷ b₄ ∷ b₅ ∷ [] in
-    let (i, coded) = encoded-for n header seq payload bs h in
-    ap (λ (w : World). calls (w .said))
-    (begun v e (Push n header seq payload) (calm xs) ∙ ap (after (calm xs)) (begins false n header seq payload bs h idlePlan (v .chip) (v .said)))
-    ∙ push-answers n header seq payload bs i coded b₁ b₂ b₃ b₄ b₅ (v .chip) (v .said) g
+    → WellFormed n header seq payload → (xs : List (List Bus)) → length xs ≡ 5 → Ends v (Push n header seq payload) xs (pushAnswer (atStatus v xs) n payload)
+push-exactly v g e n header seq payload (bs, h) xs l =
+    five (λ ys. Ends v (Push n header seq payload) ys (pushAnswer (atStatus v ys) n payload)) (push-exact v g e n header seq payload bs h) xs (omega (arith, l))
 
--- ---- when it is done
-
-module _ (c d : Model) (n : ℕ) (payload : List ℕ) where
-  -- its FIFO transmits, the payload fits and there was room
-  abbrev Good : Type 0
-  Good = (sending (frozenAt c n) ≡ true) × (length payload ≤ payloadOf (frozenAt c n)) × (fifoAt d n .count < depth (frozenAt c n))
-
-  -- from whatever is true of its answer, and of no refusal
-  good : (P : Outcome → Type 0) → ((r : Refusal) → P (Outcome.Refused r) → ⊥) → P (pushAnswer c d n payload) → Good
-  unfolding pushAnswer
-  good P not =
-      let Q : Outcome → Type 0 = λ o. P o → Good in
-      by-if Q (sending (frozenAt c n))
-      (λ x. by-if Q (leb (length payload) (payloadOf (frozenAt c n)))
-      (λ y. by-if Q (ltb (fifoAt d n .count) (depth (frozenAt c n))) (λ z q. (x, leb-true _ _ y, ltb-true _ _ z)) (λ z q. absurd (not Refusal.FifoFull q)))
-      (λ y q. absurd (not Refusal.FifoTooSmall q)))
-      (λ x q. absurd (not Refusal.FifoNotTx q))
-
-  if-good : Good → pushAnswer c d n payload ≡ Outcome.Done
-  unfolding pushAnswer
-  if-good (x, y, z) = rw (x, le-leb _ _ y, lt-ltb _ _ z)
-
-pub pushed-iff : PushedIff
-pushed-iff c d n header seq payload =
-    let m : Message = push.toSend header seq payload in
-    let one : (o : Outcome) → acceptedIn n (called (Push n header seq payload) o []) ≡ doneWith o m = λ o. rw (eq-eqb n n refl) in (
-      λ e. good c d n payload (λ o. doneWith o m ≡ m ∷ []) (λ r q. let z : _≡_ {A = ℕ} 0 1 = ap length q in absurd (omega (arith, z)))
-          (sym (one (pushAnswer c d n payload)) ∙ e),
-      λ h. one (pushAnswer c d n payload) ∙ rw (if-good c d n payload h),
-    )
-
--- ---- 5. a transmit whose request fails
-
-nothing-more : (v : World) → after (calm []) v ≡ v
-unfolding after calm
-nothing-more v = refl
-
--- the request of FIFO n, after the push u
-module _ (n : ℕ) (i : isFifo n ≡ true) (u : Pushes) (over : push.isDone u ≡ true) (f : Fetch) where
-  abbrev asking : Plan → Model → List Said → World
-  asking p c t = world c (busy (Request n) (planning.planned true p u f)) t
-
-  -- bus steps, and an exchange that fails
-  lost : (p : Plan) → waits (plan.askOf p) ≡ false → plan.stepOf p Answer.Failed [] ≡ requesting n 1 (PlanAt.Refused Refusal.SpiRead)
-      → (b : List Bus) (c : Model) (t : List Said)
-      → calls (after (map On b ++ (Fail ∷ [])) (asking p c t) .said) ≡ calls t ++ (called (Request n) (Outcome.Refused Refusal.SpiRead) [] ∷ [])
-  unfolding after event
-  lost p w e b c t =
-      let t′ : List Said = t ++ spokenOf b c in
-      ap (λ (v : World). calls (v .said)) (after-append (map On b) (Fail ∷ []) (asking p c t) ∙ ap (after (Fail ∷ [])) (after-buses b c _ t)
-      ∙ planning.failed u f true (λ x. over) p t′ (Request n) (buses b c) w
-      ∙ ap (λ (q : Plan). settled (buses b c) t′ (Request n) (planning.planned true q u f) []) e
-      ∙ planning.over u f true (λ x. over) (requesting n 1 (PlanAt.Refused Refusal.SpiRead)) t′ (Request n) (buses b c) [] refl)
-      ∙ calls-snoc t′ _ _ _ ∙ rw (calls-buses t b c)
-
-  abbrev reading : Plan
-  reading = requesting n 1 (PlanAt.Read (requestChange n))
-
-  abbrev writing : ℕ → Plan
-  writing x = requesting n 1 (PlanAt.Write (CiFIFOCON .address n) (modified (requestChange n) (x % 2 ^ 32)))
-
-  -- bus steps, and control is read
-  control-comes : (b : List Bus) (c : Model) (t : List Said)
-      → after (calm (b ∷ [])) (asking reading c t) ≡ asking (writing (wordOf (buses b c) (Register.Control n))) (buses b c) (t ++ spokenOf b c)
-  unfolding after calm event
-  control-comes b c t =
-      let d : Model = buses b c in
-      let x : ℕ = wordOf d (Register.Control n) in
-      let t′ : List Said = t ++ spokenOf b c in
-      after-calm b [] c _ t
-      ∙ planning.turned u f true (λ y. over) reading t′ (Request n) d (leBytes x) d refl (λ y. hear-control y d n i)
-      ∙ ap (λ (q : Plan). settled d t′ (Request n) (planning.planned true q u f) (leBytes x)) (request-read n x)
-      ∙ planning.still u f true (λ y. over) (writing x) t′ (Request n) d (leBytes x) refl refl
-
-  fails-there : (r : List (List Bus)) → length r ≤ 1 → (b : List Bus) (c : Model) (t : List Said)
-      → calls (after (map On b ++ (Fail ∷ [])) (after (calm r) (asking reading c t)) .said)
-      ≡ calls t ++ (called (Request n) (Outcome.Refused Refusal.SpiRead) [] ∷ [])
-  fails-there [] l b c t =
-      ap (λ (v : World). calls (after (map On b ++ (Fail ∷ [])) v .said)) (nothing-more (asking reading c t)) ∙ lost reading refl (read-failed n []) b c t
-  fails-there (b₁ ∷ []) l b c t =
-      ap (λ (v : World). calls (after (map On b ++ (Fail ∷ [])) v .said)) (control-comes b₁ c t)
-      ∙ lost (writing (wordOf (buses b₁ c) (Register.Control n))) refl (write-failed n _ _ []) b (buses b₁ c) (t ++ spokenOf b₁ c)
-      ∙ rw (calls-buses t b₁ c)
-  fails-there (b₁ ∷ b₂ ∷ r) l b c t = let h : suc (suc (length r)) ≤ 1 = l in absurd (omega (arith, h))
-
-pub request-fails : (v : World) → Fit (v .chip) (v .said) → v .doing ≡ idle → (n : ℕ) (header : Header) (seq : ℕ) (payload : List ℕ)
-    → WellFormed n header seq payload → (b₁ b₂ b₃ b₄ b₅ : List Bus)
-    → pushAnswer (v .chip) (buses b₂ (buses b₁ (v .chip))) n payload ≡ Outcome.Done
-    → (r : List (List Bus)) → length r ≤ 1 → (b : List Bus)
-    → calls (after (Begin (Transmit n header seq payload) ∷ (calm (b₁ ∷ b₂ ∷ b₃ ∷ b₄ ∷ b₅ ∷ r) ++ (map On b ++ (Fail ∷ [])))) v .said)
-    ≡ calls (v .said) ++ (called (Push n header seq payload) Outcome.Done [] ∷ called (Request n) (Outcome.Refused Refusal.SpiRead) [] ∷ [])
-unfolding ofTransmit transmitStart push.startOf
-request-fails v g e n header seq payload (bs, h) b₁ b₂ b₃ b₄ b₅ o r l b =
-    let c : Model = v .chip in
-    let t : List Said = v .said in
-    let xs : List (List Bus) = b₁ ∷ b₂ ∷ b₃ ∷ b₄ ∷ b₅ ∷ r in
-    let tail : List Event = map On b ++ (Fail ∷ []) in
-    let first : List Said = called (Push n header seq payload) Outcome.Done [] ∷ [] in
-    let second : List Said = called (Request n) (Outcome.Refused Refusal.SpiRead) [] ∷ [] in
-    let (i, coded) = encoded-for n header seq payload bs h in
-    let (x, y, z) = good c (buses b₂ (buses b₁ c)) n payload (λ q. q ≡ Outcome.Done) (λ w q. let z : _≡_ {A = ℕ} 0 1 = cc in absurd (omega (arith, z))) o in
-    let p : Plan = requestStart n in
-    let (d, u, s, q) = from-control true n header seq payload bs p idleFetch i coded b₁ b₂ b₃ b₄ b₅ c t g x y z in
-    let begin : plan.outcomeOf p ≡ Outcome.Running = rw (request-begins n i) in
-    ap (λ (w : World). calls (w .said))
-    (begun v e (Transmit n header seq payload) (calm xs ++ tail)
-    ∙ ap (after (calm xs ++ tail)) (begins true n header seq payload bs h p c t)
-    ∙ after-append (calm xs) tail _
-    ∙ ap (after tail) (q r ∙ ap (after (calm r)) (half n (length payload) bs p idleFetch header seq payload u d [] begin
-    ∙ ap (λ (y : Plan). world d (busy (Request n) (pushing true n (length payload) bs PushAt.Done y idleFetch)) (u ++ first)) (request-begins n i))))
-    ∙ fails-there n i (pushAt n (length payload) bs PushAt.Done) refl idleFetch r l b d (u ++ first)
-    ∙ ap (λ (w : List Said). w ++ second) (calls-snoc u (Push n header seq payload) Outcome.Done [] ∙ ap (λ (w : List Said). w ++ first) s)
-    ∙ append-assoc (calls t) first second
+pub pushed-iff : (v : World) → Fit (v .chip) (v .said) → v .doing ≡ idle → (n : ℕ) (header : Header) (seq : ℕ) (payload : List ℕ)
+    → WellFormed n header seq payload → (xs : List (List Bus)) → length xs ≡ 5
+    → ((x : Said) × Answers v (Push n header seq payload) xs (x ∷ []) × (acceptedIn n x ≡ push.toSend header seq payload ∷ [])) ↔ Takes (atStatus v xs) n payload
+pushed-iff v g e n header seq payload (bs, h) xs l =
+    five (λ ys. ((x : Said) × Answers v (Push n header seq payload) ys (x ∷ []) × (acceptedIn n x ≡ push.toSend header seq payload ∷ [])) ↔ Takes (atStatus v ys) n payload)
+    (push-iff v g e n header seq payload bs h) xs (omega (arith, l))

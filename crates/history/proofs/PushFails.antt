@@ -4,7 +4,7 @@ use Prim.Native.Nat.{ℕ, _+_, _≤_, _<_}
 use native.Mathlib.Omega.{arith}
 use borrow.Author.Tests.{ltb-true, ltb-false}
 use mathlib.Core.Path.{_≡_, refl, sym, ap, subst, _∙_}
-use mathlib.Core.Bool.{true, false}
+use mathlib.Core.Bool.{Bool, true, false}
 use mathlib.Core.List.{List, [], _∷_, _++_, map, append-assoc}
 use lib.ListN.{length, getD}
 use lib.Dec.{ltb}
@@ -18,7 +18,9 @@ use Rattle.operation.specs.declared.place.Register.{Register}
 use Rattle.call.specs.declared.Outcome.{Outcome}
 use Rattle.tx_fifo.specs.declared.push.PushAt.{PushAt}
 use Rattle.tx_fifo.specs.Step as push
-use Rattle.driver.specs.Start.{idlePlan, idleFetch, ofPush}
+use Rattle.plan.specs.declared.plan.Plan.{Plan}
+use Rattle.transmit.specs.Transmit.{requestStart, transmitStart}
+use Rattle.driver.specs.Start.{idlePlan, idleFetch, ofPush, ofTransmit}
 use Rattle.driver.specs.Step.{askOf, outcomeOf}
 use Rattle.driver.specs.declared.calls.Call.{Call}
 use Rattle.ring.specs.Ring.{sending, depth}
@@ -29,7 +31,7 @@ use Rattle.state.specs.Model.{fifoAt, frozenAt, written}
 use Rattle.bank.specs.Registers.{wordOf}
 use Rattle.bus.specs.Held.{slotOf}
 use Rattle.reach.specs.Bus.{Bus}
-use Rattle.history.specs.Command.{Command, Push}
+use Rattle.history.specs.Command.{Command, Push, Transmit}
 use Rattle.history.specs.History.{Event, Begin, Exchange, Fail, On, Said, Doing, idle, busy, World, Heard, waits, heard, isOver, halfway, settled, event, after}
 use Rattle.history.specs.Demand.{buses, calm, all, ButFor, OnlyFree}
 use Rattle.history.proofs.Slots.{ram-long, slot-inside}
@@ -37,7 +39,7 @@ use Rattle.history.proofs.Foot.{but-same, but-written, but-buses}
 use Rattle.history.proofs.Line.{world}
 use Rattle.history.proofs.Asks.{hear-control, hear-status, hear-address}
 use Rattle.history.proofs.Replies.{control-gentle, next-control, next-status, next-address}
-use Rattle.history.proofs.Pushing.{pushing, turned, still, refused}
+use Rattle.history.proofs.Pushing.{commanded, pushing, turned, still, refused}
 use Rattle.history.proofs.Mid.{PushMid}
 use Rattle.history.proofs.PushSteps.{object-fits, starting, inside, object-told, encoded-for}
 use Rattle.history.proofs.Calm.{spokenOf, after-append, after-buses, after-calm, Fit, buses-fit, buses-fixed, buses-push, buses-append}
@@ -104,13 +106,13 @@ left (PushAt.Refused r) = 0
 same-free : (n : ℕ) (c d : Model) → d ≡ c → OnlyFree n c d
 same-free n c d e = subst (OnlyFree n c) (sym e) (but-same (slotOf c n (fifoAt c n .count)) (size (frozenAt c n)) c)
 
-module _ (n : ℕ) (header : Header) (seq : ℕ) (payload bytes : List ℕ) (i : isFifo n ≡ true)
+module _ (also : Bool) (q : Plan) (n : ℕ) (header : Header) (seq : ℕ) (payload bytes : List ℕ) (i : isFifo n ≡ true)
     (coded : encoding (push.toSend header seq payload) ≡ Encoding.object bytes) (b : List Bus) where
   abbrev at : PushAt → Call
-  at a = pushing false n (length payload) bytes a idlePlan idleFetch
+  at a = pushing also n (length payload) bytes a q idleFetch
 
   abbrev k : Command
-  k = Push n header seq payload
+  k = commanded also n header seq payload
 
   abbrev Mid : Model → PushAt → Type 0
   Mid c a = PushMid c n (push.toSend header seq payload) bytes a
@@ -143,10 +145,10 @@ module _ (n : ℕ) (header : Header) (seq : ℕ) (payload bytes : List ℕ) (i :
     After rx a = Ends bs c (settled c t k (at a) rx)
 
     stays : (rx : List ℕ) (a : PushAt) → push.doneAt a ≡ false → push.outcomeAt a ≡ Outcome.Running → length bs ≤ left a → Mid c a → After rx a
-    stays rx a x y l g = rw (still n (length payload) bytes idlePlan idleFetch header seq payload t c rx false a x y) (rest a l g)
+    stays rx a x y l g = rw (still n (length payload) bytes q idleFetch header seq payload t c rx also a x y) (rest a l g)
 
     ends : (rx : List ℕ) (x : Refusal) → After rx (PushAt.Refused x)
-    ends rx x = rw (refused n (length payload) bytes idlePlan idleFetch header seq payload t c rx false x) (same-free n _ _ (idle-chip bs b c _))
+    ends rx x = rw (refused n (length payload) bytes q idleFetch header seq payload t c rx also x) (same-free n _ _ (idle-chip bs b c _))
 
     abbrev Exchanged : PushAt → Type 0
     Exchanged a = length bs < left a → Mid c a → Ends bs c (event Exchange (busy k (at a)) c t)
@@ -155,7 +157,7 @@ module _ (n : ℕ) (header : Header) (seq : ℕ) (payload bytes : List ℕ) (i :
     unfolding event
     reads-control l g =
         let rx : List ℕ = leBytes (wordOf c (Register.Control n)) in
-        rw (turned n (length payload) bytes idlePlan idleFetch false PushAt.Control refl t k c _ _ _ (hear-control _ c n i) (next-control c n (length payload) (length bytes)))
+        rw (turned n (length payload) bytes q idleFetch also PushAt.Control refl t k c _ _ _ (hear-control _ c n i) (next-control c n (length payload) (length bytes)))
         (by-if (After rx) (sending (frozenAt c n))
         (λ x. by-if (After rx) (ltb (payloadOf (frozenAt c n)) (length payload))
         (λ y. ends rx Refusal.FifoTooSmall)
@@ -167,7 +169,7 @@ module _ (n : ℕ) (header : Header) (seq : ℕ) (payload bytes : List ℕ) (i :
     unfolding event
     reads-status w l g =
         let rx : List ℕ = leBytes (wordOf c (Register.Status n)) in
-        rw (turned n (length payload) bytes idlePlan idleFetch false (PushAt.Status w) refl t k c _ _ _ (hear-status _ c n i)
+        rw (turned n (length payload) bytes q idleFetch also (PushAt.Status w) refl t k c _ _ _ (hear-status _ c n i)
         (next-status c n (length payload) (length bytes) (f .sound) (g .tx) w))
         (by-if (After rx) (ltb (fifoAt c n .count) (depth (frozenAt c n)))
         (λ x. stays rx (PushAt.Address w) refl refl (omega arith) (g, ltb-true _ _ x))
@@ -176,7 +178,7 @@ module _ (n : ℕ) (header : Header) (seq : ℕ) (payload bytes : List ℕ) (i :
     reads-address : (w : ℕ) → Exchanged (PushAt.Address w)
     unfolding event
     reads-address w l g =
-        rw (turned n (length payload) bytes idlePlan idleFetch false (PushAt.Address w) refl t k c _ _ _ (hear-address _ c n i)
+        rw (turned n (length payload) bytes q idleFetch also (PushAt.Address w) refl t k c _ _ _ (hear-address _ c n i)
         (next-address c n (length payload) (length bytes) (f .sound) (g .0 .tx) w (inside c (f .sound) n header seq payload bytes i coded w (g .0))))
         (stays _ (PushAt.Write w _) refl refl (omega arith) (g .0, g .1, refl))
 
@@ -185,7 +187,7 @@ module _ (n : ℕ) (header : Header) (seq : ℕ) (payload bytes : List ℕ) (i :
     writes-object w a l g =
         let d : Model = written c (slotOf c n (fifoAt c n .count)) bytes in
         let told = object-told c (f .sound) n header seq payload bytes i coded w a g in
-        rw (turned n (length payload) bytes idlePlan idleFetch false (PushAt.Write w a) refl t k c [] d (PushAt.Commit w) told refl)
+        rw (turned n (length payload) bytes q idleFetch also (PushAt.Write w a) refl t k c [] d (PushAt.Commit w) told refl)
         (wrote c t f w a g _ (settled-chip d t k (at (PushAt.Commit w)) []) bs l)
 
     exchanged : (a : PushAt) → Exchanged a
@@ -208,19 +210,27 @@ module _ (n : ℕ) (header : Header) (seq : ℕ) (payload bytes : List ℕ) (i :
 
 -- ---- from the beginning
 
-module _ (n : ℕ) (header : Header) (seq : ℕ) (payload : List ℕ) (bs : List (List Bus)) (few : length bs ≤ 4) (b : List Bus) (c : Model) (t : List Said) (f : Fit c t) where
+module _ (also : Bool) (q : Plan) (n : ℕ) (header : Header) (seq : ℕ) (payload : List ℕ) (bs : List (List Bus)) (few : length bs ≤ 4) (b : List Bus) (c : Model) (t : List Said) (f : Fit c t) where
   begun-as : (x : Encoding) → push.encodingFor n header seq payload ≡ x
-      → OnlyFree n (buses (all bs ++ b) c) (after (ending bs b) (settled c t (Push n header seq payload) (starting false n (length payload) x idlePlan) []) .chip)
+      → OnlyFree n (buses (all bs ++ b) c) (after (ending bs b) (settled c t (commanded also n header seq payload) (starting also n (length payload) x q) []) .chip)
   begun-as (Encoding.refused x) e =
-      rw (refused n (length payload) [] idlePlan idleFetch header seq payload t c [] false x) (same-free n _ _ (idle-chip bs b c _))
+      rw (refused n (length payload) [] q idleFetch header seq payload t c [] also x) (same-free n _ _ (idle-chip bs b c _))
   begun-as (Encoding.object bytes) e =
       let (i, coded) = encoded-for n header seq payload bytes e in
-      rw (still n (length payload) bytes idlePlan idleFetch header seq payload t c [] false PushAt.Control refl refl)
-      (under-way n header seq payload bytes i coded b bs PushAt.Control c t f few tt)
+      rw (still n (length payload) bytes q idleFetch header seq payload t c [] also PushAt.Control refl refl)
+      (under-way also q n header seq payload bytes i coded b bs PushAt.Control c t f few tt)
 
 pub push-fails : (v : World) → Fit (v .chip) (v .said) → v .doing ≡ idle → (n : ℕ) (header : Header) (seq : ℕ) (payload : List ℕ)
     → (bs : List (List Bus)) → length bs ≤ 4 → (b : List Bus)
     → OnlyFree n (buses (all bs ++ b) (v .chip)) (after (Begin (Push n header seq payload) ∷ (calm bs ++ (map On b ++ (Fail ∷ [])))) v .chip)
 unfolding after event ofPush push.startOf
 push-fails v f e n header seq payload bs few b =
-    rw e (begun-as n header seq payload bs few b (v .chip) (v .said) f (push.encodingFor n header seq payload) refl)
+    rw e (begun-as false idlePlan n header seq payload bs few b (v .chip) (v .said) f (push.encodingFor n header seq payload) refl)
+
+-- the push that is the first half of a transmit
+pub transmit-fails : (v : World) → Fit (v .chip) (v .said) → v .doing ≡ idle → (n : ℕ) (header : Header) (seq : ℕ) (payload : List ℕ)
+    → (bs : List (List Bus)) → length bs ≤ 4 → (b : List Bus)
+    → OnlyFree n (buses (all bs ++ b) (v .chip)) (after (Begin (Transmit n header seq payload) ∷ (calm bs ++ (map On b ++ (Fail ∷ [])))) v .chip)
+unfolding after event ofTransmit transmitStart push.startOf
+transmit-fails v f e n header seq payload bs few b =
+    rw e (begun-as true (requestStart n) n header seq payload bs few b (v .chip) (v .said) f (push.encodingFor n header seq payload) refl)

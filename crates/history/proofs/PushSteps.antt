@@ -11,8 +11,8 @@ use lib.Dec.{ltb, leb}
 use lib.ListN.{length, take, replicate}
 use lib.Seq.{take-append-seam}
 use Rattle.laws.proofs.Choice.{by-if}
-use Rattle.field.specs.Field.{mark}
-use Rattle.fifo.specs.Control.{CiFIFOCON, UINC, payloadOf, isFifo}
+use Rattle.field.specs.Field.{read, mark}
+use Rattle.fifo.specs.Control.{CiFIFOCON, UINC, TXREQ, payloadOf, isFifo}
 use Rattle.parts.specs.Parts.{zeroed}
 use Rattle.words.specs.Words.{leBytes, roundUp}
 use Rattle.spi.specs.declared.refusal.Refusal.{Refusal}
@@ -46,18 +46,18 @@ use Rattle.bus.specs.Held.{slotOf}
 use Rattle.history.specs.Command.{Command, Push, started}
 use Rattle.history.specs.History.{Said, called, idle, hears, heard, settled, goesOn}
 use Rattle.history.specs.Demand.{Each, TellsWell, NotCaused}
-use Rattle.history.proofs.Sound.{Sound}
+use Rattle.history.proofs.Sound.{Sound, Asked}
 use Rattle.history.proofs.Bus.{Listed, Moves, payload-whole, map-only}
 use Rattle.history.proofs.Line.{spoken}
 use Rattle.history.proofs.Kept.{spoken-sound}
-use Rattle.history.proofs.Slots.{slot-inside, filled, filled-held, filled-item, filled-sound, more-held}
+use Rattle.history.proofs.Slots.{slot-inside, filled, filled-held, filled-item, filled-sound, next-asked, more-held}
 use Rattle.history.proofs.Asks.{hear-control, hear-status, hear-address, tell-ram, tell-control}
-use Rattle.history.proofs.Replies.{control-gentle, next-control, next-status, next-address, uinc-written, mark-small}
+use Rattle.history.proofs.Replies.{control-gentle, control-asked, next-control, next-status, next-address, uinc-written, mark-small}
 use Rattle.history.proofs.Plans.{request-harmless}
 use Rattle.history.proofs.Requests.{request-begins, request-starts}
 use Rattle.history.proofs.Pushing.{commanded, placed, pushAt, pushing, turned, failed, still, refused, done, half}
 use Rattle.history.proofs.Mid.{Tx, PushMid}
-use Rattle.history.proofs.Inv.{pushes, requests, Inv, goes-on, says-more, quiet-refusal}
+use Rattle.history.proofs.Inv.{PushAsked, pushes, requests, Inv, goes-on, says-more, quiet-refusal}
 
 -- a payload that is not longer than PLSIZE means fits a slot with its header
 pub object-fits : (c : Model) (n : ℕ) (header : Header) (seq : ℕ) (payload bs : List ℕ) → encoding (push.toSend header seq payload) ≡ Encoding.object bs
@@ -116,13 +116,13 @@ module _ (c : Model) (o : Sound c) (n : ℕ) (header : Header) (seq : ℕ) (payl
   -- v is the FIFO with its new control word
   pub uinc-told : (w : ℕ) → PushMid c n sent bs (PushAt.Commit w)
       → (v : Fifo) × (spoken (Ask.Word (CiFIFOCON .address n) (mark UINC true w)) (zeroed 76 bs) c ≡ hears Answer.Exchanged [] (withFifo c n (claimed v)))
-      × (v .head ≡ fifoAt c n .head) × (v .count ≡ fifoAt c n .count)
+      × (v .head ≡ fifoAt c n .head) × (v .count ≡ fifoAt c n .count) × (read TXREQ (v .control) ≡ read TXREQ w)
   uinc-told w g =
       let x = g .0 in
-      let (v, is, vh, vc) = uinc-written c n o w (x .word .small) (x .word .freset) in
-      (v, tell-control (zeroed 76 bs) c n i (mark UINC true w) (mark-small w (x .word .small)) ∙ rw (is, raised (frozenAt c n) v (x .tx) (rw vc (g .1))), vh, vc)
+      let (v, is, vh, vc, va) = uinc-written c n o w (x .word .small) (x .word .freset) in
+      (v, tell-control (zeroed 76 bs) c n i (mark UINC true w) (mark-small w (x .word .small)) ∙ rw (is, raised (frozenAt c n) v (x .tx) (rw vc (g .1))), vh, vc, va)
 
-module _ (c : Model) (o : Sound c) (t : List Said) (l : Listed c t) (e : Each TellsWell t)
+module _ (X : ℕ → Type 0) (c : Model) (o : Sound c) (q : Asked X c) (t : List Said) (l : Listed c t) (e : Each TellsWell t)
     (also : Bool) (n : ℕ) (header : Header) (seq : ℕ) (payload bs : List ℕ) (p : Plan) (f : Fetch)
     (i : isFifo n ≡ true) (coded : encoding (push.toSend header seq payload) ≡ Encoding.object bs) (r : also ≡ true → p ≡ requestStart n) where
   abbrev k : Command
@@ -135,22 +135,22 @@ module _ (c : Model) (o : Sound c) (t : List Said) (l : Listed c t) (e : Each Te
   m = push.toSend header seq payload
 
   abbrev After : Model → PushAt → List ℕ → Type 0
-  After d a rx = Inv (settled d t k (at a) rx)
+  After d a rx = Inv X (settled d t k (at a) rx)
 
   -- it still asks for something, and nothing of the chip changed
-  stays : (rx : List ℕ) (a : PushAt) → push.doneAt a ≡ false → push.outcomeAt a ≡ Outcome.Running → PushMid c n m bs a → After c a rx
-  stays rx a x y g =
+  stays : (rx : List ℕ) (a : PushAt) → push.doneAt a ≡ false → push.outcomeAt a ≡ Outcome.Running → PushMid c n m bs a → PushAsked (X n) a → After c a rx
+  stays rx a x y g z =
       rw (still n (length payload) bs p f header seq payload t c rx also a x y)
-      (goes-on c t l e c k (at a) o (λ j. refl) (pushes also n header seq payload bs a p f i coded r g refl refl))
+      (goes-on X c t l e c k (at a) o q (λ j. refl) (pushes also n header seq payload bs a p f i coded r g z refl refl))
 
   -- it is refused
   ends : (rx : List ℕ) (x : Refusal) → NotCaused x → After c (PushAt.Refused x) rx
   ends rx x w =
       rw (refused n (length payload) bs p f header seq payload t c rx also x)
-      (says-more c t l e c idle _ o (quiet-refusal c (Push n header seq payload) x []) w tt)
+      (says-more X c t l e c idle _ o q (quiet-refusal c (Push n header seq payload) x []) w tt)
 
   abbrev Exchanged : PushAt → Type 0
-  Exchanged a = Inv (goesOn t k (at a) (heard true (at a) c))
+  Exchanged a = Inv X (goesOn t k (at a) (heard true (at a) c))
 
   reads-control : Exchanged PushAt.Control
   reads-control =
@@ -161,66 +161,67 @@ module _ (c : Model) (o : Sound c) (t : List Said) (l : Listed c t) (e : Each Te
       (by-if P (sending (frozenAt c n))
       (λ x. by-if P (ltb (payloadOf (frozenAt c n)) (length payload))
       (λ y. ends rx Refusal.FifoTooSmall refl)
-      (λ y. stays rx (PushAt.Status _) refl refl (record { word = w; tx = x; fits = object-fits c n header seq payload bs coded x (ltb-false _ _ y) })))
+      (λ y. stays rx (PushAt.Status _) refl refl (record { word = w; tx = x; fits = object-fits c n header seq payload bs coded x (ltb-false _ _ y) })
+      (λ z. control-asked c n ∙ q n z)))
       (λ x. ends rx Refusal.FifoNotTx refl))
 
-  reads-status : (w : ℕ) → PushMid c n m bs (PushAt.Status w) → Exchanged (PushAt.Status w)
-  reads-status w g =
+  reads-status : (w : ℕ) → PushMid c n m bs (PushAt.Status w) → PushAsked (X n) (PushAt.Status w) → Exchanged (PushAt.Status w)
+  reads-status w g z =
       let rx : List ℕ = leBytes (wordOf c (Register.Status n)) in
       rw (turned n (length payload) bs p f also (PushAt.Status w) refl t k c _ _ _ (hear-status _ c n i) (next-status c n (length payload) (length bs) o (g .tx) w))
       (by-if (λ a. After c a rx) (ltb (fifoAt c n .count) (depth (frozenAt c n)))
-      (λ x. stays rx (PushAt.Address w) refl refl (g, ltb-true _ _ x))
+      (λ x. stays rx (PushAt.Address w) refl refl (g, ltb-true _ _ x) z)
       (λ x. ends rx Refusal.FifoFull refl))
 
-  reads-address : (w : ℕ) → PushMid c n m bs (PushAt.Address w) → Exchanged (PushAt.Address w)
-  reads-address w g =
+  reads-address : (w : ℕ) → PushMid c n m bs (PushAt.Address w) → PushAsked (X n) (PushAt.Address w) → Exchanged (PushAt.Address w)
+  reads-address w g z =
       rw (turned n (length payload) bs p f also (PushAt.Address w) refl t k c _ _ _ (hear-address _ c n i)
       (next-address c n (length payload) (length bs) o (g .0 .tx) w (inside c o n header seq payload bs i coded w (g .0))))
-      (stays _ (PushAt.Write w _) refl refl (g .0, g .1, refl))
+      (stays _ (PushAt.Write w _) refl refl (g .0, g .1, refl) z)
 
-  writes-object : (w a : ℕ) → PushMid c n m bs (PushAt.Write w a) → Exchanged (PushAt.Write w a)
-  writes-object w a g =
+  writes-object : (w a : ℕ) → PushMid c n m bs (PushAt.Write w a) → PushAsked (X n) (PushAt.Write w a) → Exchanged (PushAt.Write w a)
+  writes-object w a g z =
       let x = g .0 in
       let d : Model = filled c n bs in
       rw (
         turned n (length payload) bs p f also (PushAt.Write w a) refl t k c [] d (PushAt.Commit w) (object-told c o n header seq payload bs i coded w a g) refl,
         still n (length payload) bs p f header seq payload t d [] also (PushAt.Commit w) refl refl,
       )
-      (goes-on c t l e d k (at (PushAt.Commit w)) (filled-sound c o n i (g .1) bs (x .fits)) (filled-held c o n i (g .1) bs (x .fits))
-      (pushes also n header seq payload bs (PushAt.Commit w) p f i coded r (object-mid c o n header seq payload bs i coded w a g) refl refl))
+      (goes-on X c t l e d k (at (PushAt.Commit w)) (filled-sound c o n i (g .1) bs (x .fits)) q (filled-held c o n i (g .1) bs (x .fits))
+      (pushes also n header seq payload bs (PushAt.Commit w) p f i coded r (object-mid c o n header seq payload bs i coded w a g) z refl refl))
 
   -- the message is in the FIFO; the request of a transmit comes next
-  ended : (d : Model) → Sound d → Moves c (called (Push n header seq payload) Outcome.Done []) d → (b : Bool) → (b ≡ true → p ≡ requestStart n)
-      → Inv (settled d t (commanded b n header seq payload) (pushing b n (length payload) bs PushAt.Done p f) [])
-  ended d s v false q = rw (done n (length payload) bs p f header seq payload t d []) (says-more c t l e d idle _ s v tt tt)
-  ended d s v true q =
-      rw (half n (length payload) bs p f header seq payload t d [] (rw (q refl, request-begins n i)))
-      (says-more c t l e d _ _ s v tt
-      (requests true n p (pushAt n (length payload) bs PushAt.Done) f (λ x. refl) (rw (q refl) (request-starts n)) (rw (q refl) (request-harmless n))
-      (rw (q refl, request-begins n i)) refl refl))
+  ended : (d : Model) → Sound d → Asked X d → Moves c (called (Push n header seq payload) Outcome.Done []) d → (b : Bool) → (b ≡ true → p ≡ requestStart n)
+      → Inv X (settled d t (commanded b n header seq payload) (pushing b n (length payload) bs PushAt.Done p f) [])
+  ended d s a v false b = rw (done n (length payload) bs p f header seq payload t d []) (says-more X c t l e d idle _ s a v tt tt)
+  ended d s a v true b =
+      rw (half n (length payload) bs p f header seq payload t d [] (rw (b refl, request-begins n i)))
+      (says-more X c t l e d _ _ s a v tt
+      (requests true n p (pushAt n (length payload) bs PushAt.Done) f (λ x. refl) (rw (b refl) (request-starts n)) (rw (b refl) (request-harmless X n))
+      (rw (b refl, request-begins n i)) refl refl))
 
-  writes-control : (w : ℕ) → PushMid c n m bs (PushAt.Commit w) → Exchanged (PushAt.Commit w)
+  writes-control : (w : ℕ) → PushMid c n m bs (PushAt.Commit w) → PushAsked (X n) (PushAt.Commit w) → Exchanged (PushAt.Commit w)
   unfolding claimed
-  writes-control w g =
-      let (v, told, vh, vc) = uinc-told c o n header seq payload bs i coded w g in
+  writes-control w g z =
+      let (v, told, vh, vc, va) = uinc-told c o n header seq payload bs i coded w g in
       let d : Model = withFifo c n (claimed v) in
       let s : Sound d = spoken-sound _ _ c o _ told refl in
       let said : Said = called (Push n header seq payload) Outcome.Done [] in
       let moved : Moves c said d = λ j h. rw (map-only j n m) (rw (g .2) at (more-held c o n i (claimed v) vh (ap (λ (y : ℕ). y + 1) vc) j)) in
       rw (turned n (length payload) bs p f also (PushAt.Commit w) refl t k c [] d PushAt.Done told refl)
-      (ended d s moved also r)
+      (ended d s (next-asked c o n i (claimed v) X q (λ x. va ∙ z x)) moved also r)
 
-  pub push-exchanged : (a : PushAt) → PushMid c n m bs a → Exchanged a
-  push-exchanged PushAt.Control g = reads-control
-  push-exchanged (PushAt.Status w) g = reads-status w g
-  push-exchanged (PushAt.Address w) g = reads-address w g
-  push-exchanged (PushAt.Write w a) g = writes-object w a g
-  push-exchanged (PushAt.Commit w) g = writes-control w g
-  push-exchanged PushAt.Done g = absurd g
-  push-exchanged (PushAt.Refused x) g = absurd g
+  pub push-exchanged : (a : PushAt) → PushMid c n m bs a → PushAsked (X n) a → Exchanged a
+  push-exchanged PushAt.Control g z = reads-control
+  push-exchanged (PushAt.Status w) g z = reads-status w g z
+  push-exchanged (PushAt.Address w) g z = reads-address w g z
+  push-exchanged (PushAt.Write w a) g z = writes-object w a g z
+  push-exchanged (PushAt.Commit w) g z = writes-control w g z
+  push-exchanged PushAt.Done g z = absurd g
+  push-exchanged (PushAt.Refused x) g z = absurd g
 
   -- an exchange that fails is 2 at the RAM write, 1 elsewhere
-  pub push-failed : (a : PushAt) → PushMid c n m bs a → Inv (goesOn t k (at a) (heard false (at a) c))
+  pub push-failed : (a : PushAt) → PushMid c n m bs a → Inv X (goesOn t k (at a) (heard false (at a) c))
   push-failed PushAt.Control g = rw (failed n (length payload) bs p f also PushAt.Control refl t k c) (ends [] Refusal.SpiRead refl)
   push-failed (PushAt.Status w) g = rw (failed n (length payload) bs p f also (PushAt.Status w) refl t k c) (ends [] Refusal.SpiRead refl)
   push-failed (PushAt.Address w) g = rw (failed n (length payload) bs p f also (PushAt.Address w) refl t k c) (ends [] Refusal.SpiRead refl)
@@ -269,22 +270,22 @@ encoded-for n header seq payload bs =
 abbrev pub starting : Bool → (n size : ℕ) → Encoding → Plan → Call
 starting also n size x p = record { at = placed also; plan = p; push = push.begun n size (encodedAs x); fetch = idleFetch }
 
-module _ (c : Model) (o : Sound c) (t : List Said) (l : Listed c t) (e : Each TellsWell t) (also : Bool) (n : ℕ) (header : Header) (seq : ℕ) (payload : List ℕ) where
+module _ (X : ℕ → Type 0) (c : Model) (o : Sound c) (q : Asked X c) (t : List Said) (l : Listed c t) (e : Each TellsWell t) (also : Bool) (n : ℕ) (header : Header) (seq : ℕ) (payload : List ℕ) where
   begins-as : (x : Encoding) (p : Plan) → (also ≡ true → p ≡ requestStart n) → push.encodingFor n header seq payload ≡ x → NotRefused x
-      → Inv (settled c t (commanded also n header seq payload) (starting also n (length payload) x p) [])
-  begins-as (Encoding.refused x) p q g h =
+      → Inv X (settled c t (commanded also n header seq payload) (starting also n (length payload) x p) [])
+  begins-as (Encoding.refused x) p r g h =
       rw (refused n (length payload) [] p idleFetch header seq payload t c [] also x)
-      (says-more c t l e c idle _ o (quiet-refusal c (Push n header seq payload) x []) h tt)
-  begins-as (Encoding.object bs) p q g h =
+      (says-more X c t l e c idle _ o q (quiet-refusal c (Push n header seq payload) x []) h tt)
+  begins-as (Encoding.object bs) p r g h =
       let (i, coded) = encoded-for n header seq payload bs g in
       rw (still n (length payload) bs p idleFetch header seq payload t c [] also PushAt.Control refl refl)
-      (goes-on c t l e c _ _ o (λ j. refl) (pushes also n header seq payload bs PushAt.Control p idleFetch i coded q tt refl refl))
+      (goes-on X c t l e c _ _ o q (λ j. refl) (pushes also n header seq payload bs PushAt.Control p idleFetch i coded r tt tt refl refl))
 
-pub push-begins : (c : Model) → Sound c → (t : List Said) → Listed c t → Each TellsWell t → (also : Bool) (n : ℕ) (header : Header) (seq : ℕ) (payload : List ℕ)
-    → Inv (settled c t (commanded also n header seq payload) (started (commanded also n header seq payload)) [])
+pub push-begins : (X : ℕ → Type 0) (c : Model) → Sound c → Asked X c → (t : List Said) → Listed c t → Each TellsWell t → (also : Bool) (n : ℕ) (header : Header) (seq : ℕ) (payload : List ℕ)
+    → Inv X (settled c t (commanded also n header seq payload) (started (commanded also n header seq payload)) [])
 unfolding ofPush ofTransmit push.startOf transmitStart
-push-begins c o t l e false n header seq payload =
-    begins-as c o t l e false n header seq payload (push.encodingFor n header seq payload) idlePlan
+push-begins X c o q t l e false n header seq payload =
+    begins-as X c o q t l e false n header seq payload (push.encodingFor n header seq payload) idlePlan
     (λ x. let z : _≡_ {A = ℕ} 0 1 = cc in absurd (omega (arith, z))) refl (encoding-caused n header seq payload)
-push-begins c o t l e true n header seq payload =
-    begins-as c o t l e true n header seq payload (push.encodingFor n header seq payload) (requestStart n) (λ x. refl) refl (encoding-caused n header seq payload)
+push-begins X c o q t l e true n header seq payload =
+    begins-as X c o q t l e true n header seq payload (push.encodingFor n header seq payload) (requestStart n) (λ x. refl) refl (encoding-caused n header seq payload)

@@ -14,10 +14,10 @@ use Rattle.laws.specs.If.{if_then_else_}
 use Rattle.field.specs.Field.{Field, place as at, read, flag, mark, digit, within}
 use Rattle.field.specs.Settings.{_:=_, settings}
 use Rattle.field.proofs.Laws.{set-lt, read-write, write-other}
-use Rattle.field.proofs.Sets.{own}
+use Rattle.field.proofs.Sets.{off, own}
 use Rattle.words.specs.Words.{byteOf, leBytes, leAt}
 use Rattle.words.proofs.Laws.{le-back, le-length}
-use Rattle.fifo.specs.Control.{TXEN, RXTSEN, PLSIZE, UINC, FRESET, payloads, payloadOf}
+use Rattle.fifo.specs.Control.{TXEN, RXTSEN, PLSIZE, UINC, TXREQ, FRESET, payloads, payloadOf}
 use Rattle.fifo.specs.Status.{TFNRFNIF, TFERFFIF, RXOVIF}
 use Rattle.spi.specs.declared.refusal.Refusal.{Refusal}
 use Rattle.spi.specs.declared.refusal.Done.{Done}
@@ -98,6 +98,11 @@ module _ (frozen w : ℕ) (f : Fifo) (calm : flag FRESET w ≡ false) where
   unfolding commanded
   commanded-plain u = rw (calm, u)
 
+-- TXREQ is that of w
+kept-asked : (w : ℕ) (f : Fifo) → read TXREQ (kept w f .control) ≡ read TXREQ w
+unfolding controlled
+kept-asked w f = off TXREQ (UINC := 0 ∷ FRESET := 0 ∷ []) w refl (omega arith, (omega arith, tt))
+
 -- a word with UINC and FRESET at 0
 pub record Gentle (w : ℕ) : Type 0 where
   pub small : w < 2 ^ 32
@@ -132,6 +137,10 @@ module _ (c : Model) (n : ℕ) where
   unfolding wordOf stamped
   control-stamp t = rw t (ap (λ (x : ℕ). eqb x 1) (sent-field 32 RXTSEN word refl ∙ frozen-kept (frozenAt c n) (fifoAt c n) .0))
 
+  pub control-asked : read TXREQ (word % 2 ^ 32) ≡ read TXREQ (fifoAt c n .control)
+  unfolding wordOf
+  control-asked = sent-field 32 TXREQ word refl ∙ control-off TXREQ (frozenAt c n) (fifoAt c n) refl
+
   module _ (s : Sound c) where
     pub control-gentle : Gentle (word % 2 ^ 32)
     unfolding wordOf
@@ -165,21 +174,23 @@ module _ (c : Model) (n : ℕ) where
     -- with UINC; the FIFO has another control word, and is increased
     pub uinc-written : (v : ℕ) → v < 2 ^ 32 → read FRESET v ≡ 0
         → (g : Fifo) × (controlWritten c n (mark UINC true v) ≡ withFifo c n (increased (frozenAt c n) g)) × (g .head ≡ fifoAt c n .head) × (g .count ≡ fifoAt c n .count)
+        × (read TXREQ (g .control) ≡ read TXREQ v)
     unfolding controlled
     uinc-written v h z =
         let w : ℕ = mark UINC true v in
         let u : flag UINC w ≡ true = ap (λ (x : ℕ). eqb x 1) (read-write UINC 1 v (omega arith)) in
         let r : flag FRESET w ≡ false = ap (λ (x : ℕ). eqb x 1) (write-other UINC FRESET 1 v (omega arith) refl ∙ z) in
-        (kept w (fifoAt c n), written-out w ∙ ap (withFifo c n) (commanded-uinc (frozenAt c n) w (fifoAt c n) r u), refl, refl)
+        (kept w (fifoAt c n), written-out w ∙ ap (withFifo c n) (commanded-uinc (frozenAt c n) w (fifoAt c n) r u), refl, refl, kept-asked w (fifoAt c n) ∙ write-other UINC TXREQ 1 v (omega arith) refl)
 
     -- without; only the control word is another
     pub plain-written : (v : ℕ) → read UINC v ≡ 0 → read FRESET v ≡ 0
         → (g : Fifo) × (controlWritten c n v ≡ withFifo c n g) × (g .head ≡ fifoAt c n .head) × (g .count ≡ fifoAt c n .count)
+        × (read TXREQ (g .control) ≡ read TXREQ v)
     unfolding controlled
     plain-written v y z =
         let u : flag UINC v ≡ false = ap (λ (x : ℕ). eqb x 1) y in
         let r : flag FRESET v ≡ false = ap (λ (x : ℕ). eqb x 1) z in
-        (kept v (fifoAt c n), written-out v ∙ ap (withFifo c n) (commanded-plain (frozenAt c n) v (fifoAt c n) r u), refl, refl)
+        (kept v (fifoAt c n), written-out v ∙ ap (withFifo c n) (commanded-plain (frozenAt c n) v (fifoAt c n) r u), refl, refl, kept-asked v (fifoAt c n))
 
   -- ---- where a push goes next
 

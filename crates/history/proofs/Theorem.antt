@@ -18,18 +18,21 @@ use Rattle.reach.proofs.Told.{leaving-outside, leaving-empty}
 use Rattle.history.specs.Command.{Command, Push, Transmit, Request, HasNext, Peek, Get, Reading, Configuring, started}
 use Rattle.history.specs.History.{Event, Begin, Exchange, Fail, On, Said, Doing, idle, busy, World, says, heard, settled, goesOn, event, after}
 use Rattle.history.specs.Lists.{accepted, handedOut}
-use Rattle.history.specs.Demand.{Leaves, start, world, Each, TellsWell, Lists, NeverCaused, PushExactly, GetExactly, PeekExactly, PeekKeeps, PushFails, RequestFails}
-use Rattle.history.proofs.Sound.{Sound}
+use Rattle.history.specs.Demand.{Leaves, start, world, Each, TellsWell, Lists, PushExactly, PushedIff, GetExactly, GotIff, GetHandsOut, PeekExactly, PeekKeeps, HasNextExactly}
+use Rattle.history.specs.Demand.{PushFails, TransmitFails, RequestExactly, TransmitRefused, TransmitDone, RequestFails, NeverCaused}
+use Rattle.history.proofs.Sound.{Sound, Asked}
 use Rattle.history.proofs.Bus.{Listed}
 use Rattle.history.proofs.Calm.{Fit, step-fit, step-later}
 use Rattle.history.proofs.Inv.{Mid, pushes, fetches, requests, configures, looks, doings-later, Inv, each-snoc}
 use Rattle.history.proofs.PushSteps.{push-exchanged, push-failed, push-begins}
 use Rattle.history.proofs.FetchSteps.{fetch-exchanged, fetch-failed, fetch-begins}
 use Rattle.history.proofs.PlanSteps.{request-heard, request-starts-well, configure-heard, configure-starts-well, look-heard, look-starts-well}
-use Rattle.history.proofs.PushExactly.{push-exactly, request-fails}
-use Rattle.history.proofs.FetchExactly.{get-exactly, peek-exactly}
+use Rattle.history.proofs.PushExactly.{push-exactly, pushed-iff}
+use Rattle.history.proofs.Transmits.{request-exactly, transmit-refused, transmit-done, request-fails}
+use Rattle.history.proofs.FetchExactly.{get-exactly, peek-exactly, has-next-exactly}
+use Rattle.history.proofs.GotIff.{got-iff, get-hands-out}
 use Rattle.history.proofs.PeekKeeps.{peek-keeps}
-use Rattle.history.proofs.PushFails.{push-fails}
+use Rattle.history.proofs.PushFails.{push-fails, transmit-fails}
 
 -- a bus step is no call
 bus-tells : (b : Bus) (c : Model) → TellsWell (says b c)
@@ -38,45 +41,57 @@ bus-tells (Deliver n header time payload) c = tt
 
 -- ---- each event
 
-module _ (c : Model) (o : Sound c) (t : List Said) (l : Listed c t) (e : Each TellsWell t) where
+module _ (X : ℕ → Type 0) (c : Model) (o : Sound c) (q : Asked X c) (t : List Said) (l : Listed c t) (e : Each TellsWell t) where
   -- a call begins
-  begins : (k : Command) → Inv (settled c t k (started k) [])
-  begins (Push n header seq payload) = push-begins c o t l e false n header seq payload
-  begins (Transmit n header seq payload) = push-begins c o t l e true n header seq payload
-  begins (Request n) = request-starts-well c o t l e n
-  begins (HasNext n) = fetch-begins c o t l e Want.HasNext n []
-  begins (Peek n buf) = fetch-begins c o t l e Want.Peek n buf
-  begins (Get n buf) = fetch-begins c o t l e Want.Get n buf
-  begins (Reading x) = look-starts-well c o t l e x
-  begins (Configuring x) = configure-starts-well c o t l e x
+  begins : (k : Command) → Inv X (settled c t k (started k) [])
+  begins (Push n header seq payload) = push-begins X c o q t l e false n header seq payload
+  begins (Transmit n header seq payload) = push-begins X c o q t l e true n header seq payload
+  begins (Request n) = request-starts-well X c o q t l e n
+  begins (HasNext n) = fetch-begins X c o q t l e Want.HasNext n []
+  begins (Peek n buf) = fetch-begins X c o q t l e Want.Peek n buf
+  begins (Get n buf) = fetch-begins X c o q t l e Want.Get n buf
+  begins (Reading x) = look-starts-well X c o q t l e x
+  begins (Configuring x) = configure-starts-well X c o q t l e x
 
   -- the call under way has its next exchange, which is carried out or not
-  goes : (b : Bool) (k : Command) (s : Call) → Mid c k s → Inv (goesOn t k s (heard b s c))
-  goes true k s (pushes also n header seq payload bs at p f i x r g ek es) = rw (ek, es) (push-exchanged c o t l e also n header seq payload bs p f i x r at g)
-  goes false k s (pushes also n header seq payload bs at p f i x r g ek es) = rw (ek, es) (push-failed c o t l e also n header seq payload bs p f i x r at g)
-  goes true k s (fetches want n buf held at p u i b h g ek es) = rw (ek, es) (fetch-exchanged c o t l e want n buf p u i b held h at g)
-  goes false k s (fetches want n buf held at p u i b h g ek es) = rw (ek, es) (fetch-failed c o t l e want n buf p u i b held h at g)
-  goes b k s (requests also n p u f a r h z ek es) = rw (ek, es) (request-heard c o t l e also u f a b n p r h z)
-  goes b k s (configures x p u f h ek es) = rw (ek, es) (configure-heard c o t l e b x p u f h)
-  goes b k s (looks x h ek) = rw ek (look-heard c o t l e b x s h)
+  goes : (b : Bool) (k : Command) (s : Call) → Mid X c k s → Inv X (goesOn t k s (heard b s c))
+  goes true k s (pushes also n header seq payload bs at p f i x r g z ek es) = rw (ek, es) (push-exchanged X c o q t l e also n header seq payload bs p f i x r at g z)
+  goes false k s (pushes also n header seq payload bs at p f i x r g z ek es) = rw (ek, es) (push-failed X c o q t l e also n header seq payload bs p f i x r at g)
+  goes true k s (fetches want n buf held at p u i b h g z ek es) = rw (ek, es) (fetch-exchanged X c o q t l e want n buf p u i b held h at g z)
+  goes false k s (fetches want n buf held at p u i b h g z ek es) = rw (ek, es) (fetch-failed X c o q t l e want n buf p u i b held h at g)
+  goes b k s (requests also n p u f a r h z ek es) = rw (ek, es) (request-heard X c o q t l e also u f a b n p r h z)
+  goes b k s (configures x p u f h ek es) = rw (ek, es) (configure-heard X c o q t l e b x p u f h)
+  goes b k s (looks x h ek) = rw ek (look-heard X c o q t l e b x s h)
 
-pub event-keeps : (x : Event) (d : Doing) (c : Model) (t : List Said) → Inv (record { chip = c; doing = d; said = t }) → Inv (event x d c t)
+-- a bus step is taken to leave the TXREQ that are to stay 1
+pub event-keeps : (X : ℕ → Type 0) (x : Event) (d : Doing) (c : Model) (t : List Said) → Inv X (record { chip = c; doing = d; said = t })
+    → ((b : Bus) → x ≡ On b → Asked X (stepped b c)) → Inv X (event x d c t)
 unfolding event
-event-keeps (Begin k) idle c t i = begins c (i .sound) t (i .lists) (i .tells) k
-event-keeps (Begin k) (busy j s) c t i = i
-event-keeps Exchange idle c t i = i
-event-keeps Exchange (busy k s) c t i = goes c (i .sound) t (i .lists) (i .tells) true k s (i .doing)
-event-keeps Fail idle c t i = i
-event-keeps Fail (busy k s) c t i = goes c (i .sound) t (i .lists) (i .tells) false k s (i .doing)
-event-keeps (On b) d c t i =
+event-keeps X (Begin k) idle c t i a = begins X c (i .sound) (i .asked) t (i .lists) (i .tells) k
+event-keeps X (Begin k) (busy j s) c t i a = i
+event-keeps X Exchange idle c t i a = i
+event-keeps X Exchange (busy k s) c t i a = goes X c (i .sound) (i .asked) t (i .lists) (i .tells) true k s (i .doing)
+event-keeps X Fail idle c t i a = i
+event-keeps X Fail (busy k s) c t i a = goes X c (i .sound) (i .asked) t (i .lists) (i .tells) false k s (i .doing)
+event-keeps X (On b) d c t i a =
     let f : Fit c t = record { sound = i .sound; lists = i .lists } in
     let g = step-fit c t f b in
-    record { sound = g .sound; lists = g .lists; tells = each-snoc TellsWell t (says b c) (i .tells) (bus-tells b c); doing = doings-later c (stepped b c) (step-later c t f b) d (i .doing) }
+    record {
+      sound = g .sound;
+      asked = a b refl;
+      lists = g .lists;
+      tells = each-snoc TellsWell t (says b c) (i .tells) (bus-tells b c);
+      doing = doings-later X c (stepped b c) (step-later c t f b) d (i .doing);
+    }
 
-pub run-keeps : (es : List Event) (v : World) → Inv v → Inv (after es v)
+-- of no FIFO
+abbrev pub None : ℕ → Type 0
+None n = ⊥
+
+pub run-keeps : (es : List Event) (v : World) → Inv None v → Inv None (after es v)
 unfolding after
 run-keeps [] v i = i
-run-keeps (x ∷ es) v i = run-keeps es _ (event-keeps x (v .doing) (v .chip) (v .said) i)
+run-keeps (x ∷ es) v i = run-keeps es _ (event-keeps None x (v .doing) (v .chip) (v .said) i (λ b e n y. absurd y))
 
 -- ---- where a history begins
 
@@ -91,19 +106,20 @@ module _ (c : Model) (w : ℕ) (g : Leaves c w) where
       by-if (λ (x : List Decoding). x ≡ []) (isFifo n)
       (λ i. ap (row (λ k. itemAt d n k) 0) (leaving-empty c w (g .configuring) (g .asks) (g .granted) (always-valid c (g .reached)) n)) (λ i. refl)
 
-  pub begins-well : Inv (start c w)
+  begins-well : Inv None (start c w)
   unfolding accepted handedOut
   begins-well = record {
     sound = record { valid = leaving-valid c w (always-valid c (g .reached)); out = leaving-outside c w (g .configuring) (g .asks) (g .granted) };
+    asked = λ n y. absurd y;
     lists = λ j i. sym (begins-empty j);
     tells = tt;
     doing = tt;
   }
 
-pub holds-always : (c : Model) (w : ℕ) → Leaves c w → (es : List Event) → Inv (world c w es)
+pub holds-always : (c : Model) (w : ℕ) → Leaves c w → (es : List Event) → Inv None (world c w es)
 holds-always c w g es = run-keeps es (start c w) (begins-well c w g)
 
-fits : (c : Model) (w : ℕ) → Leaves c w → (es : List Event) → Fit (world c w es .chip) (world c w es .said)
+pub fits : (c : Model) (w : ℕ) → Leaves c w → (es : List Event) → Fit (world c w es .chip) (world c w es .said)
 fits c w g es = let i = holds-always c w g es in record { sound = i .sound; lists = i .lists }
 
 -- ---- the theorems
@@ -116,9 +132,18 @@ lists c w g es = holds-always c w g es .lists
 pub push-exactly-always : PushExactly
 push-exactly-always c w g es e = push-exactly (world c w es) (fits c w g es) e
 
--- 3. what a get and a peek answer
+pub pushed-iff-always : PushedIff
+pushed-iff-always c w g es e = pushed-iff (world c w es) (fits c w g es) e
+
+-- 3. what a get, a peek and has-next answer
 pub get-exactly-always : GetExactly
 get-exactly-always c w g es e = get-exactly (world c w es) (fits c w g es) e
+
+pub got-iff-always : GotIff
+got-iff-always c w g es e = got-iff (world c w es) (fits c w g es) e
+
+pub get-hands-out-always : GetHandsOut
+get-hands-out-always c w g es e = get-hands-out (world c w es) (fits c w g es) e
 
 pub peek-exactly-always : PeekExactly
 peek-exactly-always c w g es e = peek-exactly (world c w es) (fits c w g es) e
@@ -126,11 +151,26 @@ peek-exactly-always c w g es e = peek-exactly (world c w es) (fits c w g es) e
 pub peek-keeps-always : PeekKeeps
 peek-keeps-always c w g es e = peek-keeps (world c w es) e
 
+pub has-next-exactly-always : HasNextExactly
+has-next-exactly-always c w g es e = has-next-exactly (world c w es) (fits c w g es) e
+
 -- 4. a push in which an exchange failed
 pub push-fails-always : PushFails
 push-fails-always c w g es e = push-fails (world c w es) (fits c w g es) e
 
--- 5. a transmit whose request failed
+pub transmit-fails-always : TransmitFails
+transmit-fails-always c w g es e = transmit-fails (world c w es) (fits c w g es) e
+
+-- 5. request and transmit
+pub request-exactly-always : RequestExactly
+request-exactly-always c w g es e = request-exactly (world c w es) e
+
+pub transmit-refused-always : TransmitRefused
+transmit-refused-always c w g es e = transmit-refused (world c w es) (fits c w g es) e
+
+pub transmit-done-always : TransmitDone
+transmit-done-always c w g es e = transmit-done (world c w es) (fits c w g es) e
+
 pub request-fails-always : RequestFails
 request-fails-always c w g es e = request-fails (world c w es) (fits c w g es) e
 

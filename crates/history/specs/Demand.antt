@@ -2,33 +2,37 @@
 -- Assumes nothing.
 use Prim.Native.Nat.{ℕ, _+_, _≤_, _<_}
 use mathlib.Core.Path.{_≡_}
-use mathlib.Core.Bool.{true, false}
+use mathlib.Core.Bool.{true, false, not}
 use mathlib.Core.Logic.{_↔_}
 use mathlib.Core.List.{List, [], _∷_, _++_, map}
-use lib.ListN.{length, getD}
-use lib.Dec.{ltb, leb}
+use lib.ListN.{length, getD, take}
+use lib.Dec.{ltb, leb, eqb}
 use Rattle.laws.specs.If.{if_then_else_}
-use Rattle.field.specs.Field.{read}
+use Rattle.field.specs.Field.{read, digit}
 use Rattle.configuration.specs.CanControl.{REQOP}
-use Rattle.fifo.specs.Control.{payloadOf, isFifo}
+use Rattle.fifo.specs.Control.{TXREQ, payloadOf, isFifo}
 use Rattle.parts.specs.Parts.{put}
 use Rattle.spi.specs.declared.refusal.Refusal.{Refusal}
 use Rattle.spi.specs.Refusals.{numbered}
+use Rattle.operation.specs.declared.place.Register.{Register}
 use Rattle.operation.specs.Laws.{among}
 use Rattle.header.specs.declared.Header.{Header}
 use Rattle.message.specs.Message.{Message, Encoding, Decoding, holds, bad, short}
 use Rattle.call.specs.declared.Outcome.{Outcome}
+use Rattle.call.specs.Numbers.{foundNumbers, outcomeNumbers}
 use Rattle.tx_fifo.specs.Step.{toSend, encodingFor}
 use Rattle.rx_fifo.specs.Outcome.{foundOf}
 use Rattle.ring.specs.Ring.{sending, depth}
 use Rattle.ring.specs.Layout.{size}
 use Rattle.state.specs.declared.Model.{Model}
 use Rattle.state.specs.Model.{fifoAt, frozenAt}
-use Rattle.bank.specs.Registers.{granted, conWritten}
+use Rattle.bank.specs.Registers.{wordOf, granted, conWritten}
+use Rattle.model.specs.Exchange.{Reply, failed, received, noLayout, exchange}
 use Rattle.bus.specs.Held.{slotOf, itemAt, held}
-use Rattle.reach.specs.Bus.{Bus, stepped}
+use Rattle.bus.specs.Bus.{frame, sends}
+use Rattle.reach.specs.Bus.{Bus, Send, Deliver, stepped}
 use Rattle.reach.specs.Reach.{Reached}
-use Rattle.history.specs.Command.{Command, Push, Transmit, Request, HasNext, Peek, Get, Reading, Configuring}
+use Rattle.history.specs.Command.{Command, Push, Transmit, Request, HasNext, Peek, Get, Reading, Configuring, firstCall}
 use Rattle.history.specs.History.{Event, Begin, Exchange, Fail, On, Said, called, left, arrived, idle, World, after}
 use Rattle.history.specs.Lists.{accepted, acceptedIn, handedOut, handedOutIn}
 
@@ -74,6 +78,15 @@ unfoldable pub calm : List (List Bus) → List Event
 calm [] = []
 calm (bs ∷ r) = map On bs ++ (Exchange ∷ calm r)
 
+-- all of them
+abbrev pub all : List (List Bus) → List Bus
+all [] = []
+all (b ∷ bs) = b ++ all bs
+
+-- the chip at the status read, which is a call's second exchange
+abbrev pub atStatus : World → List (List Bus) → Model
+atStatus v bs = buses (all (take 2 bs)) (v .chip)
+
 -- the calls among what was said
 unfoldable pub calls : List Said → List Said
 calls [] = []
@@ -85,77 +98,110 @@ calls (arrived k m d ∷ t) = calls t
 abbrev pub Answers : World → Command → List (List Bus) → List Said → Type 0
 Answers v k bs xs = calls (after (Begin k ∷ calm bs) v .said) ≡ calls (v .said) ++ xs
 
+-- how a call ends: document 01's number and values, and the lent buffer after it
+pub record Ending : Type 0 where
+  pub numbers : List ℕ
+  pub buffer : List ℕ
+
+abbrev pub ending : List ℕ → List ℕ → Ending
+ending ns buf = record { numbers = ns; buffer = buf }
+
+-- done, which is no refusal and has no values
+abbrev pub done : Ending
+done = ending (0 ∷ []) []
+
+-- a call k with the bus steps bs before its exchanges ends so, and says no more
+abbrev pub Ends : World → Command → List (List Bus) → Ending → Type 0
+Ends v k bs x = (o : Outcome) × (outcomeNumbers o ≡ x .numbers) × Answers v k bs (called (firstCall k) o (x .buffer) ∷ [])
+
 -- ---- 2. push exactly
 
 -- a push that meets none of 20, 21, 24, 22
 abbrev pub WellFormed : ℕ → Header → ℕ → List ℕ → Type 0
 WellFormed n header seq payload = (bs : List ℕ) × (encodingFor n header seq payload ≡ Encoding.object bs)
 
--- what it answers, c being the chip as it begins and d the chip at the status read: 6, 7, 8 or done
-unfoldable pub pushAnswer : (c d : Model) → ℕ → List ℕ → Outcome
-pushAnswer c d n payload =
-    if sending (frozenAt c n) then if leb (length payload) (payloadOf (frozenAt c n))
-    then if ltb (fifoAt d n .count) (depth (frozenAt c n)) then Outcome.Done
-    else Outcome.Refused Refusal.FifoFull else Outcome.Refused Refusal.FifoTooSmall else Outcome.Refused Refusal.FifoNotTx
+-- how it ends, d being the chip at the status read: 6, 7, 8 or done
+unfoldable pub pushAnswer : Model → ℕ → List ℕ → Ending
+pushAnswer d n payload =
+    if not (sending (frozenAt d n)) then ending (6 ∷ []) []
+    else if ltb (payloadOf (frozenAt d n)) (length payload) then ending (7 ∷ []) []
+    else if leb (depth (frozenAt d n)) (fifoAt d n .count) then ending (8 ∷ []) []
+    else done
 
 -- five exchanges, and bus steps before each
 abbrev pub PushExactly : Type 0
 PushExactly =
-    NextCall (λ v. (n : ℕ) (header : Header) (seq : ℕ) (payload : List ℕ) → WellFormed n header seq payload → (b₁ b₂ b₃ b₄ b₅ : List Bus)
-    → Answers v (Push n header seq payload) (b₁ ∷ b₂ ∷ b₃ ∷ b₄ ∷ b₅ ∷ [])
-    (called (Push n header seq payload) (pushAnswer (v .chip) (buses b₂ (buses b₁ (v .chip))) n payload) [] ∷ []))
+    NextCall (λ v. (n : ℕ) (header : Header) (seq : ℕ) (payload : List ℕ) → WellFormed n header seq payload → (bs : List (List Bus)) → length bs ≡ 5
+    → Ends v (Push n header seq payload) bs (pushAnswer (atStatus v bs) n payload))
+
+-- its FIFO transmits, the payload fits and there is room
+abbrev pub Takes : Model → ℕ → List ℕ → Type 0
+Takes d n payload =
+    (sending (frozenAt d n) ≡ true) × (length payload ≤ payloadOf (frozenAt d n)) × (fifoAt d n .count < depth (frozenAt d n))
 
 -- it is accepted exactly if its FIFO transmits, the payload fits and there was room at the status read
 abbrev pub PushedIff : Type 0
 PushedIff =
-    (c d : Model) (n : ℕ) (header : Header) (seq : ℕ) (payload : List ℕ)
-    → (acceptedIn n (called (Push n header seq payload) (pushAnswer c d n payload) []) ≡ toSend header seq payload ∷ [])
-    ↔ ((sending (frozenAt c n) ≡ true) × (length payload ≤ payloadOf (frozenAt c n)) × (fifoAt d n .count < depth (frozenAt c n)))
+    NextCall (λ v. (n : ℕ) (header : Header) (seq : ℕ) (payload : List ℕ) → WellFormed n header seq payload → (bs : List (List Bus)) → length bs ≡ 5
+    → ((x : Said) × Answers v (Push n header seq payload) bs (x ∷ []) × (acceptedIn n x ≡ toSend header seq payload ∷ []))
+    ↔ Takes (atStatus v bs) n payload)
 
--- ---- 3. get exactly, and peek
+-- ---- 3. get exactly, peek and has-next
 
--- what is said of a message read: what is told of it, and its payload at the front of the lent buffer; by the lists every slot held has one
-abbrev pub tells : Command → Decoding → List ℕ → Said
-tells k (holds m) buf = called k (Outcome.Message (foundOf m)) (put buf 0 (m .payload))
-tells k (bad r) buf = called k (Outcome.Refused r) buf
-tells k short buf = called k Outcome.Running buf
+-- of a message read: what is told of it, and its payload at the front of the lent buffer; by the lists every slot held has one
+abbrev pub readAs : Decoding → List ℕ → Ending
+readAs (holds m) buf = ending (0 ∷ foundNumbers (foundOf m)) (put buf 0 (m .payload))
+readAs (bad r) buf = ending (numbered r) buf
+readAs short buf = ending [] buf
 
--- what a get or a peek answers, c being the chip as it begins and d the chip at the status read: 9, the oldest, or that none is held
-unfoldable pub fetchSaid : Command → (c d : Model) → ℕ → List ℕ → Said
-fetchSaid k c d n buf =
-    if sending (frozenAt c n) then called k (Outcome.Refused Refusal.FifoNotRx) buf
-    else if ltb 0 (fifoAt d n .count) then tells k (itemAt d n 0) buf
-    else called k Outcome.Empty buf
+-- how a get or a peek ends, d being the chip at the status read: 9, that none is held, or the oldest
+unfoldable pub fetchAnswer : Model → ℕ → List ℕ → Ending
+fetchAnswer d n buf =
+    if sending (frozenAt d n) then ending (9 ∷ []) buf
+    else if eqb (fifoAt d n .count) 0 then ending (0 ∷ []) buf
+    else readAs (itemAt d n 0) buf
 
 -- nine exchanges; without RXTSEN it is over after eight, and the ninth finds no call
 abbrev pub GetExactly : Type 0
 GetExactly =
-    NextCall (λ v. (n : ℕ) (buf : List ℕ) → isFifo n ≡ true → 64 ≤ length buf → (b₁ b₂ b₃ b₄ b₅ b₆ b₇ b₈ b₉ : List Bus)
-    → Answers v (Get n buf) (b₁ ∷ b₂ ∷ b₃ ∷ b₄ ∷ b₅ ∷ b₆ ∷ b₇ ∷ b₈ ∷ b₉ ∷ [])
-    (fetchSaid (Get n buf) (v .chip) (buses b₂ (buses b₁ (v .chip))) n buf ∷ []))
+    NextCall (λ v. (n : ℕ) (buf : List ℕ) → isFifo n ≡ true → 64 ≤ length buf → (bs : List (List Bus)) → length bs ≡ 9
+    → Ends v (Get n buf) bs (fetchAnswer (atStatus v bs) n buf))
 
 -- it hands out the oldest exactly if its FIFO receives and held one at the status read
 abbrev pub GotIff : Type 0
 GotIff =
-    (c d : Model) → d .fixed ≡ c .fixed → (n : ℕ) (buf : List ℕ) (m : Message)
-    → (handedOutIn n (fetchSaid (Get n buf) c d n buf) ≡ m ∷ [])
-    ↔ ((sending (frozenAt c n) ≡ false) × (0 < fifoAt d n .count) × (itemAt d n 0 ≡ holds m))
+    NextCall (λ v. (n : ℕ) (buf : List ℕ) → isFifo n ≡ true → 64 ≤ length buf → (bs : List (List Bus)) → length bs ≡ 9 → (m : Message)
+    → ((x : Said) × Answers v (Get n buf) bs (x ∷ []) × (handedOutIn n x ≡ m ∷ []))
+    ↔ ((sending (frozenAt (atStatus v bs) n) ≡ false) × (0 < fifoAt (atStatus v bs) n .count) × (itemAt (atStatus v bs) n 0 ≡ holds m)))
+
+-- and every slot held decodes: a get from a FIFO that receives and held one then is done with the oldest
+abbrev pub GetHandsOut : Type 0
+GetHandsOut =
+    NextCall (λ v. (n : ℕ) (buf : List ℕ) → isFifo n ≡ true → 64 ≤ length buf → (bs : List (List Bus)) → length bs ≡ 9
+    → sending (frozenAt (atStatus v bs) n) ≡ false → 0 < fifoAt (atStatus v bs) n .count
+    → (m : Message) × (itemAt (atStatus v bs) n 0 ≡ holds m)
+    × Answers v (Get n buf) bs (called (Get n buf) (Outcome.Message (foundOf m)) (put buf 0 (m .payload)) ∷ []))
 
 -- a peek shows the oldest, hands nothing out and leaves the chip as the bus steps alone leave it; at most seven exchanges
-abbrev pub all : List (List Bus) → List Bus
-all [] = []
-all (b ∷ bs) = b ++ all bs
-
 abbrev pub PeekExactly : Type 0
 PeekExactly =
-    NextCall (λ v. (n : ℕ) (buf : List ℕ) → isFifo n ≡ true → 64 ≤ length buf → (b₁ b₂ b₃ b₄ b₅ b₆ b₇ : List Bus)
-    → Answers v (Peek n buf) (b₁ ∷ b₂ ∷ b₃ ∷ b₄ ∷ b₅ ∷ b₆ ∷ b₇ ∷ [])
-    (fetchSaid (Peek n buf) (v .chip) (buses b₂ (buses b₁ (v .chip))) n buf ∷ []))
+    NextCall (λ v. (n : ℕ) (buf : List ℕ) → isFifo n ≡ true → 64 ≤ length buf → (bs : List (List Bus)) → length bs ≡ 7
+    → Ends v (Peek n buf) bs (fetchAnswer (atStatus v bs) n buf))
 
 abbrev pub PeekKeeps : Type 0
 PeekKeeps =
     NextCall (λ v. (n : ℕ) (buf : List ℕ) (bs : List (List Bus))
     → after (Begin (Peek n buf) ∷ calm bs) v .chip ≡ buses (all bs) (v .chip))
+
+-- how has-next ends: 9, or whether one is held
+unfoldable pub hasNextAnswer : Model → ℕ → Ending
+hasNextAnswer d n = if sending (frozenAt d n) then ending (9 ∷ []) [] else ending (0 ∷ digit (ltb 0 (fifoAt d n .count)) ∷ []) []
+
+-- two exchanges
+abbrev pub HasNextExactly : Type 0
+HasNextExactly =
+    NextCall (λ v. (n : ℕ) → isFifo n ≡ true → (bs : List (List Bus)) → length bs ≡ 2
+    → Ends v (HasNext n) bs (hasNextAnswer (atStatus v bs) n))
 
 -- ---- 4. after a failed exchange in a push only the free slot's bytes may differ from what the bus steps alone leave
 
@@ -173,23 +219,96 @@ abbrev pub OnlyFree : ℕ → (c d : Model) → Type 0
 OnlyFree n c d = ButFor (slotOf c n (fifoAt c n .count)) (size (frozenAt c n)) c d
 
 -- some exchanges are answered, then one fails
+abbrev pub failing : List (List Bus) → List Bus → List Event
+failing bs b = calm bs ++ (map On b ++ (Fail ∷ []))
+
+-- in a push
 abbrev pub PushFails : Type 0
 PushFails =
     NextCall (λ v. (n : ℕ) (header : Header) (seq : ℕ) (payload : List ℕ) → (bs : List (List Bus)) → length bs ≤ 4 → (b : List Bus)
-    → OnlyFree n (buses (all bs ++ b) (v .chip)) (after (Begin (Push n header seq payload) ∷ (calm bs ++ (map On b ++ (Fail ∷ [])))) v .chip))
+    → OnlyFree n (buses (all bs ++ b) (v .chip)) (after (Begin (Push n header seq payload) ∷ failing bs b) v .chip))
 
--- ---- 5. a transmit whose request failed has its message accepted
+-- in the push of a transmit
+abbrev pub TransmitFails : Type 0
+TransmitFails =
+    NextCall (λ v. (n : ℕ) (header : Header) (seq : ℕ) (payload : List ℕ) → (bs : List (List Bus)) → length bs ≤ 4 → (b : List Bus)
+    → OnlyFree n (buses (all bs ++ b) (v .chip)) (after (Begin (Transmit n header seq payload) ∷ failing bs b) v .chip))
 
--- the five exchanges of the push, one more or none, then one that fails
+-- ---- 5. request, and transmit, which is two calls, push then request: if the request fails, the message was accepted
+
+-- two exchanges
+abbrev pub RequestExactly : Type 0
+RequestExactly = NextCall (λ v. (n : ℕ) → isFifo n ≡ true → (bs : List (List Bus)) → length bs ≡ 2 → Ends v (Request n) bs done)
+
+-- its push ends as a push does, and if it is refused there is no request
+abbrev pub TransmitRefused : Type 0
+TransmitRefused =
+    NextCall (λ v. (n : ℕ) (header : Header) (seq : ℕ) (payload : List ℕ) → WellFormed n header seq payload → (bs : List (List Bus)) → length bs ≡ 5
+    → (Takes (atStatus v bs) n payload → ⊥) → Ends v (Transmit n header seq payload) bs (pushAnswer (atStatus v bs) n payload))
+
+-- if it is done the request is done too
+abbrev pub TransmitDone : Type 0
+TransmitDone =
+    NextCall (λ v. (n : ℕ) (header : Header) (seq : ℕ) (payload : List ℕ) → WellFormed n header seq payload → (bs : List (List Bus)) → length bs ≡ 7
+    → Takes (atStatus v bs) n payload
+    → Answers v (Transmit n header seq payload) bs (called (Push n header seq payload) Outcome.Done [] ∷ called (Request n) Outcome.Done [] ∷ []))
+
+-- the five exchanges of the push, one more or none, then one that fails: the request answers 1
 abbrev pub RequestFails : Type 0
 RequestFails =
-    NextCall (λ v. (n : ℕ) (header : Header) (seq : ℕ) (payload : List ℕ) → WellFormed n header seq payload → (b₁ b₂ b₃ b₄ b₅ : List Bus)
-    → pushAnswer (v .chip) (buses b₂ (buses b₁ (v .chip))) n payload ≡ Outcome.Done
-    → (r : List (List Bus)) → length r ≤ 1 → (b : List Bus)
-    → calls (after (Begin (Transmit n header seq payload) ∷ (calm (b₁ ∷ b₂ ∷ b₃ ∷ b₄ ∷ b₅ ∷ r) ++ (map On b ++ (Fail ∷ [])))) v .said)
-    ≡ calls (v .said) ++ (called (Push n header seq payload) Outcome.Done [] ∷ called (Request n) (Outcome.Refused Refusal.SpiRead) [] ∷ []))
+    NextCall (λ v. (n : ℕ) (header : Header) (seq : ℕ) (payload : List ℕ) → WellFormed n header seq payload
+    → (bs : List (List Bus)) → 5 ≤ length bs → length bs ≤ 6 → Takes (atStatus v bs) n payload → (b : List Bus)
+    → (o : Outcome) × (outcomeNumbers o ≡ 1 ∷ [])
+    × (calls (after (Begin (Transmit n header seq payload) ∷ failing bs b) v .said)
+    ≡ calls (v .said) ++ (called (Push n header seq payload) Outcome.Done [] ∷ called (Request n) o [] ∷ [])))
 
--- ---- 6. no push, request, transmit, has-next, peek or get answers 3, 23, 25 or 26
+-- ---- 6. a send takes the oldest of a transmit FIFO if TXREQ is 1 and one is held, and TXREQ is 1 from a request on
+
+-- TXREQ of FIFO n reads 1
+abbrev pub Requested : Model → ℕ → Type 0
+Requested c n = read TXREQ (wordOf c (Register.Control n)) ≡ 1
+
+-- a send from FIFO n puts the oldest that it holds on the bus, and takes that one only
+abbrev pub SendsOldest : World → ℕ → Type 0
+SendsOldest v n =
+    let z = after (On (Send n) ∷ []) v in
+    (m : Message) × (held (v .chip) n ≡ holds m ∷ held (z .chip) n) × (z .said ≡ v .said ++ (left n (frame m) ∷ []))
+
+abbrev pub OldestGoes : Type 0
+OldestGoes =
+    Always (λ v. (n : ℕ) → isFifo n ≡ true → sending (frozenAt (v .chip) n) ≡ true → Requested (v .chip) n → 0 < fifoAt (v .chip) n .count → SendsOldest v n)
+
+-- e is a send that takes the last of FIFO n
+abbrev pub TakesLast : ℕ → Event → Model → Type 0
+TakesLast n (Begin k) c = ⊥
+TakesLast n Exchange c = ⊥
+TakesLast n Fail c = ⊥
+TakesLast n (On (Send k)) c = (k ≡ n) × (sends c n ≡ true) × (fifoAt c n .count ≡ 1)
+TakesLast n (On (Deliver k header time payload)) c = ⊥
+
+-- none of the events from v on is
+abbrev pub LastStays : ℕ → List Event → World → Type 0
+LastStays n [] v = Unit {0}
+LastStays n (e ∷ es) v = (TakesLast n e (v .chip) → ⊥) × LastStays n es (after (e ∷ []) v)
+
+-- until a send takes the last, TXREQ of FIFO n reads 1, and if it transmits and holds a message a send puts the oldest on the bus
+abbrev pub GoesOut : World → ℕ → Type 0
+GoesOut v n =
+    (es : List Event) → LastStays n es v
+    → (let z = after es v in Requested (z .chip) n × (sending (frozenAt (z .chip) n) ≡ true → 0 < fifoAt (z .chip) n .count → SendsOldest z n))
+
+-- so it is after a request that is done, whatever calls and bus steps follow and whichever of their exchanges fail
+abbrev pub RequestSends : Type 0
+RequestSends =
+    NextCall (λ v. (n : ℕ) → isFifo n ≡ true → (bs : List (List Bus)) → length bs ≡ 2 → GoesOut (after (Begin (Request n) ∷ calm bs) v) n)
+
+-- and after a transmit that is done
+abbrev pub TransmitSends : Type 0
+TransmitSends =
+    NextCall (λ v. (n : ℕ) (header : Header) (seq : ℕ) (payload : List ℕ) → WellFormed n header seq payload → (bs : List (List Bus)) → length bs ≡ 7
+    → Takes (atStatus v bs) n payload → GoesOut (after (Begin (Transmit n header seq payload) ∷ calm bs) v) n)
+
+-- ---- 7. no push, request, transmit, has-next, peek or get answers 3, 23, 25 or 26
 
 abbrev pub NotCaused : Refusal → Type 0
 NotCaused r = among (3 ∷ 23 ∷ 25 ∷ 26 ∷ []) (getD (numbered r) 0 0) ≡ false
@@ -227,3 +346,13 @@ Each P (x ∷ t) = P x × Each P t
 
 abbrev pub NeverCaused : Type 0
 NeverCaused = Always (λ v. Each TellsWell (v .said))
+
+-- ---- 8. an exchange that the chip answers receives as many bytes as were wanted
+
+abbrev pub Whole : Reply → ℕ → Type 0
+Whole failed want = Unit {0}
+Whole (received bs) want = length bs ≡ want
+Whole noLayout want = want ≡ 0
+
+abbrev pub AnsweredWhole : Type 0
+AnsweredWhole = (m : Model) → Reached m → (s : List ℕ) (want : ℕ) → Whole (exchange s want m .reply) want

@@ -3,3 +3,4 @@ pub mod History
 pub mod Lists
 pub mod Demand
 pub mod Example
+pub mod Demand3

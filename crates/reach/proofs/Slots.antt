@@ -1,7 +1,7 @@
 -- The slots of a chip in order: where they lie, and what each change of the chip does to the messages held.
 -- Assumes nothing.
 use Prim.Native.Nat.{ℕ, zero, suc, _+_, _-_, _≤_, _<_}
-use mathlib.Core.Path.{_≡_, refl, sym, ap, ap₂, _∙_}
+use mathlib.Core.Path.{_≡_, refl, sym, ap, ap₂, subst, _∙_}
 use mathlib.Core.Bool.{Bool, true, false}
 use mathlib.Core.List.{List, [], _∷_, _++_, append-nil}
 use native.Mathlib.Nat.{lt-of-not-le, add-zero, zero-add}
@@ -14,7 +14,8 @@ use borrow.Author.Tests.{leb-true, eq-eqb, ne-eqb}
 use Rattle.laws.specs.If.{if_then_else_}
 use Rattle.laws.proofs.Table.{both}
 use Rattle.parts.specs.Parts.{part, put}
-use Rattle.fifo.specs.Control.{isFifo}
+use Rattle.field.specs.Field.{read}
+use Rattle.fifo.specs.Control.{TXREQ, isFifo}
 use Rattle.message.specs.Message.{Message, Encoding, encoding, Decoding, holds, decoding}
 use Rattle.message.specs.Laws.{Suits}
 use Rattle.message.proofs.Round.{round-trip}
@@ -26,7 +27,7 @@ use Rattle.state.specs.declared.Setup.{Setup}
 use Rattle.state.specs.declared.Model.{Model}
 use Rattle.state.specs.Model.{blank, fifoAt, frozenAt, withSetup, withFifo, written}
 use Rattle.bus.specs.Held.{slotOf, itemAt, row, held}
-use Rattle.reach.proofs.Sound.{Sound}
+use Rattle.reach.proofs.Sound.{Sound, Asked}
 use Rattle.reach.proofs.Bytes.{length-put, put-inside, part-before, part-behind, part-same}
 
 -- ---- numbers
@@ -218,6 +219,12 @@ module _ (c : Model) (s : Sound c) (n : ℕ) (h : isFifo n ≡ true) (g : Fifo) 
 
   pub other-count : (j : ℕ) → (j ≡ n → ⊥) → fifoAt next j .count ≡ fifoAt c j .count
   other-count j ne = ap (λ (f : Fifo). f .count) (next-other j ne)
+
+  pub next-asked : (X : ℕ → Type 0) → Asked X c → (X n → read TXREQ (g .control) ≡ 1) → Asked X next
+  next-asked X a x j y =
+      same? j n
+      (λ e. ap (λ (k : ℕ). read TXREQ (fifoAt next k .control)) e ∙ ap (λ (f : Fifo). read TXREQ (f .control)) next-fifo ∙ x (subst X e y))
+      (λ ne. ap (λ (f : Fifo). read TXREQ (f .control)) (next-other j ne) ∙ a j y)
 
   -- another FIFO
   pub other-held : (j : ℕ) → (j ≡ n → ⊥) → held next j ≡ held c j

@@ -1,0 +1,211 @@
+-- From a request that is done on, TXREQ of its FIFO is 1 until a send takes the last, and what is held goes out oldest first.
+-- Assumes nothing.
+use Prim.Native.Nat.{ℕ, _%_, _^_, _<_}
+use native.Mathlib.Nat.{mod-lt}
+use native.Mathlib.Omega.{arith}
+use mathlib.Core.Path.{_≡_, refl, sym, ap, subst, _∙_}
+use mathlib.Core.Bool.{true, false, _&&_}
+use mathlib.Core.List.{List, [], _∷_}
+use lib.ListN.{length}
+use lib.Dec.{ltb, leb, eqb}
+use lib.Pow.{pow-pos}
+use borrow.Author.Tests.{eqb-true, lt-ltb}
+use Rattle.laws.proofs.Choice.{by-if}
+use Rattle.laws.proofs.Table.{both}
+use Rattle.field.specs.Field.{read, flag}
+use Rattle.field.specs.Settings.{_:=_, settings}
+use Rattle.field.proofs.Laws.{read-write}
+use Rattle.field.proofs.Sets.{off}
+use Rattle.fifo.specs.Control.{CiFIFOCON, UINC, TXREQ, FRESET, payloadOf, isFifo}
+use Rattle.message.specs.Message.{Encoding, encoding, Decoding}
+use Rattle.plan.specs.Change.{modified}
+use Rattle.plan.proofs.Changes.{change-sets}
+use Rattle.transmit.specs.Transmit.{requestChange}
+use Rattle.driver.specs.Start.{idlePush, idleFetch}
+use Rattle.operation.specs.declared.place.Register.{Register}
+use Rattle.ring.specs.declared.ring.Fifo.{Fifo}
+use Rattle.ring.specs.Ring.{sending, depth, claimed, taken, overflowed, sent}
+use Rattle.ring.proofs.Laws.{control-off}
+use Rattle.state.specs.declared.Model.{Model}
+use Rattle.state.specs.Model.{fifoAt, frozenAt, withFifo}
+use Rattle.bank.specs.Registers.{wordOf, controlWritten}
+use Rattle.bus.specs.declared.arrival.Delivered.{Delivered}
+use Rattle.bus.specs.Held.{held}
+use Rattle.bus.specs.Bus.{sends, sendOutput, sendModel, incoming, appended, byEncoding, deliverOf}
+use Rattle.bus.proofs.Laws.{oldest-sent}
+use Rattle.reach.specs.Bus.{Bus, Send, Deliver, stepped}
+use Rattle.history.specs.Command.{Command, Request, Transmit}
+use Rattle.history.specs.History.{Event, Begin, On, Said, idle, World, event, after}
+use Rattle.history.specs.Demand.{world, calm, buses, atStatus, Takes, Requested, SendsOldest, OldestGoes, TakesLast, LastStays, GoesOut, RequestSends, TransmitSends}
+use Rattle.history.proofs.Sound.{Sound, Asked}
+use Rattle.history.proofs.Few.{just-two, seven}
+use Rattle.history.proofs.Slots.{next-fifo, next-asked}
+use Rattle.history.proofs.Bus.{oldest}
+use Rattle.history.proofs.Replies.{control-gentle, plain-written}
+use Rattle.history.proofs.Inv.{Doings, Inv}
+use Rattle.history.proofs.Calm.{Fit, buses-fit}
+use Rattle.history.proofs.PushSteps.{encoded-for}
+use Rattle.history.proofs.PlanSteps.{alone}
+use Rattle.history.proofs.Transmits.{nothing-more, request-goes, request-starts-at, half-way, pushed, pushed-ready}
+use Rattle.history.proofs.Theorem.{None, event-keeps, run-keeps, holds-always}
+
+-- ---- a bus step that is no send of the last leaves TXREQ of FIFO n at 1
+
+abbrev Only : (n j : ℕ) → Type 0
+Only n j = j ≡ n
+
+module _ (n : ℕ) (c : Model) (o : Sound c) (q : Asked (Only n) c) where
+  sent-asked : (k : ℕ) → isFifo k ≡ true → sends c k ≡ true → (TakesLast n (On (Send k)) c → ⊥)
+      → Asked (Only n) (withFifo c k (sent (frozenAt c k) (fifoAt c k)))
+  unfolding sent taken
+  sent-asked k i s last =
+      next-asked c o k i (sent (frozenAt c k) (fifoAt c k)) (Only n) q
+      (λ x. by-if (λ (y : Fifo). read TXREQ (y .control) ≡ 1) (eqb (fifoAt c k .count) 1)
+      (λ e. absurd (last (x, subst (λ (j : ℕ). sends c j ≡ true) x s, subst (λ (j : ℕ). fifoAt c j .count ≡ 1) x (eqb-true _ _ e))))
+      (λ e. q k x))
+
+  send-asked : (k : ℕ) → (TakesLast n (On (Send k)) c → ⊥) → Asked (Only n) (sendModel c k)
+  unfolding sendModel
+  send-asked k last =
+      by-if (Asked (Only n)) (isFifo k && sends c k) (λ e. let (i, s) = both (isFifo k) (sends c k) e in sent-asked k i s last) (λ e. q)
+
+  abbrev Well : Delivered → Type 0
+  Well d = Asked (Only n) (d .model)
+
+  appended-asked : (k : ℕ) → isFifo k ≡ true → (len : ℕ) (object : List ℕ) → Well (appended c k len object)
+  unfolding appended claimed overflowed
+  appended-asked k i len object =
+      by-if Well (c .fixed .configuring) (λ e. q)
+      (λ e. by-if Well (sending (frozenAt c k)) (λ x. q)
+      (λ x. by-if Well (ltb (payloadOf (frozenAt c k)) len) (λ y. q)
+      (λ y. by-if Well (leb (depth (frozenAt c k)) (fifoAt c k .count))
+      (λ z. next-asked c o k i (overflowed true (fifoAt c k)) (Only n) q (q k))
+      (λ z. next-asked c o k i (claimed (fifoAt c k)) (Only n) q (q k)))))
+
+  coded-asked : (k : ℕ) → isFifo k ≡ true → (len : ℕ) (x : Encoding) → Well (byEncoding x c k len)
+  coded-asked k i len (Encoding.refused r) = q
+  coded-asked k i len (Encoding.object bs) = appended-asked k i len bs
+
+  bus-asked : (b : Bus) → (TakesLast n (On b) c → ⊥) → Asked (Only n) (stepped b c)
+  unfolding stepped deliverOf
+  bus-asked (Send k) last = send-asked k last
+  bus-asked (Deliver k header time payload) last =
+      by-if Well (isFifo k) (λ i. coded-asked k i (length payload) (encoding (incoming c k header (time % 2 ^ 32) payload))) (λ i. q)
+
+-- ---- any events of which none is
+
+run-stands : (n : ℕ) (es : List Event) (v : World) → Inv (Only n) v → LastStays n es v → Inv (Only n) (after es v)
+unfolding after
+run-stands n [] v i l = i
+run-stands n (e ∷ es) v i (last, l) =
+    run-stands n es _
+    (event-keeps (Only n) e (v .doing) (v .chip) (v .said) i
+    (λ b x. bus-asked n (v .chip) (i .sound) (i .asked) b (subst (λ (y : Event). TakesLast n y (v .chip) → ⊥) x last)))
+    l
+
+-- ---- what a send then does
+
+requested-is : (c : Model) (n : ℕ) → read TXREQ (wordOf c (Register.Control n)) ≡ read TXREQ (fifoAt c n .control)
+unfolding wordOf
+requested-is c n = control-off TXREQ (frozenAt c n) (fifoAt c n) refl
+
+module _ (X : ℕ → Type 0) (v : World) (inv : Inv X v) (n : ℕ) (i : isFifo n ≡ true) (tx : sending (frozenAt (v .chip) n) ≡ true)
+    (asked : Requested (v .chip) n) (some : 0 < fifoAt (v .chip) n .count) where
+  abbrev c : Model
+  c = v .chip
+
+  does : sends c n ≡ true
+  unfolding sends
+  does =
+      let req : flag TXREQ (fifoAt c n .control) ≡ true = ap (λ (x : ℕ). eqb x 1) (sym (requested-is c n) ∙ asked) in
+      rw (tx, req, lt-ltb 0 (fifoAt c n .count) some)
+
+  sends-oldest : SendsOldest v n
+  unfolding after event stepped sendOutput
+  sends-oldest =
+      let (m, item) = oldest c (inv .sound) (v .said) (inv .lists) n i some in
+      let order = inv .sound .valid .fifo n in (
+        m,
+        oldest-sent c n i does (order .head) (order .count) ∙ ap (λ (x : Decoding). x ∷ held (sendModel c n) n) item,
+        rw (i, does, item),
+      )
+
+pub oldest-goes : OldestGoes
+oldest-goes c w g es n i tx asked some = sends-oldest None (world c w es) (holds-always c w g es) n i tx asked some
+
+-- ---- where no call is under way
+
+module _ (n : ℕ) (i : isFifo n ≡ true) (v : World) (inv : Inv None v) (e : v .doing ≡ idle) (one : read TXREQ (fifoAt (v .chip) n .control) ≡ 1) where
+  asked-now : Inv (Only n) v
+  asked-now = record {
+    sound = inv .sound;
+    asked = λ j x. subst (λ (k : ℕ). read TXREQ (fifoAt (v .chip) k .control) ≡ 1) (sym x) one;
+    lists = inv .lists;
+    tells = inv .tells;
+    doing = subst (Doings (Only n) (v .chip)) (sym e) tt;
+  }
+
+  goes-out : GoesOut v n
+  goes-out es l =
+      let z = run-stands n es v asked-now l in
+      let req : Requested (after es v .chip) n = requested-is (after es v .chip) n ∙ z .asked n refl in
+      (req, λ tx some. sends-oldest (Only n) (after es v) z n i tx req some)
+
+-- ---- a request sets TXREQ
+
+module _ (n : ℕ) (i : isFifo n ≡ true) (c d : Model) (o : Sound c) (s : Sound d) where
+  abbrev seen : ℕ
+  seen = wordOf c (Register.Control n) % 2 ^ 32
+
+  request-sets : read TXREQ (fifoAt (controlWritten d n (modified (requestChange n) seen)) n .control) ≡ 1
+  request-sets =
+      let is : modified (requestChange n) seen ≡ settings (TXREQ := 1 ∷ []) seen
+      = change-sets (CiFIFOCON .address n) (TXREQ := 1 ∷ []) seen (mod-lt (wordOf c (Register.Control n)) (pow-pos 32)) (omega arith, tt) in
+      let gentle = control-gentle c n o in
+      let (f, wrote, fh, fc, fa) = plain-written d n s (settings (TXREQ := 1 ∷ []) seen)
+      (off UINC (TXREQ := 1 ∷ []) seen refl (omega arith, tt) ∙ gentle .uinc) (off FRESET (TXREQ := 1 ∷ []) seen refl (omega arith, tt) ∙ gentle .freset) in
+      ap (λ (w : ℕ). read TXREQ (fifoAt (controlWritten d n w) n .control)) is
+      ∙ ap (λ (m : Model). read TXREQ (fifoAt m n .control)) wrote
+      ∙ ap (λ (x : Fifo). read TXREQ (x .control)) (next-fifo d s n i f)
+      ∙ fa ∙ read-write TXREQ 1 seen (omega arith)
+
+-- the world after a request, alone or behind a push, whose two exchanges are answered; no call is under way then
+module _ (z : World) (inv : Inv None z) (n : ℕ) (i : isFifo n ≡ true) (c d : Model) (o : Sound c) (s : Sound d) (t : List Said)
+    (is : z ≡ record { chip = controlWritten d n (modified (requestChange n) (wordOf c (Register.Control n) % 2 ^ 32)); doing = idle; said = t }) where
+  goes-from-there : GoesOut z n
+  goes-from-there =
+      goes-out n i z inv (ap (λ (x : World). x .doing) is)
+      (ap (λ (x : World). read TXREQ (fifoAt (x .chip) n .control)) is ∙ request-sets n i c d o s)
+
+fit : (v : World) → Inv None v → Fit (v .chip) (v .said)
+fit v inv = record { sound = inv .sound; lists = inv .lists }
+
+pub request-sends : RequestSends
+request-sends c w g es e n i =
+    let v : World = world c w es in
+    let inv = holds-always c w g es in
+    just-two (λ ys. GoesOut (after (Begin (Request n) ∷ calm ys) v) n)
+    (λ b b′.
+    let f = buses-fit b (v .chip) (v .said) (fit v inv) in
+    let f′ = buses-fit b′ (buses b (v .chip)) _ f in
+    let (s, same, is) = request-goes n i false idlePush idleFetch (alone idlePush idleFetch) b b′ [] (v .chip) (v .said) in
+    goes-from-there _ (run-keeps (Begin (Request n) ∷ calm (b ∷ b′ ∷ [])) v inv) n i _ _ (f .sound) (f′ .sound) _
+    (request-starts-at v e n i (calm (b ∷ b′ ∷ [])) ∙ is ∙ nothing-more _))
+
+pub transmit-sends : TransmitSends
+transmit-sends c w g es e n header seq payload (bs, h) =
+    let v : World = world c w es in
+    let inv = holds-always c w g es in
+    let k : Command = Transmit n header seq payload in
+    let (i, coded) = encoded-for n header seq payload bs h in
+    seven (λ ys. Takes (atStatus v ys) n payload → GoesOut (after (Begin k ∷ calm ys) v) n)
+    (λ b₁ b₂ b₃ b₄ b₅ b b′ ok.
+    let (d, s, one, is) = half-way v (fit v inv) e n header seq payload bs h b₁ b₂ b₃ b₄ b₅ i ok in
+    let xs : List (List Bus) = b₁ ∷ b₂ ∷ b₃ ∷ b₄ ∷ b₅ ∷ [] in
+    let there = subst (Inv None) (is [] ∙ nothing-more _) (run-keeps (Begin k ∷ calm xs) v inv) in
+    let f = buses-fit b d s (record { sound = there .sound; lists = there .lists }) in
+    let f′ = buses-fit b′ (buses b d) _ f in
+    let u = pushed v (fit v inv) e n header seq payload bs h b₁ b₂ b₃ b₄ b₅ in
+    let (s′, same, goes) = request-goes n i true u idleFetch (pushed-ready v (fit v inv) e n header seq payload bs h b₁ b₂ b₃ b₄ b₅) b b′ [] d s in
+    goes-from-there _ (run-keeps (Begin k ∷ calm (b₁ ∷ b₂ ∷ b₃ ∷ b₄ ∷ b₅ ∷ b ∷ b′ ∷ [])) v inv) n i _ _ (f .sound) (f′ .sound) _
+    (is (b ∷ b′ ∷ []) ∙ goes ∙ nothing-more _))

@@ -1,0 +1,30 @@
+-- Demand 3 whole: each of its statements.
+-- Assumes nothing.
+use Rattle.history.specs.Demand.{Lists, PushExactly, PushedIff, GetExactly, GotIff, GetHandsOut, PeekExactly, PeekKeeps, HasNextExactly}
+use Rattle.history.specs.Demand.{PushFails, TransmitFails, RequestExactly, TransmitRefused, TransmitDone, RequestFails, OldestGoes, RequestSends, TransmitSends, NeverCaused, AnsweredWhole}
+use Rattle.history.specs.Example.{Begins, Sends, SendsNot}
+
+pub record Demand3 : Type 0 where
+  pub lists : Lists
+  pub pushExactly : PushExactly
+  pub pushedIff : PushedIff
+  pub getExactly : GetExactly
+  pub gotIff : GotIff
+  pub getHandsOut : GetHandsOut
+  pub peekExactly : PeekExactly
+  pub peekKeeps : PeekKeeps
+  pub hasNextExactly : HasNextExactly
+  pub pushFails : PushFails
+  pub transmitFails : TransmitFails
+  pub requestExactly : RequestExactly
+  pub transmitRefused : TransmitRefused
+  pub transmitDone : TransmitDone
+  pub requestFails : RequestFails
+  pub oldestGoes : OldestGoes
+  pub requestSends : RequestSends
+  pub transmitSends : TransmitSends
+  pub neverCaused : NeverCaused
+  pub answeredWhole : AnsweredWhole
+  pub begins : Begins
+  pub sends : Sends
+  pub sendsNot : SendsNot
