@@ -1,6 +1,7 @@
 -- The calls that set one part of the chip up: their items, one after the other, and what is refused before any exchange.
 -- Assumes nothing.
 use Prim.Native.Nat.{ℕ}
+use mathlib.Core.Bool.{not}
 use mathlib.Core.List.{List, [], _∷_}
 use Rattle.laws.specs.If.{if_then_else_}
 use Rattle.configuration.specs.CanControl.{REQOP}
@@ -59,8 +60,9 @@ configureBitTiming b = if timingFits b then ready failed (timingItems b) else tu
 
 unfoldable pub configureFifo : ℕ → FifoConfiguration → Prepared
 configureFifo n c =
-    if isFifo n then if fifoFits c then ready Refusal.SpiRead (Item.Change (fifoChange n c) ∷ []) else turnedDown Refusal.BadSetting
-    else turnedDown Refusal.BadNumber
+    if not (isFifo n) then turnedDown Refusal.BadNumber
+    else if not (fifoFits c) then turnedDown Refusal.BadSetting
+    else ready Refusal.SpiRead (Item.Change (fifoChange n c) ∷ [])
 
 -- "off" is only the first change
 unfoldable pub disableFilter : ℕ → Prepared

@@ -2,7 +2,7 @@
 -- Assumes nothing.
 use Prim.Native.Nat.{ℕ, _≤_, _<_}
 use mathlib.Core.Path.{_≡_, refl, ap}
-use mathlib.Core.Bool.{Bool, true, false, _&&_}
+use mathlib.Core.Bool.{Bool, true, false, not, _&&_}
 use native.Mathlib.Omega.{arith}
 use lib.Dec.{leb}
 use borrow.Author.Tests.{leb-true}
@@ -45,7 +45,7 @@ unfolding filterCheck isFifo
 filter-told f c = go (isFilter f) (leb 1 (c .fifo)) (leb (c .fifo) 31) (isIdentifier (c .object)) (isIdentifier (c .mask)) refl refl refl
   where
     go : (a l u i j : Bool) → leb (c .fifo) 31 ≡ u → isIdentifier (c .object) ≡ i → isIdentifier (c .mask) ≡ j
-        → (if a then if l && u then if i && j then Done.Good else Done.Bad Refusal.BadIdentifier else Done.Bad Refusal.BadNumber else Done.Bad Refusal.BadNumber) ≡ Done.Good
+        → (if not (a && (l && u)) then Done.Bad Refusal.BadNumber else if not (i && j) then Done.Bad Refusal.BadIdentifier else Done.Good) ≡ Done.Good
         → (c .object .id ≤ topId (c .object .extended)) × (c .mask .id ≤ topId (c .mask .extended)) × (c .fifo < 32)
     go true true true true true u i j e = (leb-true (c .object .id) (topId (c .object .extended)) i, leb-true (c .mask .id) (topId (c .mask .extended)) j, omega (arith, leb-true (c .fifo) 31 u))
     go true true true true false u i j e = absurd (not-good e)

@@ -1,7 +1,7 @@
 -- The changes that configure a FIFO and a filter.
 -- Assumes nothing.
 use Prim.Native.Nat.{ℕ, _/_, _%_}
-use mathlib.Core.Bool.{Bool, true, false, _&&_}
+use mathlib.Core.Bool.{Bool, true, false, not, _&&_}
 use mathlib.Core.List.{List, [], _∷_}
 use lib.Dec.{ltb, leb}
 use Rattle.laws.specs.If.{if_then_else_}
@@ -95,5 +95,6 @@ isFilter f = ltb f 32
 -- 20 for the filter's number and its target, then 21 for both identifiers
 unfoldable pub filterCheck : ℕ → FilterConfiguration → Done
 filterCheck f c =
-    if isFilter f then if isFifo (c .fifo) then if isIdentifier (c .object) && isIdentifier (c .mask) then Done.Good
-    else Done.Bad Refusal.BadIdentifier else Done.Bad Refusal.BadNumber else Done.Bad Refusal.BadNumber
+    if not (isFilter f && isFifo (c .fifo)) then Done.Bad Refusal.BadNumber
+    else if not (isIdentifier (c .object) && isIdentifier (c .mask)) then Done.Bad Refusal.BadIdentifier
+    else Done.Good

@@ -1,6 +1,6 @@
 // The changes that configure a FIFO and a filter.
 ghost use mathlib.Core.Path.{_≡_};
-ghost use mathlib.Core.Bool.{true, _&&_};
+ghost use mathlib.Core.Bool.{true, not, _&&_};
 ghost use Rattle.laws.specs.If.{if_then_else_};
 ghost use Rattle.spi.specs.declared.refusal.Refusal.{Refusal};
 ghost use Rattle.spi.specs.declared.refusal.Done.{Done};
@@ -190,7 +190,7 @@ pub fn mask_change(f: u8, i: Identifier, mode: FilterMode) -> Item
 
 // What the tests of a filter's number, its target, its object and its mask say.
 fn checked(filter: bool, fifo: bool, object: bool, mask: bool) -> Done
-    ensures { λ r. ⌜ r ≡ (if filter then if fifo then if object && mask then Done.Good else Done.Bad Refusal.BadIdentifier else Done.Bad Refusal.BadNumber else Done.Bad Refusal.BadNumber) ⌝ }
+    ensures { λ r. ⌜ r ≡ (if not (filter && fifo) then Done.Bad Refusal.BadNumber else if not (object && mask) then Done.Bad Refusal.BadIdentifier else Done.Good) ⌝ }
 {
     if filter {
         if fifo {

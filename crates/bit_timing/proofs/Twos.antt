@@ -1,18 +1,36 @@
 -- Seven bits and the number that they stand for.
 -- Assumes nothing.
-use mathlib.Core.Path.{_≡_, refl, ap, _∙_}
+use mathlib.Core.Path.{_≡_, refl, sym, ap, _∙_}
 use Prim.Native.Nat.{ℕ, suc, _-_, _^_, _<_}
 use native.Mathlib.Omega.{arith}
 use lib.Bits.{bitAnd, and-mask}
 use lib.IntN.{ℤ, pos, negsuc, _-ℤ_}
-use mathlib.Core.Bool.{Bool, true, false}
+use lib.Signed.{ltZ}
+use mathlib.Core.Bool.{Bool, true, false, false≢true}
 use lib.Dec.{ltb}
 use borrow.Author.Tests.{lt-ltb, le-ltb, ltb-true, ltb-false}
 use Rattle.laws.specs.If.{if_then_else_}
 use Rattle.laws.proofs.Choice.{by-if}
 use mir.Syntax.{w32}
 use mir.Val.{ofZ, SFits}
-use Rattle.bit_timing.specs.Signed.{sevenOf, numberOf, Small}
+use Rattle.bit_timing.specs.Signed.{sevenOf, numberOf, Small, isSmall}
+
+-- the test of the range, and what the code's two tests tell of it: a number below -64, and one not below
+pub small-told : (t : ℤ) → isSmall t ≡ true → Small t
+small-told (pos n) e = ltb-true n 64 e
+small-told (negsuc n) e = ltb-true n 64 e
+
+pub told-small : (t : ℤ) → Small t → isSmall t ≡ true
+told-small (pos n) h = lt-ltb n 64 h
+told-small (negsuc n) h = lt-ltb n 64 h
+
+pub below : (t : ℤ) → ltZ t (negsuc 63) ≡ true → isSmall t ≡ false
+below (pos n) e = absurd (false≢true e)
+below (negsuc n) e = le-ltb n 64 (omega (arith, ltb-true 63 n e))
+
+pub not-below : (t : ℤ) → ltZ t (negsuc 63) ≡ false → ltZ t (pos 64) ≡ isSmall t
+not-below (pos n) e = refl
+not-below (negsuc n) e = sym (lt-ltb n 64 (omega (arith, ltb-false 63 n e)))
 
 pub seven-lt : (t : ℤ) → Small t → sevenOf t < 128
 seven-lt (pos n) h = omega arith

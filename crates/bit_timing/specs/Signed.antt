@@ -1,6 +1,7 @@
 -- Numbers from -64 to 63 in seven bits, two's complement.
 -- Assumes nothing.
 use Prim.Native.Nat.{ℕ, _-_, _<_}
+use mathlib.Core.Bool.{Bool}
 use lib.Dec.{ltb}
 use lib.IntN.{ℤ, pos, negsuc, _-ℤ_}
 use Rattle.laws.specs.If.{if_then_else_}
@@ -9,6 +10,11 @@ use Rattle.laws.specs.If.{if_then_else_}
 abbrev pub Small : ℤ → Type 0
 Small (pos n) = n < 64
 Small (negsuc n) = n < 64
+
+-- the test of that
+abbrev pub isSmall : ℤ → Bool
+isSmall (pos n) = ltb n 64
+isSmall (negsuc n) = ltb n 64
 
 -- the seven bits that stand for a number
 abbrev pub sevenOf : ℤ → ℕ

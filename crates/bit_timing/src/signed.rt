@@ -1,7 +1,17 @@
 // Numbers from -64 to 63 in seven bits, two's complement: how TDCO is stored.
 ghost use mathlib.Core.Path.{_≡_};
 ghost use Prim.Native.Nat.{_<_};
-ghost use Rattle.bit_timing.specs.Signed.{sevenOf, numberOf, Small};
+ghost use Rattle.bit_timing.specs.Signed.{sevenOf, numberOf, Small, isSmall};
+
+// Whether seven bits hold a number.
+pub fn is_small(t: i32) -> bool
+    ensures { λ r. ⌜ r ≡ isSmall t ⌝ }
+{
+    if t < -64 {
+        return false;
+    }
+    t < 64
+}
 
 // A number as seven bits.
 pub fn seven(t: i32) -> u32

@@ -14,6 +14,7 @@ use Rattle.chip.specs.IoControl.{IOCON, XSTBYEN, TXCANOD, SOF, INTOD}
 use Rattle.bit_timing.specs.Nominal as nbt
 use Rattle.bit_timing.specs.Data as dbt
 use Rattle.bit_timing.specs.Delay.{CiTDC, TDCV, TDCO, TDCMOD}
+use Rattle.bit_timing.specs.Signed.{isSmall, sevenOf}
 use Rattle.interrupt.specs.Interrupt.{CiINT, IE}
 use Rattle.interrupt.specs.declared.Cause.{Cause}
 use Rattle.plan.specs.declared.change.Change.{Change}
@@ -72,12 +73,13 @@ dataSettings d = dbt.BRP := d .brp ∷ dbt.TSEG1 := d .tseg1 ∷ dbt.TSEG2 := d 
 abbrev pub dataChange : DataBitTime → Change
 dataChange d = changeOf (dbt.CiDBTCFG .address 0) (dataSettings d)
 
+-- TDCO is from -64 to 63
 unfoldable pub timingFits : BitTimeConfiguration → Bool
-timingFits b = allFit (nominalSettings (b .nominal)) && (allFit (dataSettings (b .data)) && fits TDCO (b .data .tdco))
+timingFits b = allFit (nominalSettings (b .nominal)) && (allFit (dataSettings (b .data)) && isSmall (b .data .tdco))
 
--- TDCMOD 2 is automatic
+-- TDCMOD 2 is automatic; TDCO by its seven bits, two's complement
 abbrev pub delaySettings : DataBitTime → List Setting
-delaySettings d = TDCMOD := 2 ∷ TDCO := d .tdco ∷ TDCV := 0 ∷ []
+delaySettings d = TDCMOD := 2 ∷ TDCO := sevenOf (d .tdco) ∷ TDCV := 0 ∷ []
 
 abbrev pub delayChange : DataBitTime → Change
 delayChange d = changeOf (CiTDC .address 0) (delaySettings d)

@@ -8,6 +8,7 @@ ghost use Rattle.laws.specs.If.{if_then_else_};
 ghost use Rattle.field.specs.Field.{place, Fits};
 ghost use Rattle.field.specs.Settings.{_:=_, AllFit};
 ghost use Rattle.configuration.specs.CanControl.{REQOP, DNCNT};
+ghost use Rattle.bit_timing.specs.Signed.{Small};
 ghost use Rattle.plan.specs.Change.{settingAll};
 ghost use Rattle.plan.specs.declared.item.Item.{Item};
 ghost use Rattle.plan.specs.declared.item.Poll.{Poll};
@@ -21,6 +22,7 @@ use crate::Settings;
 use bit_timing::DataBitTimeConfiguration;
 use bit_timing::NominalBitTimeConfiguration;
 use bit_timing::TransmitterDelayCompensation;
+use bit_timing::signed;
 use chip::IoControl;
 use chip::OscillatorControl;
 use configuration::CanControl;
@@ -111,7 +113,7 @@ pub fn timing_fits(b: BitTimeConfiguration) -> bool
     let d = b.data;
     if nominal_fits(n) {
         if data_fits(d) {
-            return d.tdco < 128;
+            return signed::is_small(d.tdco);
         }
     }
     false
@@ -150,11 +152,11 @@ pub fn data_change(d: DataBitTime) -> Item
 }
 
 pub fn delay_change(d: DataBitTime) -> Item
-    requires { ⌜ d .tdco < 128 ⌝ }
+    requires { ⌜ Small (d .tdco) ⌝ }
     ensures { λ r. ⌜ r ≡ Item.Change (delayChange d) ⌝ }
 {
     let a = with_field(changing(TransmitterDelayCompensation::address()), 16, 2, 2);
-    let b = with_field(a, 8, 7, d.tdco);
+    let b = with_field(a, 8, 7, signed::seven(d.tdco));
     Item::Change(with_field(b, 0, 6, 0))
 }
 

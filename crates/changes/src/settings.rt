@@ -22,13 +22,13 @@ pub struct NominalBitTime {
     pub sjw: u32,
 }
 
-// Fields of CiDBTCFG, and TDCO of CiTDC by its seven bits (`bit_timing::signed` has those of a number from -64 to 63).
+// Fields of CiDBTCFG, and TDCO of CiTDC, a number from -64 to 63.
 pub struct DataBitTime {
     pub brp: u32,
     pub tseg1: u32,
     pub tseg2: u32,
     pub sjw: u32,
-    pub tdco: u32,
+    pub tdco: i32,
 }
 
 pub struct BitTimeConfiguration {

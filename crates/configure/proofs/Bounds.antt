@@ -2,7 +2,7 @@
 -- its talk says is `follows`, `run-talk` and `outcome-talk` of crate `plan`, from `call-talk` on: each call is a plan.
 -- Assumes nothing.
 use Prim.Native.Nat.{ℕ, _+_, _≤_}
-use mathlib.Core.Bool.{Bool}
+use mathlib.Core.Bool.{Bool, not}
 use native.Mathlib.Omega.{arith}
 use lib.Dec.{eqb}
 use Rattle.laws.specs.If.{if_then_else_}
@@ -15,7 +15,7 @@ use Rattle.spi.specs.Talk.{onDone, Within}
 use Rattle.plan.specs.declared.item.Poll.{Poll}
 use Rattle.plan.specs.declared.item.Item.{Item}
 use Rattle.plan.specs.Talk.{asksOf}
-use Rattle.plan.specs.Prepared.{ready, turnedDown, talkFor}
+use Rattle.plan.specs.Prepared.{Prepared, ready, turnedDown, talkFor}
 use Rattle.plan.proofs.Runs.{call-bound, call-within, test-within}
 use Rattle.changes.specs.declared.settings.OscillatorConfiguration.{OscillatorConfiguration}
 use Rattle.changes.specs.declared.settings.IoConfiguration.{IoConfiguration}
@@ -60,8 +60,8 @@ configure-all-bound s =
 pub configure-fifo-bound : (n : ℕ) (c : FifoConfiguration) → Within 2 (talkFor (configureFifo n c))
 unfolding configureFifo
 configure-fifo-bound n c =
-    test-within 2 (isFifo n) (if fifoFits c then ready _ _ else turnedDown _) _
-    (test-within 2 (fifoFits c) (ready _ _) _ (call-bound (ready _ _)))
+    let P : Prepared → Type 0 = λ p. Within 2 (talkFor p) in
+    by-if P (not (isFifo n)) (λ e. tt) (λ e. by-if P (not (fifoFits c)) (λ d. tt) (λ d. call-bound (ready _ _)))
 
 pub disable-filter-bound : (f : ℕ) → Within 2 (talkFor (disableFilter f))
 unfolding disableFilter

@@ -1,7 +1,7 @@
 -- What the calls that set the chip up write.
 -- Assumes nothing.
 use Prim.Native.Nat.{ℕ, _/_, _^_, _≤_, _<_}
-use mathlib.Core.Path.{_≡_, ap, _∙_}
+use mathlib.Core.Path.{_≡_, refl, ap, _∙_}
 use mathlib.Core.Bool.{Bool, true, false}
 use mathlib.Core.List.{List, [], _∷_, _++_}
 use native.Mathlib.Omega.{arith}
@@ -19,6 +19,8 @@ use Rattle.chip.specs.IoControl.{IOCON}
 use Rattle.bit_timing.specs.Nominal.{CiNBTCFG}
 use Rattle.bit_timing.specs.Data.{CiDBTCFG}
 use Rattle.bit_timing.specs.Delay.{CiTDC}
+use Rattle.bit_timing.specs.Signed.{numberOf}
+use Rattle.bit_timing.proofs.Twos.{seven-lt, number-seven}
 use Rattle.interrupt.specs.Interrupt.{CiINT}
 use Rattle.fifo.specs.Control.{CiFIFOCON}
 use Rattle.filter.specs.Control.{CiFLTCON}
@@ -29,9 +31,9 @@ use Rattle.plan.specs.declared.change.Change.{Change}
 use Rattle.plan.specs.Change.{modified, changeOf}
 use Rattle.plan.proofs.Changes.{change-sets}
 use Rattle.areas.specs.declared.settings.FifoMode.{FifoMode}
-use Rattle.changes.specs.Changes.{modeSettings, oscillatorSettings, ioSettings, nominalSettings, dataSettings, delaySettings, stefSettings, txqenSettings, counterSettings, dncntSettings, rtxatSettings, asked, interruptSettings}
+use Rattle.changes.specs.Changes.{delayChange, modeSettings, oscillatorSettings, ioSettings, nominalSettings, dataSettings, delaySettings, stefSettings, txqenSettings, counterSettings, dncntSettings, rtxatSettings, asked, interruptSettings}
 use Rattle.areas.specs.Areas.{directionSettings, directionFits, fifoSettings, offSettings, objectSettings, maskSettings, onSettings}
-use Rattle.configure.specs.Laws.{Writes, ModeWrites, OscillatorWrites, IoWrites, TimingWrites, ConfigureWrites, FifoWrites, OffWrites, FilterWrites}
+use Rattle.configure.specs.Laws.{Writes, ModeWrites, OscillatorWrites, IoWrites, TimingWrites, OffsetReads, ConfigureWrites, FifoWrites, OffWrites, FilterWrites}
 use Rattle.changes.proofs.Tests.{fits-told, timing-told}
 use Rattle.areas.proofs.Tests.{transmit-told, fifo-told, filter-told}
 
@@ -85,11 +87,17 @@ io-writes c = writes (IOCON .address 0) (ioSettings c) (search fitting)
 
 pub timing-writes : TimingWrites
 timing-writes b e =
-    let h = timing-told b e in (
+    let h = timing-told b e in
+    let seven = seven-lt (b .data .tdco) (h .2) in (
       writes (CiNBTCFG .address 0) (nominalSettings (b .nominal)) (h .0),
       writes (CiDBTCFG .address 0) (dataSettings (b .data)) (h .1),
       writes (CiTDC .address 0) (delaySettings (b .data)) (search fitting),
     )
+
+pub offset-reads : OffsetReads
+offset-reads b w e l =
+    let set = written-sets (delayChange (b .data)) (delaySettings (b .data)) (timing-writes b e .2) w l 1 refl (lit< tt) in
+    ap numberOf set ∙ number-seven (b .data .tdco) (timing-told b e .2)
 
 pub configure-writes : ConfigureWrites
 configure-writes s e =

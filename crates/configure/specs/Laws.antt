@@ -4,8 +4,11 @@ use Prim.Native.Nat.{ℕ, _^_, _<_}
 use mathlib.Core.Path.{_≡_}
 use mathlib.Core.Bool.{true}
 use mathlib.Core.List.{List}
+use Rattle.field.specs.Field.{read}
 use Rattle.field.specs.Settings.{Setting, settings, AllFit}
 use Rattle.configuration.specs.CanControl.{REQOP, DNCNT}
+use Rattle.bit_timing.specs.Delay.{TDCO}
+use Rattle.bit_timing.specs.Signed.{numberOf}
 use Rattle.spi.specs.declared.refusal.Done.{Done}
 use Rattle.plan.specs.declared.change.Change.{Change}
 use Rattle.plan.specs.Change.{modified}
@@ -39,6 +42,12 @@ TimingWrites =
     → Writes (nominalChange (b .nominal)) (nominalSettings (b .nominal))
     × Writes (dataChange (b .data)) (dataSettings (b .data))
     × Writes (delayChange (b .data)) (delaySettings (b .data))
+
+-- TDCO as written stands for the number given, in two's complement
+abbrev pub OffsetReads : Type 0
+OffsetReads =
+    (b : BitTimeConfiguration) (w : ℕ) → timingFits b ≡ true → w < 2 ^ 32
+    → numberOf (read TDCO (modified (delayChange (b .data)) w)) ≡ b .data .tdco
 
 -- what `configure` does beside these four
 abbrev pub ConfigureWrites : Type 0

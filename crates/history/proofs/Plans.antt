@@ -2,12 +2,13 @@
 -- Assumes nothing.
 use Prim.Native.Nat.{ℕ, _/_, _<_}
 use mathlib.Core.Path.{_≡_, refl, ap, _∙_}
-use mathlib.Core.Bool.{Bool, true, false, _&&_}
+use mathlib.Core.Bool.{Bool, true, false, not, _&&_}
 use mathlib.Core.List.{List, [], _∷_}
 use native.Mathlib.Omega.{arith}
-use borrow.Author.Tests.{ltb-true, lt-leb}
+use borrow.Author.Tests.{ltb-true, lt-leb, not-false}
 use Rattle.laws.specs.All.{all}
 use Rattle.laws.proofs.Choice.{by-if}
+use Rattle.laws.proofs.Table.{both}
 use Rattle.field.specs.Field.{place, digit, read, Fits, apart, within}
 use Rattle.field.specs.Settings.{Setting as FieldSetting, _:=_, fieldsOf, settings, AllFit}
 use Rattle.field.proofs.Laws.{read-write}
@@ -131,24 +132,18 @@ module _ (X : ℕ → Type 0) where
   fifo-harmless : (n : ℕ) (c : FifoConfiguration) → Spare (configureFifo n c)
   unfolding configureFifo
   fifo-harmless n c =
-      by-if Spare (isFifo n)
-      (λ i. by-if Spare (fifoFits c)
-      (λ e. plan-harmless X Refusal.SpiRead (Item.Change (fifoChange n c) ∷ []) (control-harmless X n (fifoSettings c) i (fifo-spared c e), tt))
-      (λ e. refused-harmless X Refusal.BadSetting))
-      (λ i. refused-harmless X Refusal.BadNumber)
+      by-if Spare (not (isFifo n)) (λ i. refused-harmless X Refusal.BadNumber)
+      (λ i. by-if Spare (not (fifoFits c)) (λ e. refused-harmless X Refusal.BadSetting)
+      (λ e. plan-harmless X Refusal.SpiRead (Item.Change (fifoChange n c) ∷ []) (control-harmless X n (fifoSettings c) (not-false _ i) (fifo-spared c (not-false _ e)), tt)))
 
   filter-harmless : (f : ℕ) (c : FilterConfiguration) → Spare (configureFilter f c)
   unfolding configureFilter filterCheck
   filter-harmless f c =
       let P : Done → Type 0 = λ d. Spare (onDone turnedDown d (ready Refusal.SpiRead (filterItems f c))) in
-      by-if P (isFilter f)
-      (λ e. by-if P (isFifo (c .fifo))
-      (λ i. by-if P (isIdentifier (c .object) && isIdentifier (c .mask))
-      (λ j. let h = ltb-true f 32 e in
-      plan-harmless X Refusal.SpiRead (filterItems f c) (aside (filter-aside f h), (aside (object-aside f h), (aside (mask-aside f h), (aside (filter-aside f h), tt)))))
-      (λ j. refused-harmless X Refusal.BadIdentifier))
-      (λ i. refused-harmless X Refusal.BadNumber))
-      (λ e. refused-harmless X Refusal.BadNumber)
+      by-if P (not (isFilter f && isFifo (c .fifo))) (λ e. refused-harmless X Refusal.BadNumber)
+      (λ e. by-if P (not (isIdentifier (c .object) && isIdentifier (c .mask))) (λ j. refused-harmless X Refusal.BadIdentifier)
+      (λ j. let h = ltb-true f 32 (both (isFilter f) (isFifo (c .fifo)) (not-false _ e) .0) in
+      plan-harmless X Refusal.SpiRead (filterItems f c) (aside (filter-aside f h), (aside (object-aside f h), (aside (mask-aside f h), (aside (filter-aside f h), tt))))))
 
   off-harmless : (f : ℕ) → Spare (disableFilter f)
   unfolding disableFilter

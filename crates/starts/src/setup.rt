@@ -1,9 +1,13 @@
 // The calls that set the chip up. A yes or no is 0 or 1; a larger number is refused (24) as any setting that is too wide, after the
 // numbers of FIFOs (20).
-ghost use Prim.Native.Nat.{_≤_};
+ghost use mathlib.Core.Path.{_≡_};
+ghost use Prim.Native.Nat.{_≤_, _<_};
+ghost use lib.Dec.{ltb};
+ghost use Rattle.bit_timing.specs.Signed.{isSmall, sevenOf};
 use crate::simple::byte;
 use crate::simple::number;
 use crate::simple::word;
+use bit_timing::signed;
 use configure::BitTimeConfiguration;
 use configure::DataBitTime;
 use configure::FifoConfiguration;
@@ -71,6 +75,13 @@ pub fn io_call(a: &[u64]) -> Plan {
     plan::refused_plan(Refusal::BadSetting)
 }
 
+// TDCO stands on a line by its seven bits, 127 for -1. What is wider becomes a number that the call refuses (24).
+fn offset(n: u32) -> i32
+    ensures { λ r. ⌜ (isSmall r ≡ ltb n 128) × (n < 128 → sevenOf r ≡ n) ⌝ }
+{
+    if n < 128 { signed::number(n) } else { 64 }
+}
+
 // Nine arguments from k on.
 pub fn bit_time(a: &[u64], k: usize) -> BitTimeConfiguration
     requires { ⌜ k ≤ 20 ⌝ }
@@ -86,7 +97,7 @@ pub fn bit_time(a: &[u64], k: usize) -> BitTimeConfiguration
         tseg1: word(a, k + 5),
         tseg2: word(a, k + 6),
         sjw: word(a, k + 7),
-        tdco: word(a, k + 8),
+        tdco: offset(word(a, k + 8)),
     };
     BitTimeConfiguration {
         nominal: n,
