@@ -17,7 +17,6 @@ use Rattle.configuration.specs.CanControl.{OPMOD, REQOP, TXQEN, STEF}
 use Rattle.chip.specs.OscillatorControl.{PLLEN, PLLRDY}
 use Rattle.fifo.specs.Status.{RXOVIF}
 use Rattle.operation.specs.declared.place.Register.{Register}
-use Rattle.ring.specs.declared.ring.Fifo.{Fifo}
 use Rattle.ring.specs.Ring.{configured}
 use Rattle.ring.specs.Layout.{end}
 use Rattle.ring.proofs.Laws.{in-ram, uinc-inside as configured-ring}
@@ -78,7 +77,7 @@ leaving m w c e =
 -- ---- the mode
 
 -- a mode has three bits
-mode-fits : (x : Fixed) → modeOf x < 2 ^ 3
+pub mode-fits : (x : Fixed) → modeOf x < 2 ^ 3
 unfolding modeOf
 mode-fits x = by-if (λ (n : ℕ). n < 2 ^ 3) (x .configuring) (λ e. omega arith) (λ e. field-lt (x .con) 24 3)
 

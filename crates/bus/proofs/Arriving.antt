@@ -1,8 +1,8 @@
 -- What deliver answers and leaves, by the first cause that turns a frame down.
 -- Assumes nothing.
-use Prim.Native.Nat.{ℕ, _^_, _≤_, _<_}
+use Prim.Native.Nat.{ℕ, _^_}
 use mathlib.Core.Path.{_≡_, refl, sym, ap, _∙_}
-use mathlib.Core.Bool.{Bool, true, false, not, false≢true}
+use mathlib.Core.Bool.{Bool, true, false, false≢true}
 use mathlib.Core.List.{List, [], _∷_}
 use mathlib.Core.Logic.{_↔_}
 use native.Mathlib.Omega.{arith}
@@ -24,7 +24,7 @@ use Rattle.state.specs.declared.Model.{Model}
 use Rattle.state.specs.Model.{fifoAt, frozenAt, withFifo, written}
 use Rattle.bus.specs.declared.arrival.Delivery.{Delivery}
 use Rattle.bus.specs.declared.arrival.Delivered.{Delivered}
-use Rattle.bus.specs.Held.{slotOf, held}
+use Rattle.bus.specs.Held.{slotOf}
 use Rattle.bus.specs.Bus.{incoming, delivered, appended, byEncoding, deliverOf}
 use Rattle.bus.specs.Numbers.{deliveryNumbers}
 use Rattle.bus.specs.Laws.{hasDlc, deliverAnswer, DeliverAnswers, Deliverable, DeliveredIff, Leaves, TurnedDown}

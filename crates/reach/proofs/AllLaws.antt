@@ -4,6 +4,7 @@ use Rattle.reach.specs.Laws.{Laws}
 use Rattle.reach.proofs.Kept.{always-valid}
 use Rattle.reach.proofs.Told.{uinc-reads-0, freset-reads-0}
 use Rattle.reach.proofs.Chip.{send-takes, send-keeps, send-inside, deliver-appends, full-overflows, entering, resetting, inside-empty, opmod-exactly, status-reads}
+use Rattle.reach.proofs.Twins.{mode-asked, modes-alike, rtren-written, rtren-idle}
 
 pub laws : Laws
 laws = record {
@@ -20,4 +21,8 @@ laws = record {
   insideEmpty = inside-empty;
   opmodExactly = opmod-exactly;
   statusReads = status-reads;
+  modeAsked = mode-asked;
+  modesAlike = modes-alike;
+  rtrenWritten = rtren-written;
+  rtrenIdle = rtren-idle;
 }

@@ -2,7 +2,7 @@
 -- Assumes nothing.
 use Prim.Native.Nat.{ℕ, _+_, _*_, _%_, _^_, _<_}
 use mathlib.Core.Path.{_≡_, refl, sym, ap, ap₂, subst, _∙_}
-use mathlib.Core.Bool.{Bool, true, false, _&&_, not, false≢true}
+use mathlib.Core.Bool.{Bool, true, false, _&&_, not}
 use mathlib.Core.List.{List, [], _∷_, _++_}
 use native.Mathlib.Omega.{arith}
 use borrow.Author.Tests.{ltb-true, lt-ltb, ltb-false, leb-false, eqb-true, eqb-false, eq-eqb}
@@ -14,7 +14,7 @@ use Rattle.laws.proofs.Choice.{by-if}
 use Rattle.laws.proofs.Table.{both}
 use Rattle.field.specs.Field.{read, flag, digit}
 use Rattle.configuration.specs.CanControl.{REQOP}
-use Rattle.fifo.specs.Control.{TXEN, TXREQ, FSIZE, payloadOf, isFifo, CiFIFOCON}
+use Rattle.fifo.specs.Control.{TXEN, TXREQ, payloadOf, isFifo, CiFIFOCON}
 use Rattle.fifo.specs.Status.{RXOVIF}
 use Rattle.header.specs.declared.Header.{Header}
 use Rattle.message.specs.Message.{Encoding, encoding, Decoding, holds}
@@ -25,7 +25,6 @@ use Rattle.ring.specs.declared.ring.Fifo.{Fifo}
 use Rattle.ring.specs.Ring.{sending, depth, fresh, claimed, overflowed, sent, turned}
 use Rattle.ring.specs.Registers.{control, status}
 use Rattle.ring.proofs.Laws.{frozen-kept, control-off, send-txreq, entering-empties, status-bits}
-use Rattle.state.specs.declared.Fixed.{Fixed}
 use Rattle.state.specs.declared.Model.{Model}
 use Rattle.state.specs.Model.{areas, blank, reset, fifoAt, frozenAt, withFifo}
 use Rattle.bank.specs.declared.writing.Written.{Written}
@@ -40,8 +39,8 @@ use Rattle.bus.proofs.Laws.{oldest-sent, held-length}
 use Rattle.bus.proofs.Arriving.{by-deliver, by-appended, clash}
 use Rattle.reach.specs.Bus.{Bus, Send, Deliver, stepped}
 use Rattle.reach.specs.Reach.{Happening, Exchange, On, happens, lived, Reached, Valid}
-use Rattle.reach.specs.Chip.{Requested, Takes, SendTakes, SendKeeps, SendInside, DeliverAppends, FullOverflows, Entered, Entering, Resetting, InsideEmpty, OpmodExactly}
-use Rattle.reach.specs.Chip.{statusOf, StatusReads}
+use Rattle.reach.specs.Chip.{Requested, SendTakes, SendKeeps, SendInside, DeliverAppends, FullOverflows, Entered, Entering, Resetting, InsideEmpty, OpmodExactly}
+use Rattle.reach.specs.Chip.{StatusReads}
 use Rattle.reach.proofs.Kept.{at-replicate, turned-at, always-valid}
 use Rattle.reach.proofs.Sound.{Sound}
 use Rattle.reach.proofs.Slots.{fifo-told, filled, filled-held, filled-item, filled-sound, next-fifo, more-held}
@@ -162,7 +161,8 @@ module _ (m : Model) (r : Reached m) (n : ℕ) (header : Header) (time : ℕ) (p
   unfolding claimed
   puts i bs e =
       by-appended m n header time payload Appends bs
-      (λ a. other _ _ _ (λ z. omega arith)) (λ a b. other _ _ _ (λ z. omega arith)) (λ a b c. other _ _ _ (λ z. omega arith)) (λ a b c d. other _ _ _ (λ z. omega arith))
+      (λ a. other _ _ _ (λ z. omega arith)) (λ a b. other _ _ _ (λ z. omega arith)) (λ a b c. other _ _ _ (λ z. omega arith))
+      (λ a b c d. other _ _ _ (λ z. omega arith))
       (λ a b c d z.
       let s : Sound m = record { valid = always-valid m r; out = a } in
       let free : fifoAt m n .count < depth (frozenAt m n) = leb-false (depth (frozenAt m n)) (fifoAt m n .count) d in
@@ -323,5 +323,7 @@ status-reads m c n i =
     let k = frozen-kept (frozenAt m n) f in
     rw (held-length m n i, c)
     (status-bits (frozenAt m n) f
-    ∙ ap₂ (λ (t d : ℕ). if eqb t 1 then digit (ltb (f .count) (d + 1)) + 4 * digit (eqb (f .count) 0) else digit (ltb 0 (f .count)) + 4 * digit (leb (d + 1) (f .count)) + 8 * digit (f .over))
+    ∙ ap₂ (λ (t d : ℕ).
+    if eqb t 1 then digit (ltb (f .count) (d + 1)) + 4 * digit (eqb (f .count) 0)
+    else digit (ltb 0 (f .count)) + 4 * digit (leb (d + 1) (f .count)) + 8 * digit (f .over))
     (sym (k .1 .0)) (sym (k .1 .1 .0)))

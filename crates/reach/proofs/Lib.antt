@@ -6,4 +6,6 @@ pub mod Sound
 pub mod Slots
 pub mod Arrivals
 pub mod Chip
+pub mod Same
+pub mod Twins
 pub mod AllLaws

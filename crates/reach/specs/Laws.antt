@@ -2,6 +2,7 @@
 -- Assumes nothing.
 use Rattle.reach.specs.Reach.{AlwaysValid, UincReads0, FresetReads0}
 use Rattle.reach.specs.Chip.{SendTakes, SendKeeps, SendInside, DeliverAppends, FullOverflows, Entering, Resetting, InsideEmpty, OpmodExactly, StatusReads}
+use Rattle.reach.specs.Twins.{ModeAsked, ModesAlike, RtrenWritten, RtrenIdle}
 
 pub record Laws : Type 0 where
   pub alwaysValid : AlwaysValid
@@ -17,3 +18,7 @@ pub record Laws : Type 0 where
   pub insideEmpty : InsideEmpty
   pub opmodExactly : OpmodExactly
   pub statusReads : StatusReads
+  pub modeAsked : ModeAsked
+  pub modesAlike : ModesAlike
+  pub rtrenWritten : RtrenWritten
+  pub rtrenIdle : RtrenIdle

@@ -1,4 +1,5 @@
 pub mod Bus
 pub mod Reach
 pub mod Chip
+pub mod Twins
 pub mod Laws
