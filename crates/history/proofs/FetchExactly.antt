@@ -12,7 +12,7 @@ use lib.Pow.{pow-pos}
 use borrow.Author.Tests.{ltb-true, ltb-false, le-ltb, eq-eqb, ne-eqb}
 use Rattle.laws.specs.If.{if_then_else_}
 use Rattle.laws.proofs.Choice.{by-if}
-use Rattle.field.specs.Field.{mark, digit}
+use Rattle.field.specs.Field.{mark}
 use Rattle.fifo.specs.Control.{UINC, isFifo}
 use Rattle.words.specs.Words.{leBytes, roundUp}
 use Rattle.words.proofs.Laws.{up-four}
@@ -42,7 +42,7 @@ use Rattle.bus.specs.Held.{slotOf, itemAt}
 use Rattle.reach.specs.Bus.{Bus, stepped}
 use Rattle.history.specs.Command.{Command, HasNext, Peek, Get, started, lent, firstCall}
 use Rattle.history.specs.History.{Begin, Said, called, Doing, idle, busy, World, hears, heard, isOver, settled, goesOn, event, after}
-use Rattle.history.specs.Demand.{buses, calm, atStatus, calls, Answers, Ending, ending, Ends, readAs, fetchAnswer, hasNextAnswer}
+use Rattle.history.specs.Demand.{buses, calm, atStatus, calls, Answers, Ending, refusal, answer, Ends, readAs, fetchAnswer, hasNextAnswer}
 use Rattle.history.proofs.Few.{two, five}
 use Rattle.history.proofs.Line.{world, spoken}
 use Rattle.history.proofs.Asks.{hear-control, hear-status, hear-address, hear-ram, hear-behind, tell-control}
@@ -55,6 +55,13 @@ use Rattle.history.proofs.Fetchings.{fetched, fetching, turned, still, 
 use Rattle.history.proofs.Mid.{Oldest, oldest-later}
 use Rattle.history.proofs.FetchSteps.{by-body}
 use Rattle.history.proofs.Calm.{spokenOf, after-calm, calls-buses, calls-snoc, idle-calm, Fit, step-later, buses-keep, buses-fit, buses-fixed, at-status}
+
+-- some or none, by either test
+some-not : (a : ℕ) → ltb 0 a ≡ true → eqb a 0 ≡ false
+some-not a e = ne-eqb a 0 (λ z. omega (arith, z, ltb-true 0 a e))
+
+none-is : (a : ℕ) → ltb 0 a ≡ false → eqb a 0 ≡ true
+none-is a e = let z : 0 ≡ a = omega (arith, ltb-false 0 a e) in eq-eqb a 0 (sym z)
 
 -- nothing is put into the lent buffer
 filled-none : (held buf : List ℕ) → found.filled held 0 buf ≡ buf
@@ -100,25 +107,32 @@ found-said k d n buf = if eqb (fifoAt d n .count) 0 then called k Outcome.Empty 
 unfoldable pub fetchSaid : Command → Model → ℕ → List ℕ → Said
 fetchSaid k d n buf = if sending (frozenAt d n) then called k (Outcome.Refused Refusal.FifoNotRx) buf else found-said k d n buf
 
--- by numbers
+-- it is said as a call ends
+abbrev As : Command → Said → Ending → Type 0
+As k x (refusal r) = (o : Outcome) × (outcomeNumbers o ≡ r ∷ []) × (x ≡ called k o (lent k))
+As k x (answer o buf) = x ≡ called k o buf
+
+ends-as : (v : World) (k : Command) → firstCall k ≡ k → (xs : List (List Bus)) (x : Said) (y : Ending) → As k x y → Answers v k xs (x ∷ []) → Ends v k xs y
+ends-as v k one xs x (refusal r) (o, is, said) says =
+    (o, is, says ∙ ap (λ (z : Said). calls (v .said) ++ (z ∷ [])) (said ∙ ap (λ (j : Command). called j o (lent k)) (sym one)))
+ends-as v k one xs x (answer o buf) said says =
+    says ∙ ap (λ (z : Said). calls (v .said) ++ (z ∷ [])) (said ∙ ap (λ (j : Command). called j o buf) (sym one))
+
 module _ (k : Command) (d : Model) (n : ℕ) (buf : List ℕ) where
-  abbrev As : Said → Ending → Type 0
-  As x y = (o : Outcome) × (outcomeNumbers o ≡ y .numbers) × (x ≡ called k o (y .buffer))
+  read-as : (x : Decoding) → As k (tells k x buf) (readAs x buf)
+  read-as (holds m) = refl
+  read-as (bad r) = refl
+  read-as short = refl
 
-  read-numbers : (x : Decoding) → As (tells k x buf) (readAs x buf)
-  read-numbers (holds m) = (Outcome.Message (found.foundOf m), refl, refl)
-  read-numbers (bad r) = (Outcome.Refused r, refl, refl)
-  read-numbers short = (Outcome.Running, refl, refl)
-
-  fetch-numbers : As (fetchSaid k d n buf) (fetchAnswer d n buf)
+  fetch-as : lent k ≡ buf → As k (fetchSaid k d n buf) (fetchAnswer d n buf)
   unfolding fetchSaid fetchAnswer
-  fetch-numbers = go (sending (frozenAt d n)) (eqb (fifoAt d n .count) 0)
+  fetch-as e = go (sending (frozenAt d n)) (eqb (fifoAt d n .count) 0)
     where
-      go : (x y : Bool) → As (if x then called k (Outcome.Refused Refusal.FifoNotRx) buf else if y then called k Outcome.Empty buf else tells k (itemAt d n 0) buf)
-          (if x then ending (9 ∷ []) buf else if y then ending (0 ∷ []) buf else readAs (itemAt d n 0) buf)
-      go true y = (Outcome.Refused Refusal.FifoNotRx, refl, refl)
-      go false true = (Outcome.Empty, refl, refl)
-      go false false = read-numbers (itemAt d n 0)
+      go : (x y : Bool) → As k (if x then called k (Outcome.Refused Refusal.FifoNotRx) buf else if y then called k Outcome.Empty buf else tells k (itemAt d n 0) buf)
+          (if x then refusal 9 else if y then answer Outcome.Empty buf else readAs (itemAt d n 0) buf)
+      go true y = (Outcome.Refused Refusal.FifoNotRx, refl, ap (called k (Outcome.Refused Refusal.FifoNotRx)) (sym e))
+      go false true = refl
+      go false false = read-as (itemAt d n 0)
 
 -- ---- one exchange of a call
 
@@ -331,11 +345,10 @@ module _ (want : Want) (n : ℕ) (buf : List ℕ) (p : Plan) (u : Pushes) where
               let some : 0 < fifoAt d n .count = ltb-true _ _ y in
               let (m, item) = oldest d (ok .sound) t (ok .lists) n i some in
               let s : Shows (slotOf d n 0) (frozenAt d n) m d = record { oldest = record { rx = e; some = some; item = item }; place = refl; frozen = refl } in
-              rw (ne-eqb (fifoAt d n .count) 0 (λ z. omega (arith, z, some)), item)
+              rw (some-not (fifoAt d n .count) y, item)
               (runs rest held FetchAt.Address _ d t _ refl (addresses (slotOf d n 0) (frozenAt d n) m b₃ b₄ b₅ b₆ b₇ r more held d t ok s))
           go false y =
-              let none : 0 ≡ fifoAt d n .count = omega (arith, ltb-false 0 (fifoAt d n .count) y) in
-              rw (eq-eqb (fifoAt d n .count) 0 (sym none)) (ends rest held FetchAt.Empty _ d t refl ∙ rw (lent-is want reads n buf, filled-none held buf))
+              rw (none-is (fifoAt d n .count) y) (ends rest held FetchAt.Empty _ d t refl ∙ rw (lent-is want reads n buf, filled-none held buf))
 
   -- ---- the control read, which all three begin with; what is told of the chip at the status read then follows
 
@@ -383,13 +396,9 @@ fetch-starts want v e n buf start xs x from =
 
 -- ---- has-next
 
-abbrev isNext : Bool → Outcome
-isNext true = Outcome.Yes
-isNext false = Outcome.No
-
 module _ (v : World) (f : Fit (v .chip) (v .said)) (e : v .doing ≡ idle) (n : ℕ) (i : isFifo n ≡ true) where
   abbrev next-said : Model → Said
-  next-said d = called (HasNext n) (isNext (ltb 0 (fifoAt d n .count))) []
+  next-said d = if eqb (fifoAt d n .count) 0 then called (HasNext n) Outcome.No [] else called (HasNext n) Outcome.Yes []
 
   next-status : (r : List (List Bus)) (d : Model) (t : List Said) → Fit d t → sending (frozenAt d n) ≡ false
       → Now Want.HasNext n [] idlePlan idlePush r (replicate 64 0) FetchAt.Status d t (next-said d)
@@ -397,35 +406,37 @@ module _ (v : World) (f : Fit (v .chip) (v .said)) (e : v .doing ≡ idle) (n : 
       let w : ℕ = wordOf d (Register.Status n) in
       let y : Bool = ltb 0 (fifoAt d n .count) in
       then-to Want.HasNext n [] idlePlan idlePush r (replicate 64 0) FetchAt.Status d t (next-said d) (leBytes w) d (FetchAt.Told y)
-      (hear-status [] d n i) (fetch-status d n Want.HasNext (ok .sound) x) (go (leBytes w) y)
+      (hear-status [] d n i) (fetch-status d n Want.HasNext (ok .sound) x) (go (leBytes w) y refl)
     where
-      go : (rx : List ℕ) (y : Bool) → To Want.HasNext n [] idlePlan idlePush r (replicate 64 0) (FetchAt.Told y) rx d t (called (HasNext n) (isNext y) [])
-      go rx true = ends Want.HasNext n [] idlePlan idlePush r (replicate 64 0) (FetchAt.Told true) rx d t refl ∙ rw (filled-none (replicate 64 0) [])
-      go rx false = ends Want.HasNext n [] idlePlan idlePush r (replicate 64 0) (FetchAt.Told false) rx d t refl ∙ rw (filled-none (replicate 64 0) [])
+      go : (rx : List ℕ) (y : Bool) → ltb 0 (fifoAt d n .count) ≡ y → To Want.HasNext n [] idlePlan idlePush r (replicate 64 0) (FetchAt.Told y) rx d t (next-said d)
+      go rx true z =
+          rw (some-not (fifoAt d n .count) z)
+          (ends Want.HasNext n [] idlePlan idlePush r (replicate 64 0) (FetchAt.Told true) rx d t refl ∙ rw (filled-none (replicate 64 0) []))
+      go rx false z =
+          rw (none-is (fifoAt d n .count) z)
+          (ends Want.HasNext n [] idlePlan idlePush r (replicate 64 0) (FetchAt.Told false) rx d t refl ∙ rw (filled-none (replicate 64 0) []))
 
   next-starts : started (HasNext n) ≡ fetching Want.HasNext n (replicate 64 0) FetchAt.Control idlePlan idlePush
   unfolding ofFetch fetch.hasNextStart fetch.firstAt
   next-starts = rw i
 
-  next-numbers : (d : Model) → (o : Outcome) × (outcomeNumbers o ≡ hasNextAnswer d n .numbers)
-      × ((if sending (frozenAt d n) then called (HasNext n) (Outcome.Refused Refusal.FifoNotRx) [] else next-said d) ≡ called (HasNext n) o (hasNextAnswer d n .buffer))
+  next-as : (d : Model) → As (HasNext n) (if sending (frozenAt d n) then called (HasNext n) (Outcome.Refused Refusal.FifoNotRx) [] else next-said d) (hasNextAnswer d n)
   unfolding hasNextAnswer
-  next-numbers d = go (sending (frozenAt d n)) (ltb 0 (fifoAt d n .count))
+  next-as d = go (sending (frozenAt d n)) (eqb (fifoAt d n .count) 0)
     where
-      go : (x y : Bool) → (o : Outcome) × (outcomeNumbers o ≡ (if x then ending (9 ∷ []) [] else ending (0 ∷ digit y ∷ []) []) .numbers)
-          × ((if x then called (HasNext n) (Outcome.Refused Refusal.FifoNotRx) [] else called (HasNext n) (isNext y) [])
-          ≡ called (HasNext n) o ((if x then ending (9 ∷ []) [] else ending (0 ∷ digit y ∷ []) []) .buffer))
+      go : (x y : Bool) → As (HasNext n)
+          (if x then called (HasNext n) (Outcome.Refused Refusal.FifoNotRx) [] else if y then called (HasNext n) Outcome.No [] else called (HasNext n) Outcome.Yes [])
+          (if x then refusal 9 else if y then answer Outcome.No [] else answer Outcome.Yes [])
       go true y = (Outcome.Refused Refusal.FifoNotRx, refl, refl)
-      go false true = (Outcome.Yes, refl, refl)
-      go false false = (Outcome.No, refl, refl)
+      go false true = refl
+      go false false = refl
 
   next-exact : (b₁ b₂ : List Bus) (r : List (List Bus)) → Ends v (HasNext n) (b₁ ∷ b₂ ∷ r) (hasNextAnswer (atStatus v (b₁ ∷ b₂ ∷ r)) n)
   next-exact b₁ b₂ r =
       let d : Model = buses b₂ (buses b₁ (v .chip)) in
-      let (o, is, said) = next-numbers d in
       let from = controls Want.HasNext n [] idlePlan idlePush i r (replicate 64 0) next-said (next-status r) b₁ b₂ (v .chip) (v .said) f in
       rw (at-status v b₁ b₂ r)
-      (o, is, fetch-starts Want.HasNext v e n [] next-starts (b₁ ∷ b₂ ∷ r) _ from ∙ ap (λ (x : Said). calls (v .said) ++ (x ∷ [])) said)
+      (ends-as v (HasNext n) refl (b₁ ∷ b₂ ∷ r) _ (hasNextAnswer d n) (next-as d) (fetch-starts Want.HasNext v e n [] next-starts (b₁ ∷ b₂ ∷ r) _ from))
 
   pub has-next-exactly : (xs : List (List Bus)) → length xs ≡ 2 → Ends v (HasNext n) xs (hasNextAnswer (atStatus v xs) n)
   has-next-exactly xs l = two (λ ys. Ends v (HasNext n) ys (hasNextAnswer (atStatus v ys) n)) next-exact xs (omega (arith, l))
@@ -460,8 +471,7 @@ module _ (want : Want) (reads : Reading want) (v : World) (f : Fit (v .chip) (v 
       → Ends v call xs (fetchAnswer (atStatus v xs) n buf)
   fetch-exactly one xs l m =
       let d : Model = atStatus v xs in
-      let (o, is, said) = fetch-numbers call d n buf in
-      (o, is, fetch-said xs l m ∙ ap (λ (x : Said). calls (v .said) ++ (x ∷ [])) (said ∙ ap (λ (k : Command). called k o (fetchAnswer d n buf .buffer)) (sym one)))
+      ends-as v call one xs _ (fetchAnswer d n buf) (fetch-as call d n buf (lent-is want reads n buf)) (fetch-said xs l m)
 
 module _ (v : World) (f : Fit (v .chip) (v .said)) (e : v .doing ≡ idle) (n : ℕ) (buf : List ℕ) (i : isFifo n ≡ true) (long : 64 ≤ length buf) (xs : List (List Bus)) where
   pub peek-exactly : length xs ≡ 7 → Ends v (Peek n buf) xs (fetchAnswer (atStatus v xs) n buf)

@@ -36,13 +36,13 @@ use Rattle.reach.specs.Bus.{Bus}
 use Rattle.history.specs.Command.{Command, Push, started}
 use Rattle.history.specs.History.{Event, Begin, Said, called, Doing, idle, busy, World, hears, settled, event, after}
 use Rattle.history.specs.Lists.{doneWith, acceptedIn}
-use Rattle.history.specs.Demand.{buses, calm, atStatus, calls, Answers, Ending, ending, done, Ends, WellFormed, pushAnswer, Takes}
+use Rattle.history.specs.Demand.{buses, calm, atStatus, calls, Answers, Ending, refusal, answer, Ends, WellFormed, pushAnswer, Takes}
 use Rattle.history.proofs.Few.{five, same-last}
 use Rattle.history.proofs.Line.{world, spoken}
 use Rattle.history.proofs.Slots.{filled, filled-held, filled-sound}
 use Rattle.history.proofs.Asks.{hear-control, hear-status, hear-address}
 use Rattle.history.proofs.Replies.{control-gentle, next-control, next-status, next-address}
-use Rattle.history.proofs.Pushing.{commanded, pushing, turned, still, refused, done as finished}
+use Rattle.history.proofs.Pushing.{commanded, pushing, turned, still, refused, done}
 use Rattle.history.proofs.Mid.{Tx, PushMid}
 use Rattle.history.proofs.PushSteps.{object-fits, encoded-for, starting, inside, object-told, object-mid, uinc-told}
 use Rattle.history.proofs.Calm.{spokenOf, after-calm, calls-buses, calls-snoc, idle-calm, Fit, buses-fit, buses-fixed, buses-push, at-status}
@@ -222,19 +222,19 @@ module _ (also : Bool) (n : ℕ) (header : Header) (seq : ℕ) (payload bs : Lis
   frozen-then = rw (buses-fixed b₂ (buses b₁ c) _ (buses-fit b₁ c t g), buses-fixed b₁ c t g)
 
   -- what holds where its FIFO takes it, and of each refusal, holds of its answer
-  pub push-by : (P : Ending → Type 0) → (Takes d n payload → P done)
-      → ((x : Refusal) → Refused also n header seq payload bs p f i coded (b₁ ∷ b₂ ∷ r) c t x → P (ending (numbered x) [])) → P (pushAnswer d n payload)
+  pub push-by : (P : Ending → Type 0) → (Takes d n payload → P (answer Outcome.Done []))
+      → ((x : Refusal) (k : ℕ) → numbered x ≡ k ∷ [] → Refused also n header seq payload bs p f i coded (b₁ ∷ b₂ ∷ r) c t x → P (refusal k)) → P (pushAnswer d n payload)
   unfolding pushAnswer
   push-by P good bad =
       let fr : frozenAt d n ≡ frozenAt c n = frozen-then in
       let control = to-control also n header seq payload bs p f i coded b₁ c t g in
       let away = control-away also n header seq payload bs p f i coded b₁ c t g (b₂ ∷ r) in
       by-if P (not (sending (frozenAt d n)))
-      (λ x. bad Refusal.FifoNotTx (away Refusal.FifoNotTx (control ∙ rw (← fr, not-true (sending (frozenAt d n)) x))))
+      (λ x. bad Refusal.FifoNotTx 6 refl (away Refusal.FifoNotTx (control ∙ rw (← fr, not-true (sending (frozenAt d n)) x))))
       (λ x. by-if P (ltb (payloadOf (frozenAt d n)) (length payload))
-      (λ y. bad Refusal.FifoTooSmall (away Refusal.FifoTooSmall (control ∙ rw (← fr, not-false (sending (frozenAt d n)) x, y))))
+      (λ y. bad Refusal.FifoTooSmall 7 refl (away Refusal.FifoTooSmall (control ∙ rw (← fr, not-false (sending (frozenAt d n)) x, y))))
       (λ y. by-if P (leb (depth (frozenAt d n)) (fifoAt d n .count))
-      (λ z. bad Refusal.FifoFull (status-full also n header seq payload bs p f i coded b₁ b₂ c t g
+      (λ z. bad Refusal.FifoFull 8 refl (status-full also n header seq payload bs p f i coded b₁ b₂ c t g
       (rw (← fr) (not-false _ x)) (rw (← fr) (ltb-false _ _ y)) r (rw (← fr) (leb-true _ _ z))))
       (λ z. good (not-false _ x, ltb-false _ _ y, leb-false _ _ z))))
 
@@ -265,20 +265,20 @@ module _ (v : World) (g : Fit (v .chip) (v .said)) (e : v .doing ≡ idle) (n : 
   push-done ok =
       let (i, coded) = encoded-for n header seq payload bs h in
       let (d, u, s, q) = push-goes false n header seq payload bs idlePlan idleFetch i coded b₁ b₂ (b₃ ∷ b₄ ∷ b₅ ∷ r) (v .chip) (v .said) g (rw status-chip at ok) b₃ b₄ b₅ in
-      ap (λ (w : World). calls (w .said)) (push-starts ∙ q r ∙ ap (after (calm r)) (finished n (length payload) bs idlePlan idleFetch header seq payload u d []))
+      ap (λ (w : World). calls (w .said)) (push-starts ∙ q r ∙ ap (after (calm r)) (done n (length payload) bs idlePlan idleFetch header seq payload u d []))
       ∙ idle-calm r d _ ∙ calls-snoc u call Outcome.Done [] ∙ rw s
 
   -- it is done where its FIFO takes it, and else refused
-  push-ends : (P : Ending → Type 0) → (Takes (atStatus v xs) n payload → P done)
-      → ((x : Refusal) → Answers v call xs (called call (Outcome.Refused x) [] ∷ []) → P (ending (numbered x) [])) → P (pushAnswer (atStatus v xs) n payload)
+  push-ends : (P : Ending → Type 0) → (Takes (atStatus v xs) n payload → P (answer Outcome.Done []))
+      → ((x : Refusal) (k : ℕ) → numbered x ≡ k ∷ [] → Answers v call xs (called call (Outcome.Refused x) [] ∷ []) → P (refusal k)) → P (pushAnswer (atStatus v xs) n payload)
   push-ends P good bad =
       let (i, coded) = encoded-for n header seq payload bs h in
       rw status-chip
       (push-by false n header seq payload bs idlePlan idleFetch i coded b₁ b₂ (b₃ ∷ b₄ ∷ b₅ ∷ r) (v .chip) (v .said) g P
-      (λ ok. good (rw status-chip ok)) (λ x no. bad x (ap (λ (w : World). calls (w .said)) push-starts ∙ no)))
+      (λ ok. good (rw status-chip ok)) (λ x k is no. bad x k is (ap (λ (w : World). calls (w .said)) push-starts ∙ no)))
 
   push-exact : Ends v call xs (pushAnswer (atStatus v xs) n payload)
-  push-exact = push-ends (Ends v call xs) (λ ok. (Outcome.Done, refl, push-done ok)) (λ x no. (Outcome.Refused x, refl, no))
+  push-exact = push-ends (Ends v call xs) push-done (λ x k is no. (Outcome.Refused x, is, no))
 
   abbrev sent : Message
   sent = push.toSend header seq payload
@@ -290,7 +290,7 @@ module _ (v : World) (g : Fit (v .chip) (v .said)) (e : v .doing ≡ idle) (n : 
   push-iff = (
     λ (x, said, one).
         push-ends (λ y. Takes (atStatus v xs) n payload) (λ ok. ok)
-        (λ y no.
+        (λ y k is′ no.
         let is : x ≡ called call (Outcome.Refused y) [] = same-last (calls (v .said)) _ _ (sym said ∙ no) in
         let none : _≡_ {A = List Message} [] (sent ∷ []) = sym (accepts (Outcome.Refused y)) ∙ ap (acceptedIn n) (sym is) ∙ one in
         let z : _≡_ {A = ℕ} 0 1 = ap length none in absurd (omega (arith, z))),

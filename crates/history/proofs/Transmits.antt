@@ -30,7 +30,7 @@ use Rattle.bank.specs.Registers.{wordOf, controlWritten}
 use Rattle.reach.specs.Bus.{Bus}
 use Rattle.history.specs.Command.{Command, Push, Transmit, Request}
 use Rattle.history.specs.History.{Event, Begin, Fail, On, Said, called, idle, busy, World, waits, settled, event, after}
-use Rattle.history.specs.Demand.{buses, calm, atStatus, calls, Answers, done, Ends, WellFormed, pushAnswer, Takes, failing}
+use Rattle.history.specs.Demand.{buses, calm, atStatus, calls, Answers, answer, Ends, WellFormed, pushAnswer, Takes, failing}
 use Rattle.history.proofs.Few.{two, five, seven}
 use Rattle.history.proofs.Line.{world}
 use Rattle.history.proofs.Asks.{hear-control, tell-control}
@@ -142,15 +142,12 @@ request-starts-at v e n i es =
     (ap (λ (p : Plan). settled (v .chip) (v .said) (Request n) (planned false p idlePush idleFetch) []) (request-begins n i)
     ∙ planning.still idlePush idleFetch false (alone idlePush idleFetch) (requesting n 1 (PlanAt.Read (requestChange n))) (v .said) (Request n) (v .chip) [] refl refl)
 
-pub request-exactly : (v : World) → v .doing ≡ idle → (n : ℕ) → isFifo n ≡ true → (xs : List (List Bus)) → length xs ≡ 2 → Ends v (Request n) xs done
+pub request-exactly : (v : World) → v .doing ≡ idle → (n : ℕ) → isFifo n ≡ true → (xs : List (List Bus)) → length xs ≡ 2 → Ends v (Request n) xs (answer Outcome.Done [])
 request-exactly v e n i xs l =
-    two (λ ys. Ends v (Request n) ys done)
-    (λ b b′ r. (
-      Outcome.Done,
-      refl,
-      ap (λ (w : World). calls (w .said)) (request-starts-at v e n i (calm (b ∷ b′ ∷ r)))
-          ∙ request-says n i false idlePush idleFetch (alone idlePush idleFetch) b b′ r (v .chip) (v .said),
-    ))
+    two (λ ys. Ends v (Request n) ys (answer Outcome.Done []))
+    (λ b b′ r.
+    ap (λ (w : World). calls (w .said)) (request-starts-at v e n i (calm (b ∷ b′ ∷ r)))
+    ∙ request-says n i false idlePush idleFetch (alone idlePush idleFetch) b b′ r (v .chip) (v .said))
     xs (omega (arith, l))
 
 -- ---- a transmit
@@ -210,7 +207,7 @@ module _ (v : World) (g : Fit (v .chip) (v .said)) (e : v .doing ≡ idle) (n : 
       rw status-chip
       (push-by true n header seq payload bs (requestStart n) idleFetch i coded b₁ b₂ (b₃ ∷ b₄ ∷ b₅ ∷ r) (v .chip) (v .said) g (Ends v call (xs r))
       (λ ok. absurd (never (rw status-chip ok)))
-      (λ x is. (Outcome.Refused x, refl, ap (λ (w : World). calls (w .said)) (transmit-starts (calm (xs r))) ∙ is)))
+      (λ x k is no. (Outcome.Refused x, is, ap (λ (w : World). calls (w .said)) (transmit-starts (calm (xs r))) ∙ no)))
 
   transmit-yes : Fits → (b b′ : List Bus) → Answers v call (xs (b ∷ b′ ∷ [])) (called (Push n header seq payload) Outcome.Done [] ∷ called (Request n) Outcome.Done [] ∷ [])
   transmit-yes ok b b′ =

@@ -8,7 +8,7 @@ use mathlib.Core.List.{List, [], _∷_, _++_, map}
 use lib.ListN.{length, getD, take}
 use lib.Dec.{ltb, leb, eqb}
 use Rattle.laws.specs.If.{if_then_else_}
-use Rattle.field.specs.Field.{read, digit}
+use Rattle.field.specs.Field.{read}
 use Rattle.configuration.specs.CanControl.{REQOP}
 use Rattle.fifo.specs.Control.{TXREQ, payloadOf, isFifo}
 use Rattle.parts.specs.Parts.{put}
@@ -19,7 +19,7 @@ use Rattle.operation.specs.Laws.{among}
 use Rattle.header.specs.declared.Header.{Header}
 use Rattle.message.specs.Message.{Message, Encoding, Decoding, holds, bad, short}
 use Rattle.call.specs.declared.Outcome.{Outcome}
-use Rattle.call.specs.Numbers.{foundNumbers, outcomeNumbers}
+use Rattle.call.specs.Numbers.{outcomeNumbers}
 use Rattle.tx_fifo.specs.Step.{toSend, encodingFor}
 use Rattle.rx_fifo.specs.Outcome.{foundOf}
 use Rattle.ring.specs.Ring.{sending, depth}
@@ -32,7 +32,7 @@ use Rattle.bus.specs.Held.{slotOf, itemAt, held}
 use Rattle.bus.specs.Bus.{frame, sends}
 use Rattle.reach.specs.Bus.{Bus, Send, Deliver, stepped}
 use Rattle.reach.specs.Reach.{Reached}
-use Rattle.history.specs.Command.{Command, Push, Transmit, Request, HasNext, Peek, Get, Reading, Configuring, firstCall}
+use Rattle.history.specs.Command.{Command, Push, Transmit, Request, HasNext, Peek, Get, Reading, Configuring, firstCall, lent}
 use Rattle.history.specs.History.{Event, Begin, Exchange, Fail, On, Said, called, left, arrived, idle, World, after}
 use Rattle.history.specs.Lists.{accepted, acceptedIn, handedOut, handedOutIn}
 
@@ -98,21 +98,15 @@ calls (arrived k m d ∷ t) = calls t
 abbrev pub Answers : World → Command → List (List Bus) → List Said → Type 0
 Answers v k bs xs = calls (after (Begin k ∷ calm bs) v .said) ≡ calls (v .said) ++ xs
 
--- how a call ends: document 01's number and values, and the lent buffer after it
-pub record Ending : Type 0 where
-  pub numbers : List ℕ
-  pub buffer : List ℕ
-
-abbrev pub ending : List ℕ → List ℕ → Ending
-ending ns buf = record { numbers = ns; buffer = buf }
-
--- done, which is no refusal and has no values
-abbrev pub done : Ending
-done = ending (0 ∷ []) []
+-- how a call ends: refused by document 01's number, no lent byte changed; or with an answer that is no refusal, and the lent buffer so
+pub data Ending : Type 0 where
+  refusal : (number : ℕ) → Ending
+  answer : Outcome → (buffer : List ℕ) → Ending
 
 -- a call k with the bus steps bs before its exchanges ends so, and says no more
 abbrev pub Ends : World → Command → List (List Bus) → Ending → Type 0
-Ends v k bs x = (o : Outcome) × (outcomeNumbers o ≡ x .numbers) × Answers v k bs (called (firstCall k) o (x .buffer) ∷ [])
+Ends v k bs (refusal r) = (o : Outcome) × (outcomeNumbers o ≡ r ∷ []) × Answers v k bs (called (firstCall k) o (lent k) ∷ [])
+Ends v k bs (answer o buf) = Answers v k bs (called (firstCall k) o buf ∷ [])
 
 -- ---- 2. push exactly
 
@@ -123,10 +117,10 @@ WellFormed n header seq payload = (bs : List ℕ) × (encodingFor n header seq p
 -- how it ends, d being the chip at the status read: 6, 7, 8 or done
 unfoldable pub pushAnswer : Model → ℕ → List ℕ → Ending
 pushAnswer d n payload =
-    if not (sending (frozenAt d n)) then ending (6 ∷ []) []
-    else if ltb (payloadOf (frozenAt d n)) (length payload) then ending (7 ∷ []) []
-    else if leb (depth (frozenAt d n)) (fifoAt d n .count) then ending (8 ∷ []) []
-    else done
+    if not (sending (frozenAt d n)) then refusal 6
+    else if ltb (payloadOf (frozenAt d n)) (length payload) then refusal 7
+    else if leb (depth (frozenAt d n)) (fifoAt d n .count) then refusal 8
+    else answer Outcome.Done []
 
 -- five exchanges, and bus steps before each
 abbrev pub PushExactly : Type 0
@@ -150,15 +144,15 @@ PushedIff =
 
 -- of a message read: what is told of it, and its payload at the front of the lent buffer; by the lists every slot held has one
 abbrev pub readAs : Decoding → List ℕ → Ending
-readAs (holds m) buf = ending (0 ∷ foundNumbers (foundOf m)) (put buf 0 (m .payload))
-readAs (bad r) buf = ending (numbered r) buf
-readAs short buf = ending [] buf
+readAs (holds m) buf = answer (Outcome.Message (foundOf m)) (put buf 0 (m .payload))
+readAs (bad r) buf = answer (Outcome.Refused r) buf
+readAs short buf = answer Outcome.Running buf
 
 -- how a get or a peek ends, d being the chip at the status read: 9, that none is held, or the oldest
 unfoldable pub fetchAnswer : Model → ℕ → List ℕ → Ending
 fetchAnswer d n buf =
-    if sending (frozenAt d n) then ending (9 ∷ []) buf
-    else if eqb (fifoAt d n .count) 0 then ending (0 ∷ []) buf
+    if sending (frozenAt d n) then refusal 9
+    else if eqb (fifoAt d n .count) 0 then answer Outcome.Empty buf
     else readAs (itemAt d n 0) buf
 
 -- nine exchanges; without RXTSEN it is over after eight, and the ninth finds no call
@@ -193,9 +187,12 @@ PeekKeeps =
     NextCall (λ v. (n : ℕ) (buf : List ℕ) (bs : List (List Bus))
     → after (Begin (Peek n buf) ∷ calm bs) v .chip ≡ buses (all bs) (v .chip))
 
--- how has-next ends: 9, or whether one is held
+-- how has-next ends: 9, no or yes
 unfoldable pub hasNextAnswer : Model → ℕ → Ending
-hasNextAnswer d n = if sending (frozenAt d n) then ending (9 ∷ []) [] else ending (0 ∷ digit (ltb 0 (fifoAt d n .count)) ∷ []) []
+hasNextAnswer d n =
+    if sending (frozenAt d n) then refusal 9
+    else if eqb (fifoAt d n .count) 0 then answer Outcome.No []
+    else answer Outcome.Yes []
 
 -- two exchanges
 abbrev pub HasNextExactly : Type 0
@@ -238,7 +235,7 @@ TransmitFails =
 
 -- two exchanges
 abbrev pub RequestExactly : Type 0
-RequestExactly = NextCall (λ v. (n : ℕ) → isFifo n ≡ true → (bs : List (List Bus)) → length bs ≡ 2 → Ends v (Request n) bs done)
+RequestExactly = NextCall (λ v. (n : ℕ) → isFifo n ≡ true → (bs : List (List Bus)) → length bs ≡ 2 → Ends v (Request n) bs (answer Outcome.Done []))
 
 -- its push ends as a push does, and if it is refused there is no request
 abbrev pub TransmitRefused : Type 0
