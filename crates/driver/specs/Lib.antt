@@ -1,3 +1,5 @@
+pub mod Calls
+pub mod Demand1
 pub mod Send
 pub mod Start
 pub mod Step

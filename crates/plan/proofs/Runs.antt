@@ -161,17 +161,17 @@ start-talk failed items = arrive-talk failed (filled items) 0 ∙ listed-slots f
 -- ---- how often a plan asks
 
 -- a read and a write in front
-read-within : (n m : ℕ) (failed : Refusal) (address : ℕ) (k : ℕ → Talk Outcome) → n < m → ((w : ℕ) → Within n (k w)) → Within m (readWord failed address k)
+pub read-within : (n m : ℕ) (failed : Refusal) (address : ℕ) (k : ℕ → Talk Outcome) → n < m → ((w : ℕ) → Within n (k w)) → Within m (readWord failed address k)
 read-within n m failed address k l h = ask-within n m (Ask.Read address 4) (λ a rx. onWord refused (wordReply failed a rx) k) l (λ a rx. word-within n (wordReply failed a rx) k h)
 
-write-within : (n m : ℕ) (failed : Refusal) (address word : ℕ) (k : Talk Outcome) → n < m → Within n k → Within m (writeWord failed address word k)
+pub write-within : (n m : ℕ) (failed : Refusal) (address word : ℕ) (k : Talk Outcome) → n < m → Within n k → Within m (writeWord failed address word k)
 write-within n m failed address word k l h = ask-within n m (Ask.Word address word) (λ a rx. onDone refused (doneReply failed a (length rx) 0) k) l (λ a rx. done-within n (doneReply failed a (length rx) 0) k h)
 
-pause-within : (n m : ℕ) (k : Talk Outcome) → n < m → Within n k → Within m (pause k)
+pub pause-within : (n m : ℕ) (k : Talk Outcome) → n < m → Within n k → Within m (pause k)
 pause-within n m k l h = ask-within n m Ask.Wait (λ a rx. onDone refused (waitReply a) k) l (λ a rx. done-within n (waitReply a) k h)
 
 module _ (failed : Refusal) (k : Talk Outcome) (n : ℕ) (h : Within n k) where
-  poll-within : (p : Poll) (left m : ℕ) → 1 + 2 * left + n ≤ m → Within m (pollTalk failed p left k)
+  pub poll-within : (p : Poll) (left m : ℕ) → 1 + 2 * left + n ≤ m → Within m (pollTalk failed p left k)
   unfolding pollTalk
   poll-within p zero m l =
       read-within n m failed (addressOf p) (λ w. if shown p w then k else refused (lateOf p)) (omega arith)
@@ -182,7 +182,7 @@ module _ (failed : Refusal) (k : Talk Outcome) (n : ℕ) (h : Within n k) where
       (λ w. if-within (suc c) (shown p w) k (pause (pollTalk failed p left k)) (more n (suc c) k (omega arith) h)
       (pause-within c (suc c) (pollTalk failed p left k) (omega arith) (poll-within p left c (omega arith))))
 
-  rest-within : (left m : ℕ) → 2 * left + n ≤ m → Within m (echoRest failed left k)
+  pub rest-within : (left m : ℕ) → 2 * left + n ≤ m → Within m (echoRest failed left k)
   unfolding echoRest
   rest-within zero m l = more n m k (omega arith) h
   rest-within (suc left) m l =
@@ -191,7 +191,7 @@ module _ (failed : Refusal) (k : Talk Outcome) (n : ℕ) (h : Within n k) where
       (read-within c (suc c) failed 0x400 (λ w. if eqb w (echoWord left) then echoRest failed left k else refused Refusal.SpiFailedRamEcho) (omega arith)
       (λ w. if-within c (eqb w (echoWord left)) (echoRest failed left k) (refused Refusal.SpiFailedRamEcho) (rest-within left c (omega arith)) tt))
 
-  item-within : (item : Item) (m : ℕ) → asksOf item + n ≤ m → Within m (itemTalk failed item k)
+  pub item-within : (item : Item) (m : ℕ) → asksOf item + n ≤ m → Within m (itemTalk failed item k)
   unfolding echoRest
   item-within (Item.Change c) m l =
       read-within (suc n) m failed (c .address) (λ w. writeWord failed (c .address) (modified c w) k) (omega arith)

@@ -117,7 +117,7 @@ write-bound address word =
     (λ a rx. done-within 0 (doneReply Refusal.SpiRead a (length rx) 0) (done Outcome.Done) tt)
 
 -- one try more than mismatches that are followed by another
-tries : (address left : ℕ) → Within (suc left) (checkedTalk address left)
+pub tries : (address left : ℕ) → Within (suc left) (checkedTalk address left)
 unfolding checkedTalk
 tries address zero =
     λ a rx. checked-within 0 (crcReply Refusal.SpiRead address a rx) (refused Refusal.CrcMismatch) (λ w. done (Outcome.Word w)) tt (λ w. tt)

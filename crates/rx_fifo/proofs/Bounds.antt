@@ -33,42 +33,46 @@ use Rattle.rx_fifo.specs.Talk.{message, empty, commitTalk, nextTalk, las
 abbrev word : Answer → List ℕ → OneWord
 word = wordReply Refusal.SpiRead
 
-next-within : (fifo : ℕ) (m : Message) → Within 2 (nextTalk fifo m)
+pub next-within : (fifo : ℕ) (m : Message) → Within 2 (nextTalk fifo m)
 next-within fifo m = λ a rx.
     word-within 1 (word a rx) (λ w. commitTalk fifo w m)
     (λ w b ry. done-within 0 (doneReply Refusal.SpiRead b (length ry) 0) (done (message m)) tt)
 
 -- where n exchanges follow the payload
 module _ (want : Want) (fifo n : ℕ) (last : (m : Message) → Within n (lastTalk want fifo m)) where
-  body-within : (x : ℕ) (f : Found) → Within (suc n) (toBodyTalk want fifo x f)
-  body-within x f =
-      if-within (suc n) (inRange x (roundUp (f .len))) (bodyTalk want fifo x f) (refused (Refusal.InvalidRamAddress x))
-      (λ a rx. done-within n (doneReply Refusal.SpiRead a (length rx) (roundUp (f .len))) (lastTalk want fifo (messageOf f rx)) (last (messageOf f rx)))
-      tt
+  pub body-within : (x : ℕ) (f : Found) → Within (suc n) (bodyTalk want fifo x f)
+  body-within x f = λ a rx.
+      done-within n (doneReply Refusal.SpiRead a (length rx) (roundUp (f .len))) (lastTalk want fifo (messageOf f rx)) (last (messageOf f rx))
 
-  time-within : (x : ℕ) (f : Found) → Within (suc (suc n)) (toTimeTalk want fifo x f)
-  time-within x f =
-      if-within (suc (suc n)) (inRange x 4) (timeTalk want fifo x f) (refused (Refusal.InvalidRamAddress x))
-      (λ a rx. word-within (suc n) (word a rx) (λ t. toBodyTalk want fifo (x + 4) (stamped f t)) (λ t. body-within (x + 4) (stamped f t)))
-      tt
+  to-body-within : (x : ℕ) (f : Found) → Within (suc n) (toBodyTalk want fifo x f)
+  to-body-within x f =
+      if-within (suc n) (inRange x (roundUp (f .len))) (bodyTalk want fifo x f) (refused (Refusal.InvalidRamAddress x)) (body-within x f) tt
 
-  again-within : (m : ℕ) (f : Found) → Within (suc (suc (suc n))) (againTalk want fifo m f)
+  pub time-within : (x : ℕ) (f : Found) → Within (suc (suc n)) (timeTalk want fifo x f)
+  time-within x f = λ a rx.
+      word-within (suc n) (word a rx) (λ t. toBodyTalk want fifo (x + 4) (stamped f t)) (λ t. to-body-within (x + 4) (stamped f t))
+
+  to-time-within : (x : ℕ) (f : Found) → Within (suc (suc n)) (toTimeTalk want fifo x f)
+  to-time-within x f =
+      if-within (suc (suc n)) (inRange x 4) (timeTalk want fifo x f) (refused (Refusal.InvalidRamAddress x)) (time-within x f) tt
+
+  pub again-within : (m : ℕ) (f : Found) → Within (suc (suc (suc n))) (againTalk want fifo m f)
   again-within m f = λ a rx.
       word-within (suc (suc n)) (word a rx) (λ w. if flag RXTSEN w then toTimeTalk want fifo (m + 8) f else toBodyTalk want fifo (m + 8) f)
       (λ w.
-      if-within (suc (suc n)) (flag RXTSEN w) (toTimeTalk want fifo (m + 8) f) (toBodyTalk want fifo (m + 8) f) (time-within (m + 8) f)
-      (more (suc n) (suc (suc n)) (toBodyTalk want fifo (m + 8) f) (omega arith) (body-within (m + 8) f)))
+      if-within (suc (suc n)) (flag RXTSEN w) (toTimeTalk want fifo (m + 8) f) (toBodyTalk want fifo (m + 8) f) (to-time-within (m + 8) f)
+      (more (suc n) (suc (suc n)) (toBodyTalk want fifo (m + 8) f) (omega arith) (to-body-within (m + 8) f)))
 
   found-within : (m : ℕ) (h : Header) (l : Length) → Within (suc (suc (suc n))) (foundTalk want fifo m h l)
   found-within m h (Length.Is k) = again-within m (record { header = h; stamp = Stamp.None; len = k })
   found-within m h Length.Bad = tt
 
-  header-within : (m : ℕ) → Within (suc (suc (suc (suc n)))) (headerTalk want fifo m)
+  pub header-within : (m : ℕ) → Within (suc (suc (suc (suc n)))) (headerTalk want fifo m)
   header-within m = λ a rx.
       pair-within (suc (suc (suc n))) (pairReply Refusal.SpiRead a rx) (λ c d. foundTalk want fifo m (headerOf c d) (lengthOf (flag FDF d) (read DLC d)))
       (λ c d. found-within m (headerOf c d) (lengthOf (flag FDF d) (read DLC d)))
 
-  address-within : Within (suc (suc (suc (suc (suc n))))) (addressTalk want fifo)
+  pub address-within : Within (suc (suc (suc (suc (suc n))))) (addressTalk want fifo)
   address-within = λ a rx.
       word-within (suc (suc (suc (suc n)))) (word a rx) (toHeaderTalk want fifo)
       (λ u.
@@ -79,12 +83,13 @@ module _ (want : Want) (fifo n : ℕ) (last : (m : Message) → Within n (lastTa
 
 -- where n exchanges follow the status
 module _ (want : Want) (fifo n : ℕ) (next : (b : Bool) → Within n (heldTalk want fifo b)) where
-  control-within : Within (suc (suc n)) (controlTalk want fifo)
+  pub status-within : Within (suc n) (statusTalk want fifo)
+  status-within = λ b ry. word-within n (word b ry) (λ v. heldTalk want fifo (flag TFNRFNIF v)) (λ v. next (flag TFNRFNIF v))
+
+  pub control-within : Within (suc (suc n)) (controlTalk want fifo)
   control-within = λ a rx.
       word-within (suc n) (word a rx) (λ w. if flag TXEN w then refused Refusal.FifoNotRx else statusTalk want fifo)
-      (λ w.
-      if-within (suc n) (flag TXEN w) (refused Refusal.FifoNotRx) (statusTalk want fifo) tt
-      (λ b ry. word-within n (word b ry) (λ v. heldTalk want fifo (flag TFNRFNIF v)) (λ v. next (flag TFNRFNIF v))))
+      (λ w. if-within (suc n) (flag TXEN w) (refused Refusal.FifoNotRx) (statusTalk want fifo) tt status-within)
 
   lent-within : (room : ℕ) → Within (suc (suc n)) (lentTalk want fifo room)
   unfolding lentTalk

@@ -129,20 +129,20 @@ done-exactly s = says (s .fifo) (s .size) (s .object .len) (s .at) .2
 -- ---- five exchanges at most
 
 module _ (fifo len w : ℕ) where
-  commit-within : Within 1 (commitTalk fifo w)
+  pub commit-within : Within 1 (commitTalk fifo w)
   commit-within = λ a rx. done-within 0 (doneReply Refusal.SpiRead a (length rx) 0) (done Outcome.Done) tt
 
-  write-within : (m : ℕ) → Within 2 (writeTalk fifo len w m)
+  pub write-within : (m : ℕ) → Within 2 (writeTalk fifo len w m)
   write-within m = λ a rx. done-within 1 (doneReply Refusal.SpiWrite a (length rx) 0) (commitTalk fifo w) commit-within
 
-  address-within : Within 3 (addressTalk fifo len w)
+  pub address-within : Within 3 (addressTalk fifo len w)
   address-within =
       λ a rx. word-within 2 (wordReply Refusal.SpiRead a rx) _ (λ u. if-within 2 (ltb 0xFBFF u) _ _ tt (if-within 2 (inRange (u + 0x400) len) _ _ (write-within (u + 0x400)) tt))
 
-  status-within : Within 4 (statusTalk fifo len w)
+  pub status-within : Within 4 (statusTalk fifo len w)
   status-within = λ a rx. word-within 3 (wordReply Refusal.SpiRead a rx) _ (λ v. if-within 3 (flag TFNRFNIF v) _ _ address-within tt)
 
-push-within : (fifo size len : ℕ) → Within 5 (pushTalk fifo size len)
+pub push-within : (fifo size len : ℕ) → Within 5 (pushTalk fifo size len)
 push-within fifo size len =
     λ a rx. word-within 4 (wordReply Refusal.SpiRead a rx) _ (λ w. if-within 4 (flag TXEN w) _ _ (if-within 4 (ltb (payloadOf w) size) _ _ tt (status-within fifo len w)) tt)
 

@@ -1,0 +1,230 @@
+-- Wherever a call stands: it asks for something or is over, and an answer of another length or kind than asked, or after the end, is 26.
+-- Assumes nothing.
+use Prim.Native.Nat.{ℕ, zero, suc}
+use mathlib.Core.Path.{_≡_, refl, ap, _∙_, sym}
+use mathlib.Core.Bool.{Bool, true, false, false≢true, true≢false}
+use mathlib.Core.List.{List}
+use lib.ListN.{length}
+use Rattle.spi.specs.declared.refusal.Refusal.{Refusal}
+use Rattle.spi.specs.declared.ask.Ask.{Ask}
+use Rattle.spi.specs.declared.ask.Answer.{Answer}
+use Rattle.spi.specs.Reply.{wordReply, pairReply, doneReply, waitReply, crcReply}
+use Rattle.spi.specs.Talk.{Talk, done, refused, ask, onWord, onPair, onDone, onChecked, andThen, asks, answered}
+use Rattle.call.specs.declared.Outcome.{Outcome}
+use Rattle.call.specs.Outcome.{ended}
+use Rattle.call.specs.Numbers.{outcomeNumbers}
+use Rattle.register.specs.declared.RegisterCall.{RegisterCall}
+use Rattle.register.specs.Talk as register-talks
+use Rattle.ram.specs.declared.RamCall.{RamCall}
+use Rattle.ram.specs.Talk as ram-talks
+use Rattle.plan.specs.declared.plan.PlanAt.{PlanAt}
+use Rattle.plan.specs.Talk as plan-talks
+use Rattle.tx_fifo.specs.declared.push.PushAt.{PushAt}
+use Rattle.tx_fifo.specs.Talk as push-talks
+use Rattle.transmit.specs.Transmit.{transmitTalkOf}
+use Rattle.fetch.specs.declared.Want.{Want}
+use Rattle.fetch.specs.declared.FetchAt.{FetchAt}
+use Rattle.rx_fifo.specs.Talk.{Fetched, told, message, empty, outcomeBy, talkAt as fetchAt, talkOf as fetchOf}
+use Rattle.driver.specs.declared.calls.CallAt.{CallAt}
+use Rattle.driver.specs.declared.calls.Call.{Call}
+use Rattle.driver.specs.Step.{stepOf}
+use Rattle.driver.specs.Talk.{talkAt, talkOf}
+use Rattle.driver.specs.Demand1.{exchanged, waited, answers, OverAgrees, WrongAnswers}
+use Rattle.driver.proofs.Runs.{follows, outcome-talk}
+
+abbrev isNothing : Ask → Bool
+isNothing (Ask.Read address count) = false
+isNothing (Ask.Checked address) = false
+isNothing (Ask.Word address word) = false
+isNothing (Ask.Body address count) = false
+isNothing Ask.Reset = false
+isNothing Ask.Wait = false
+isNothing Ask.Nothing = true
+
+abbrev isRunning : Outcome → Bool
+isRunning Outcome.Running = true
+isRunning Outcome.Done = false
+isRunning (Outcome.Word w) = false
+isRunning (Outcome.Mode m) = false
+isRunning Outcome.Yes = false
+isRunning Outcome.No = false
+isRunning Outcome.Empty = false
+isRunning (Outcome.Message f) = false
+isRunning (Outcome.Refused r) = false
+
+-- ---- talks that are so where they stand; P holds of what one is done with
+
+abbrev Stands : {A : Type 0} → (A → Type 0) → Talk A → Type 0
+Stands P (done x) = P x
+Stands P (refused r) = Unit {0}
+Stands P (ask q k) = (isNothing q ≡ false) × ((a : Answer) (rx : List ℕ) → answers q a rx ≡ false → k a rx ≡ refused Refusal.WrongAnswer)
+
+-- what is asked for wants so many bytes
+abbrev Asks : {A : Type 0} → ℕ → (Answer → List ℕ → Talk A) → Type 0
+Asks want k = (false ≡ false) × ((a : Answer) (rx : List ℕ) → exchanged a (length rx) want ≡ false → k a rx ≡ refused Refusal.WrongAnswer)
+
+module _ {A : Type 0} (failed : Refusal) where
+  by-word : (k : ℕ → Talk A) → Asks 4 (λ a rx. onWord refused (wordReply failed a rx) k)
+  by-word k = (refl, go)
+    where
+      go : (a : Answer) (rx : List ℕ) → exchanged a (length rx) 4 ≡ false → onWord refused (wordReply failed a rx) k ≡ refused Refusal.WrongAnswer
+      go Answer.Exchanged rx e = rw e
+      go Answer.Failed rx e = absurd (true≢false e)
+      go Answer.Waited rx e = refl
+
+  by-pair : (k : ℕ → ℕ → Talk A) → Asks 8 (λ a rx. onPair refused (pairReply failed a rx) k)
+  by-pair k = (refl, go)
+    where
+      go : (a : Answer) (rx : List ℕ) → exchanged a (length rx) 8 ≡ false → onPair refused (pairReply failed a rx) k ≡ refused Refusal.WrongAnswer
+      go Answer.Exchanged rx e = rw e
+      go Answer.Failed rx e = absurd (true≢false e)
+      go Answer.Waited rx e = refl
+
+  by-checked : (address : ℕ) (other : Talk A) (k : ℕ → Talk A) → Asks 6 (λ a rx. onChecked refused (crcReply failed address a rx) other k)
+  by-checked address other k = (refl, go)
+    where
+      go : (a : Answer) (rx : List ℕ) → exchanged a (length rx) 6 ≡ false
+          → onChecked refused (crcReply failed address a rx) other k ≡ refused Refusal.WrongAnswer
+      go Answer.Exchanged rx e = rw e
+      go Answer.Failed rx e = absurd (true≢false e)
+      go Answer.Waited rx e = refl
+
+  by-done : (want : ℕ) (k : List ℕ → Talk A) → Asks want (λ a rx. onDone refused (doneReply failed a (length rx) want) (k rx))
+  by-done want k = (refl, go)
+    where
+      go : (a : Answer) (rx : List ℕ) → exchanged a (length rx) want ≡ false
+          → onDone refused (doneReply failed a (length rx) want) (k rx) ≡ refused Refusal.WrongAnswer
+      go Answer.Exchanged rx e = rw e
+      go Answer.Failed rx e = absurd (true≢false e)
+      go Answer.Waited rx e = refl
+
+by-wait : {A : Type 0} (a : Answer) (k : Talk A) → waited a ≡ false → onDone refused (waitReply a) k ≡ refused Refusal.WrongAnswer
+by-wait Answer.Exchanged k e = refl
+by-wait Answer.Failed k e = refl
+by-wait Answer.Waited k e = absurd (true≢false e)
+
+module _ {A B : Type 0} (P : A → Type 0) (Q : B → Type 0) where
+  then-stands : (t : Talk A) (k : A → Talk B) → Stands P t → ((x : A) → P x → Stands Q (k x)) → Stands Q (andThen t k)
+  unfolding andThen
+  then-stands (done x) k h l = l x h
+  then-stands (refused r) k h l = tt
+  then-stands (ask q t) k h l = (h .0, λ a rx e. ap (λ (u : Talk A). andThen u k) (h .1 a rx e))
+
+-- ---- each family; what a call is done with is not that it runs
+
+abbrev Over : Outcome → Type 0
+Over o = isRunning o ≡ false
+
+register-stands : (r : RegisterCall) → Stands Over (register-talks.talkOf r)
+unfolding register-talks.checkedTalk
+register-stands RegisterCall.Reset = by-done Refusal.SpiWrite 0 _
+register-stands (RegisterCall.Read address) = by-word Refusal.SpiRead _
+register-stands (RegisterCall.Write address word) = by-done Refusal.SpiRead 0 _
+register-stands (RegisterCall.Checked address zero) = by-checked Refusal.SpiRead address _ _
+register-stands (RegisterCall.Checked address (suc left)) = by-checked Refusal.SpiRead address _ _
+register-stands RegisterCall.Mode = by-word Refusal.SpiRead _
+register-stands RegisterCall.Done = refl
+register-stands (RegisterCall.Word w) = refl
+register-stands (RegisterCall.OpMode m) = refl
+register-stands (RegisterCall.Refused r) = tt
+
+ram-stands : (r : RamCall) → Stands Over (ram-talks.talkOf r)
+unfolding ram-talks.verifyLongTalk
+ram-stands (RamCall.Read address place count) = by-done Refusal.SpiRead count _
+ram-stands (RamCall.Received place count) = refl
+ram-stands (RamCall.Write address count) = by-done Refusal.SpiWrite 0 _
+ram-stands RamCall.EchoWrite = by-done Refusal.ConfigurationModeTimeout 0 _
+ram-stands RamCall.EchoRead = by-done Refusal.ConfigurationModeTimeout 128 _
+ram-stands RamCall.Done = refl
+ram-stands (RamCall.Refused r) = tt
+
+plan-stands : (failed : Refusal) (at : PlanAt) (k : Talk Outcome) → Stands Over (plan-talks.talkAt failed at k)
+unfolding plan-talks.pollTalk
+plan-stands failed (PlanAt.Read c) k = by-word failed _
+plan-stands failed (PlanAt.Write address word) k = by-done failed 0 _
+plan-stands failed (PlanAt.Poll p zero) k = by-word failed _
+plan-stands failed (PlanAt.Poll p (suc more)) k = by-word failed _
+plan-stands failed (PlanAt.Wait p more) k = (refl, λ a rx e. by-wait a _ e)
+plan-stands failed (PlanAt.EchoWrite left) k = by-done failed 0 _
+plan-stands failed (PlanAt.EchoRead left) k = by-word failed _
+plan-stands failed PlanAt.Done k = refl
+plan-stands failed (PlanAt.Refused r) k = tt
+
+push-stands : (fifo size len : ℕ) (at : PushAt) → Stands Over (push-talks.talkAt fifo size len at)
+push-stands fifo size len PushAt.Control = by-word Refusal.SpiRead _
+push-stands fifo size len (PushAt.Status w) = by-word Refusal.SpiRead _
+push-stands fifo size len (PushAt.Address w) = by-word Refusal.SpiRead _
+push-stands fifo size len (PushAt.Write w m) = by-done Refusal.SpiWrite 0 _
+push-stands fifo size len (PushAt.Commit w) = by-done Refusal.SpiRead 0 _
+push-stands fifo size len PushAt.Done = refl
+push-stands fifo size len (PushAt.Refused r) = tt
+
+abbrev Any : Fetched → Type 0
+Any x = Unit {0}
+
+fetch-stands : (want : Want) (fifo : ℕ) (held : List ℕ) (at : FetchAt) → Stands Any (fetchAt want fifo held at)
+fetch-stands want fifo held FetchAt.Control = by-word Refusal.SpiRead _
+fetch-stands want fifo held FetchAt.Status = by-word Refusal.SpiRead _
+fetch-stands want fifo held FetchAt.Address = by-word Refusal.SpiRead _
+fetch-stands want fifo held (FetchAt.Header m) = by-pair Refusal.SpiRead _
+fetch-stands want fifo held (FetchAt.Again m f) = by-word Refusal.SpiRead _
+fetch-stands want fifo held (FetchAt.Time x f) = by-word Refusal.SpiRead _
+fetch-stands want fifo held (FetchAt.Body x f) = by-done Refusal.SpiRead _ _
+fetch-stands want fifo held (FetchAt.Next f) = by-word Refusal.SpiRead _
+fetch-stands want fifo held (FetchAt.Commit w f) = by-done Refusal.SpiRead 0 _
+fetch-stands want fifo held (FetchAt.Done f) = tt
+fetch-stands want fifo held FetchAt.Empty = tt
+fetch-stands want fifo held (FetchAt.Told next) = tt
+fetch-stands want fifo held (FetchAt.Refused r) = tt
+
+fetched-over : (x : Fetched) → Over (outcomeBy x)
+fetched-over (told true) = refl
+fetched-over (told false) = refl
+fetched-over (message m) = refl
+fetched-over empty = refl
+
+stands-at : (at : CallAt) (call : Call) → Stands Over (talkAt at call)
+unfolding push-talks.talkOf fetchOf transmitTalkOf
+stands-at (CallAt.Register r) call = register-stands r
+stands-at (CallAt.Ram r) call = ram-stands r
+stands-at CallAt.Plan call = plan-stands (call .plan .failed) (call .plan .at) _
+stands-at CallAt.Push call = push-stands (call .push .fifo) (call .push .size) (call .push .object .len) (call .push .at)
+stands-at CallAt.Transmit call =
+    then-stands Over Over _ _ (push-stands (call .push .fifo) (call .push .size) (call .push .object .len) (call .push .at))
+    (λ x h. plan-stands (call .plan .failed) (call .plan .at) _)
+stands-at CallAt.Fetch call =
+    then-stands Any Over _ _ (fetch-stands (call .fetch .want) (call .fetch .fifo) (call .fetch .held) (call .fetch .at)) (λ x h. fetched-over x)
+
+call-stands : (call : Call) → Stands Over (talkOf call)
+unfolding talkOf
+call-stands call = stands-at (call .at) call
+
+-- ---- the laws
+
+asks-something : (t : Talk Outcome) → Stands Over t → asks t ≡ Ask.Nothing → ended (λ o. o) t ≡ Outcome.Running → ⊥
+asks-something (done x) h e d = true≢false (sym (ap isRunning d) ∙ h)
+asks-something (refused r) h e d = false≢true (ap isRunning d)
+asks-something (ask q k) h e d = true≢false (sym (ap isNothing e) ∙ h .0)
+
+runs-asking : (t : Talk Outcome) → (ended (λ o. o) t ≡ Outcome.Running → ⊥) → asks t ≡ Ask.Nothing
+runs-asking (done x) h = refl
+runs-asking (refused r) h = refl
+runs-asking (ask q k) h = absurd (h refl)
+
+pub over-agrees : OverAgrees
+over-agrees call = (
+  λ e d. asks-something (talkOf call) (call-stands call) (sym (follows .asked call) ∙ e) (sym (outcome-talk call) ∙ d),
+  λ h. follows .asked call ∙ runs-asking (talkOf call) (λ e. h (outcome-talk call ∙ e)),
+)
+
+wrong-talk : (t : Talk Outcome) (a : Answer) (rx : List ℕ) → Stands Over t → answers (asks t) a rx ≡ false → answered t a rx ≡ refused Refusal.WrongAnswer
+unfolding answered
+wrong-talk (done x) a rx h e = refl
+wrong-talk (refused r) a rx h e = refl
+wrong-talk (ask q k) a rx h e = h .1 a rx e
+
+pub wrong-answers : WrongAnswers
+wrong-answers call a rx e =
+    ap outcomeNumbers
+    (outcome-talk (stepOf call a rx)
+    ∙ ap (ended (λ o. o)) (follows .stepped call a rx ∙ wrong-talk (talkOf call) a rx (call-stands call) (ap (λ q. answers q a rx) (sym (follows .asked call)) ∙ e)))
