@@ -186,7 +186,7 @@ module _ (failed : Refusal) (k : Talk Outcome) (h : Always k) where
   poll-always p zero = reads failed (addressOf p) _ (polled-below p) (λ w. choice (shown p w) k (refused (lateOf p)) (λ e. h) (λ e. tt))
   poll-always p (suc left) =
       reads failed (addressOf p) _ (polled-below p)
-      (λ w. choice (shown p w) k (pause (pollTalk failed p left k)) (λ e. h) (λ e. (tt, λ a rx. by-done (waitReply a) _ (poll-always p left))))
+      (λ w. choice (shown p w) k (pause (pollTalk failed p left k)) (λ e. h) (λ e. (tt, λ a rx. by-done (waitReply a (length rx)) _ (poll-always p left))))
 
   rest-always : (left : ℕ) → Always (echoRest failed left k)
   unfolding echoRest

@@ -95,10 +95,11 @@ exchanged Answer.Exchanged got want = eqb got want
 exchanged Answer.Failed got want = true
 exchanged Answer.Waited got want = false
 
-abbrev pub waited : Answer → Bool
-waited Answer.Exchanged = false
-waited Answer.Failed = false
-waited Answer.Waited = true
+-- to a wait: waited out, with no byte
+abbrev pub waited : Answer → (got : ℕ) → Bool
+waited Answer.Exchanged got = false
+waited Answer.Failed got = false
+waited Answer.Waited got = eqb got 0
 
 -- an answer of the length and kind asked for; after the end there is none
 abbrev pub answers : Ask → Answer → List ℕ → Bool
@@ -107,7 +108,7 @@ answers (Ask.Checked address) a rx = exchanged a (length rx) 6
 answers (Ask.Word address word) a rx = exchanged a (length rx) 0
 answers (Ask.Body address count) a rx = exchanged a (length rx) 0
 answers Ask.Reset a rx = exchanged a (length rx) 0
-answers Ask.Wait a rx = waited a
+answers Ask.Wait a rx = waited a (length rx)
 answers Ask.Nothing a rx = false
 
 -- any other is 26, whatever the call: never converted
