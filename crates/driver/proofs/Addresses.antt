@@ -61,12 +61,13 @@ use Rattle.fetch.specs.Step.{stamped}
 use Rattle.rx_fifo.specs.Outcome.{messageOf}
 use Rattle.rx_fifo.specs.Talk as fetch-talks
 use Rattle.driver.specs.Step.{stepOf}
-use Rattle.driver.specs.Calls.{Plans, Modify, Verify, SetOpMode, Osc, Io, BitTiming, Fifo, Filter, FilterOff, Configure, Start, Reset, OpMode, VerifyLong, Read, Checked, Write, ReadRam, WriteRam, Planned, Push, Transmit, Request, HasNext, Peek, Get, prepared, started, told, wholeTalk}
-use Rattle.driver.specs.Demand1.{Below, AddressesBelow}
+use Rattle.driver.specs.Talk.{told}
+use Rattle.driver.specs.Calls.{Plans, Modify, Verify, SetOpMode, Osc, Io, BitTiming, Fifo, Filter, FilterOff, Configure, Start, Reset, OpMode, VerifyLong, Read, Checked, Write, ReadRam, WriteRam, Planned, Push, Transmit, Request, HasNext, Peek, Get, prepared, started, wholeTalk}
+use Rattle.driver.specs.Demand1.{Narrow, Below, AddressesBelow}
 use Rattle.driver.proofs.Runs.{follows, run-talk}
 use Rattle.driver.proofs.Starts.{starts-as-talk}
 
--- ---- talks in which every address is below 0x1000, whatever is answered
+-- ---- talks in which every address is narrow, whatever is answered
 
 abbrev Always : {A : Type 0} → Talk A → Type 0
 Always (done x) = Unit {0}
@@ -94,16 +95,16 @@ module _ {A : Type 0} where
   choice : (b : Bool) (x y : Talk A) → (b ≡ true → Always x) → (b ≡ false → Always y) → Always (if b then x else y)
   choice b x y h l = by-if (λ (t : Talk A). Always t) b h l
 
-  reads : (failed : Refusal) (address : ℕ) (k : ℕ → Talk A) → address < 0x1000 → ((w : ℕ) → Always (k w)) → Always (readWord failed address k)
+  reads : (failed : Refusal) (address : ℕ) (k : ℕ → Talk A) → Narrow address → ((w : ℕ) → Always (k w)) → Always (readWord failed address k)
   reads failed address k l h = (l, λ a rx. by-word (wordReply failed a rx) k h)
 
   -- where so many bytes are wanted
-  gets : (failed : Refusal) (address want : ℕ) (k : List ℕ → Talk A) → address < 0x1000 → ((rx : List ℕ) → Always (k rx))
-      → (address < 0x1000) × ((a : Answer) (rx : List ℕ) → Always (onDone refused (doneReply failed a (length rx) want) (k rx)))
+  gets : (failed : Refusal) (address want : ℕ) (k : List ℕ → Talk A) → Narrow address → ((rx : List ℕ) → Always (k rx))
+      → Narrow address × ((a : Answer) (rx : List ℕ) → Always (onDone refused (doneReply failed a (length rx) want) (k rx)))
   gets failed address want k l h = (l, λ a rx. by-done (doneReply failed a (length rx) want) (k rx) (h rx))
 
-  writes : (failed : Refusal) (address : ℕ) (k : Talk A) → address < 0x1000 → Always k
-      → (address < 0x1000) × ((a : Answer) (rx : List ℕ) → Always (onDone refused (doneReply failed a (length rx) 0) k))
+  writes : (failed : Refusal) (address : ℕ) (k : Talk A) → Narrow address → Always k
+      → Narrow address × ((a : Answer) (rx : List ℕ) → Always (onDone refused (doneReply failed a (length rx) 0) k))
   writes failed address k l h = gets failed address 0 (λ rx. k) l (λ rx. h)
 
   after : (t : Talk A) (xs : List (Answer × List ℕ)) → Always t → Below (asks (run answered t xs))
@@ -123,7 +124,7 @@ then-always (ask q t) k h l = (h .0, λ a rx. then-always (t a rx) k (h .1 a rx)
 
 -- ---- addresses
 
-ram-below : (a n : ℕ) → inRange a n ≡ true → a < 0x1000
+ram-below : (a n : ℕ) → inRange a n ≡ true → Narrow a
 unfolding inRange
 ram-below a n e = let (low, high) = both (leb 0x400 a) (leb (a + n) 0xC00) e in omega (arith, leb-true (a + n) 0xC00 high)
 
@@ -132,27 +133,27 @@ module _ (n : ℕ) (f : isFifo n ≡ true) where
   unfolding isFifo
   most = leb-true n 31 (both (leb 1 n) (leb n 31) f .1)
 
-  control-below : CiFIFOCON .address n < 0x1000
+  control-below : Narrow (CiFIFOCON .address n)
   control-below = omega (arith, most)
 
-  status-below : CiFIFOSTA .address n < 0x1000
+  status-below : Narrow (CiFIFOSTA .address n)
   status-below = omega (arith, most)
 
-  user-below : CiFIFOUA .address n < 0x1000
+  user-below : Narrow (CiFIFOUA .address n)
   user-below = omega (arith, most)
 
 -- ---- registers and RAM
 
-at-address : (address : ℕ) (t : Talk Outcome) → (address < 0x1000 → Always t) → Always (atAddress address t)
+at-address : (address : ℕ) (t : Talk Outcome) → (Narrow address → Always t) → Always (atAddress address t)
 at-address address t h = choice (ltb address (2 ^ 12)) t (refused Refusal.BadSetting) (λ e. h (ltb-true address (2 ^ 12) e)) (λ e. tt)
 
-tries : (address left : ℕ) → address < 0x1000 → Always (checkedTalk address left)
+tries : (address left : ℕ) → Narrow address → Always (checkedTalk address left)
 unfolding checkedTalk
 tries address zero l = (l, λ a rx. by-checked (crcReply Refusal.SpiRead address a rx) (refused Refusal.CrcMismatch) (λ w. done (Outcome.Word w)) tt (λ w. tt))
 tries address (suc left) l =
     (l, λ a rx. by-checked (crcReply Refusal.SpiRead address a rx) (checkedTalk address left) (λ w. done (Outcome.Word w)) (tries address left l) (λ w. tt))
 
-accessed : (address count : ℕ) (r : Refusal) (t : Talk Outcome) → (address < 0x1000 → Always t) → Always (onDone refused (accessOf address count r) t)
+accessed : (address count : ℕ) (r : Refusal) (t : Talk Outcome) → (Narrow address → Always t) → Always (onDone refused (accessOf address count r) t)
 unfolding accessOf
 accessed address count r t h =
     by-if (λ d. Always (onDone refused d t)) (inRange address count)
@@ -162,7 +163,7 @@ accessed address count r t h =
 -- ---- plans
 
 abbrev ItemBelow : Item → Type 0
-ItemBelow (Item.Change c) = c .address < 0x1000
+ItemBelow (Item.Change c) = Narrow (c .address)
 ItemBelow (Item.Poll p more) = Unit {0}
 ItemBelow Item.Echo = Unit {0}
 ItemBelow Item.Nothing = Unit {0}
@@ -175,7 +176,7 @@ infixr 5 _&_
 abbrev _&_ : {A B : Type 0} → A → B → A × B
 h & l = (h, l)
 
-polled-below : (p : Poll) → addressOf p < 0x1000
+polled-below : (p : Poll) → Narrow (addressOf p)
 polled-below (Poll.Mode m late) = omega arith
 polled-below Poll.Pll = omega arith
 
@@ -185,7 +186,7 @@ module _ (failed : Refusal) (k : Talk Outcome) (h : Always k) where
   poll-always p zero = reads failed (addressOf p) _ (polled-below p) (λ w. choice (shown p w) k (refused (lateOf p)) (λ e. h) (λ e. tt))
   poll-always p (suc left) =
       reads failed (addressOf p) _ (polled-below p)
-      (λ w. choice (shown p w) k (pause (pollTalk failed p left k)) (λ e. h) (λ e. (tt, λ a rx. by-done (waitReply a) _ (poll-always p left))))
+      (λ w. choice (shown p w) k (pause (pollTalk failed p left k)) (λ e. h) (λ e. (tt, λ a rx. by-done (waitReply a (length rx)) _ (poll-always p left))))
 
   rest-always : (left : ℕ) → Always (echoRest failed left k)
   unfolding echoRest
@@ -211,8 +212,8 @@ address-kept : (ss : List Setting) (c : Change) → settingAll ss c .address ≡
 address-kept [] c = refl
 address-kept (place p k := v ∷ ss) c = address-kept ss _
 
-change-below : (address : ℕ) (ss : List Setting) → address < 0x1000 → changeOf address ss .address < 0x1000
-change-below address ss l = subst (λ a. a < 0x1000) (sym (address-kept ss _)) l
+change-below : (address : ℕ) (ss : List Setting) → Narrow address → Narrow (changeOf address ss .address)
+change-below address ss l = subst Narrow (sym (address-kept ss _)) l
 
 -- an item that is there only by a choice
 either-below : (b : Bool) (i j : Item) → ItemBelow i → ItemBelow j → ItemBelow (if b then i else j)

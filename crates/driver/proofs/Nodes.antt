@@ -98,10 +98,10 @@ module _ {A : Type 0} (failed : Refusal) where
       go Answer.Failed rx e = absurd (true≢false e)
       go Answer.Waited rx e = refl
 
-by-wait : {A : Type 0} (a : Answer) (k : Talk A) → waited a ≡ false → onDone refused (waitReply a) k ≡ refused Refusal.WrongAnswer
-by-wait Answer.Exchanged k e = refl
-by-wait Answer.Failed k e = refl
-by-wait Answer.Waited k e = absurd (true≢false e)
+by-wait : {A : Type 0} (a : Answer) (got : ℕ) (k : Talk A) → waited a got ≡ false → onDone refused (waitReply a got) k ≡ refused Refusal.WrongAnswer
+by-wait Answer.Exchanged got k e = refl
+by-wait Answer.Failed got k e = refl
+by-wait Answer.Waited got k e = rw e
 
 module _ {A B : Type 0} (P : A → Type 0) (Q : B → Type 0) where
   then-stands : (t : Talk A) (k : A → Talk B) → Stands P t → ((x : A) → P x → Stands Q (k x)) → Stands Q (andThen t k)
@@ -144,7 +144,7 @@ plan-stands failed (PlanAt.Read c) k = by-word failed _
 plan-stands failed (PlanAt.Write address word) k = by-done failed 0 _
 plan-stands failed (PlanAt.Poll p zero) k = by-word failed _
 plan-stands failed (PlanAt.Poll p (suc more)) k = by-word failed _
-plan-stands failed (PlanAt.Wait p more) k = (refl, λ a rx e. by-wait a _ e)
+plan-stands failed (PlanAt.Wait p more) k = (refl, λ a rx e. by-wait a (length rx) _ e)
 plan-stands failed (PlanAt.EchoWrite left) k = by-done failed 0 _
 plan-stands failed (PlanAt.EchoRead left) k = by-word failed _
 plan-stands failed PlanAt.Done k = refl

@@ -40,7 +40,8 @@ use Rattle.transmit.proofs.Transmits as transmit
 use Rattle.fetch.specs.declared.Want.{Want}
 use Rattle.rx_fifo.specs.Talk.{hasNextTalk, lentTalk}
 use Rattle.rx_fifo.proofs.Runs as fetch
-use Rattle.driver.specs.Calls.{Plans, Modify, Verify, SetOpMode, Osc, Io, BitTiming, Fifo, Filter, FilterOff, Configure, Start, Reset, OpMode, VerifyLong, Read, Checked, Write, ReadRam, WriteRam, Planned, Push, Transmit, Request, HasNext, Peek, Get, prepared, started, told, wholeTalk, first, sendable, roomy, planTests, tests}
+use Rattle.driver.specs.Talk.{told}
+use Rattle.driver.specs.Calls.{Plans, Modify, Verify, SetOpMode, Osc, Io, BitTiming, Fifo, Filter, FilterOff, Configure, Start, Reset, OpMode, VerifyLong, Read, Checked, Write, ReadRam, WriteRam, Planned, Push, Transmit, Request, HasNext, Peek, Get, prepared, started, wholeTalk, first, sendable, roomy, planTests, tests}
 use Rattle.driver.specs.Demand1.{StartsAsTalk, RefusesFirst}
 use Rattle.driver.proofs.Runs.{outcome-talk, register-talk, ram-talk, plan-talk, push-talk, transmit-talk, fetch-talk}
 

@@ -13,7 +13,7 @@ use Rattle.header.specs.declared.dlc.Dlc.{Dlc}
 use Rattle.header.specs.Dlc.{dlcOf}
 use Rattle.header.specs.Header.{topId}
 use Rattle.spi.specs.Ram.{inRange}
-use Rattle.spi.specs.Talk.{Talk, done, andThen}
+use Rattle.spi.specs.Talk.{Talk}
 use Rattle.call.specs.declared.Outcome.{Outcome}
 use Rattle.register.specs.declared.RegisterCall.{RegisterCall}
 use Rattle.register.specs.Step as register
@@ -36,8 +36,9 @@ use Rattle.tx_fifo.specs.Step.{startOf}
 use Rattle.tx_fifo.specs.Talk.{pushCall}
 use Rattle.transmit.specs.Transmit.{requestStart, requestCall, transmitStart, transmitCall}
 use Rattle.rx_fifo.specs.Step.{hasNextStart, peekStart, getStart}
-use Rattle.rx_fifo.specs.Talk.{Fetched, outcomeBy, hasNextTalk, peekTalk, getTalk}
+use Rattle.rx_fifo.specs.Talk.{hasNextTalk, peekTalk, getTalk}
 use Rattle.driver.specs.declared.calls.Call.{Call}
+use Rattle.driver.specs.Talk.{told}
 use Rattle.driver.specs.Start.{ofRegister, ofRam, ofPlan, ofPush, ofTransmit, ofFetch}
 
 -- the calls that set the chip up, and the two others that are lists of changes and echoes
@@ -95,10 +96,6 @@ started (Request n) = ofPlan (requestStart n)
 started (HasNext n) = ofFetch (hasNextStart n)
 started (Peek n room) = ofFetch (peekStart n room)
 started (Get n room) = ofFetch (getStart n room)
-
--- has-next, peek and get end in what was fetched: its outcome
-abbrev pub told : Talk Fetched → Talk Outcome
-told t = andThen t (λ x. done (outcomeBy x))
 
 abbrev pub wholeTalk : Start → Talk Outcome
 wholeTalk Reset = resetTalk

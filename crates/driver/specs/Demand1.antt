@@ -1,7 +1,7 @@
 -- Demand 1: every call takes any bytes, numbers and SPI answers, and ends; bad input gets the refusal number in the table, in the order
 -- given there, and changes no lent byte.
 -- Assumes nothing.
-use Prim.Native.Nat.{ℕ, suc, _+_, _*_, _≤_, _<_}
+use Prim.Native.Nat.{ℕ, suc, _+_, _*_, _^_, _≤_, _<_}
 use mathlib.Core.Path.{_≡_}
 use mathlib.Core.Bool.{Bool, true, false}
 use mathlib.Core.Logic.{_↔_}
@@ -85,7 +85,7 @@ RefusedKeeps =
     (call : Call) (r : Refusal) → outcomeOf call ≡ Outcome.Refused r
     → (askOf call ≡ Ask.Nothing) × ((rx buf : List ℕ) → filledBy call rx buf ≡ buf)
 
--- before any exchange, the first refusal in the order given; a call that meets none runs, or is done
+-- before any exchange, the first refusal in the order given; a call that meets none runs, and has no answer yet
 abbrev pub RefusesFirst : Type 0
 RefusesFirst = (x : Start) → outcomeNumbers (outcomeOf (started x)) ≡ first (tests x)
 
@@ -95,10 +95,11 @@ exchanged Answer.Exchanged got want = eqb got want
 exchanged Answer.Failed got want = true
 exchanged Answer.Waited got want = false
 
-abbrev pub waited : Answer → Bool
-waited Answer.Exchanged = false
-waited Answer.Failed = false
-waited Answer.Waited = true
+-- to a wait: waited out, with no byte
+abbrev pub waited : Answer → (got : ℕ) → Bool
+waited Answer.Exchanged got = false
+waited Answer.Failed got = false
+waited Answer.Waited got = eqb got 0
 
 -- an answer of the length and kind asked for; after the end there is none
 abbrev pub answers : Ask → Answer → List ℕ → Bool
@@ -107,7 +108,7 @@ answers (Ask.Checked address) a rx = exchanged a (length rx) 6
 answers (Ask.Word address word) a rx = exchanged a (length rx) 0
 answers (Ask.Body address count) a rx = exchanged a (length rx) 0
 answers Ask.Reset a rx = exchanged a (length rx) 0
-answers Ask.Wait a rx = waited a
+answers Ask.Wait a rx = waited a (length rx)
 answers Ask.Nothing a rx = false
 
 -- any other is 26, whatever the call: never converted
@@ -128,13 +129,16 @@ FollowsTalk =
     → (askOf (after call xs) ≡ asks (run answered (talkOf call) xs))
     × (outcomeOf (after call xs) ≡ ended (λ o. o) (run answered (talkOf call) xs))
 
--- ---- a command has 12 bits for an address: none that a started call asks for is cut
+-- ---- a command has the address in 11..0: none that a started call asks for is cut
+
+abbrev pub Narrow : ℕ → Type 0
+Narrow address = address < 2 ^ 12
 
 abbrev pub Below : Ask → Type 0
-Below (Ask.Read address count) = address < 0x1000
-Below (Ask.Checked address) = address < 0x1000
-Below (Ask.Word address word) = address < 0x1000
-Below (Ask.Body address count) = address < 0x1000
+Below (Ask.Read address count) = Narrow address
+Below (Ask.Checked address) = Narrow address
+Below (Ask.Word address word) = Narrow address
+Below (Ask.Body address count) = Narrow address
 Below Ask.Reset = Unit {0}
 Below Ask.Wait = Unit {0}
 Below Ask.Nothing = Unit {0}

@@ -14,8 +14,11 @@ use Rattle.driver.specs.declared.calls.Call.{Call}
 use Rattle.driver.specs.Step.{transmitOf}
 
 -- has-next, peek and get end in what was fetched: its outcome
+abbrev pub told : Talk fetch.Fetched → Talk Outcome
+told t = andThen t (λ x. done (fetch.outcomeBy x))
+
 abbrev pub fetchTalk : Fetch → Talk Outcome
-fetchTalk f = andThen (fetch.talkOf f) (λ x. done (fetch.outcomeBy x))
+fetchTalk f = told (fetch.talkOf f)
 
 abbrev pub talkAt : CallAt → Call → Talk Outcome
 talkAt (CallAt.Register r) s = register.talkOf r

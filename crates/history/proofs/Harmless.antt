@@ -208,7 +208,7 @@ module _ (X : ℕ → Type 0) where
   next-harmless failed (PlanAt.Read c) a rx h f = change-harmless failed c a rx h f
   next-harmless failed (PlanAt.Write address w) a rx h f = by-done (doneReply failed a (length rx) 0) Move.Next tt
   next-harmless failed (PlanAt.Poll p more) a rx h f = by-word (wordReply failed a rx) (afterPoll p more) (λ w. poll-harmless p more w h)
-  next-harmless failed (PlanAt.Wait p more) a rx h f = by-done (waitReply a) (Move.To (PlanAt.Poll p more)) h
+  next-harmless failed (PlanAt.Wait p more) a rx h f = by-done (waitReply a (length rx)) (Move.To (PlanAt.Poll p more)) h
   next-harmless failed (PlanAt.EchoWrite left) a rx h f = absurd h
   next-harmless failed (PlanAt.EchoRead left) a rx h f = absurd h
   next-harmless failed PlanAt.Done a rx h f = tt

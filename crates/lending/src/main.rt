@@ -103,12 +103,22 @@ fn reads() {
     );
 }
 
-fn waits() {
-    output::write(b"S26 a wait, answered as a failed exchange: ");
-    match spi::wait_reply(Answer::Failed) {
+fn wait(what: &[u8], answer: Answer, got: usize) {
+    output::write(what);
+    match spi::wait_reply(answer, got) {
         Done::Bad(r) => tell_refusal(r),
         Done::Good => output::write(b"not refused\n"),
     }
+}
+
+fn waits() {
+    wait(b"S26 a wait, waited out: ", Answer::Waited, 0);
+    wait(b"S26 the same, with a byte: ", Answer::Waited, 1);
+    wait(
+        b"S26 the same, answered as a failed exchange: ",
+        Answer::Failed,
+        0,
+    );
 }
 
 // A classic frame of 3 bytes, identifier 0x123, up to the payload's answer.

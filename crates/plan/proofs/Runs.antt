@@ -64,7 +64,7 @@ module _ (failed : Refusal) (k : Talk Outcome) where
   move-talk (PlanAt.Write address word) a rx = on-done moveTalk stopped refused (λ r. refl) (doneReply failed a (length rx) 0) _ _ refl
   move-talk (PlanAt.Poll p zero) a rx = on-word moveTalk stopped refused (λ r. refl) (wordReply failed a rx) _ _ (poll-last p)
   move-talk (PlanAt.Poll p (suc n)) a rx = on-word moveTalk stopped refused (λ r. refl) (wordReply failed a rx) _ _ (poll-more p n)
-  move-talk (PlanAt.Wait p n) a rx = on-done moveTalk stopped refused (λ r. refl) (waitReply a) _ _ refl
+  move-talk (PlanAt.Wait p n) a rx = on-done moveTalk stopped refused (λ r. refl) (waitReply a (length rx)) _ _ refl
   move-talk (PlanAt.EchoWrite left) a rx = on-done moveTalk stopped refused (λ r. refl) (doneReply failed a (length rx) 0) _ _ refl
   move-talk (PlanAt.EchoRead zero) a rx = on-word moveTalk stopped refused (λ r. refl) (wordReply failed a rx) _ _ echo-last
   move-talk (PlanAt.EchoRead (suc n)) a rx = on-word moveTalk stopped refused (λ r. refl) (wordReply failed a rx) _ _ (echo-more n)
@@ -168,7 +168,7 @@ pub write-within : (n m : ℕ) (failed : Refusal) (address word : ℕ) (k : Talk
 write-within n m failed address word k l h = ask-within n m (Ask.Word address word) (λ a rx. onDone refused (doneReply failed a (length rx) 0) k) l (λ a rx. done-within n (doneReply failed a (length rx) 0) k h)
 
 pub pause-within : (n m : ℕ) (k : Talk Outcome) → n < m → Within n k → Within m (pause k)
-pause-within n m k l h = ask-within n m Ask.Wait (λ a rx. onDone refused (waitReply a) k) l (λ a rx. done-within n (waitReply a) k h)
+pause-within n m k l h = ask-within n m Ask.Wait (λ a rx. onDone refused (waitReply a (length rx)) k) l (λ a rx. done-within n (waitReply a (length rx)) k h)
 
 module _ (failed : Refusal) (k : Talk Outcome) (n : ℕ) (h : Within n k) where
   pub poll-within : (p : Poll) (left m : ℕ) → 1 + 2 * left + n ≤ m → Within m (pollTalk failed p left k)

@@ -48,7 +48,7 @@ abbrev pub nextAt : Refusal → PlanAt → Answer → List ℕ → Move
 nextAt failed (PlanAt.Read c) a rx = onWord stopped (wordReply failed a rx) (λ w. Move.To (PlanAt.Write (c .address) (modified c w)))
 nextAt failed (PlanAt.Write address word) a rx = onDone stopped (doneReply failed a (length rx) 0) Move.Next
 nextAt failed (PlanAt.Poll p more) a rx = onWord stopped (wordReply failed a rx) (afterPoll p more)
-nextAt failed (PlanAt.Wait p more) a rx = onDone stopped (waitReply a) (Move.To (PlanAt.Poll p more))
+nextAt failed (PlanAt.Wait p more) a rx = onDone stopped (waitReply a (length rx)) (Move.To (PlanAt.Poll p more))
 nextAt failed (PlanAt.EchoWrite left) a rx = onDone stopped (doneReply failed a (length rx) 0) (Move.To (PlanAt.EchoRead left))
 nextAt failed (PlanAt.EchoRead left) a rx = onWord stopped (wordReply failed a rx) (afterEcho left)
 nextAt failed PlanAt.Done a rx = stopped Refusal.WrongAnswer

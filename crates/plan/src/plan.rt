@@ -143,7 +143,7 @@ fn next_at(failed: Refusal, at: PlanAt, answer: Answer, rx: &[u8]) -> Move
         PlanAt::Write(_, _) => when_done(spi::done_reply(failed, answer, rx.len(), 0), Move::Next),
         PlanAt::Poll(p, more) => when_polled(p, more, spi::word_reply(failed, answer, rx)),
         PlanAt::Wait(p, more) => when_done(
-            spi::wait_reply(answer),
+            spi::wait_reply(answer, rx.len()),
             Move::To(PlanAt::Poll(p, more)),
         ),
         PlanAt::EchoWrite(left) => when_done(

@@ -83,6 +83,14 @@ pub fn step_of(item: Item, heard: Line) -> Step {
     }
 }
 
+// How many bytes stand beside an answer: none beside that to a wait.
+fn beside(answer: Answer, got: usize) -> usize {
+    match answer {
+        Answer::Waited => 0,
+        _ => got,
+    }
+}
+
 pub fn moved(
     call: Call,
     step: Step,
@@ -95,6 +103,6 @@ pub fn moved(
     match step {
         Step::Stay => call,
         Step::Begin(row) => starts::start(row, a, text::front(lent, sent)),
-        Step::Answer(answer) => driver::step(call, answer, text::front(rx, got)),
+        Step::Answer(answer) => driver::step(call, answer, text::front(rx, beside(answer, got))),
     }
 }

@@ -35,11 +35,11 @@ doneReply failed Answer.Exchanged got want = if eqb got want then Done.Good else
 doneReply failed Answer.Failed got want = Done.Bad failed
 doneReply failed Answer.Waited got want = Done.Bad Refusal.WrongAnswer
 
--- a wait
-abbrev pub waitReply : Answer → Done
-waitReply Answer.Exchanged = Done.Bad Refusal.WrongAnswer
-waitReply Answer.Failed = Done.Bad Refusal.WrongAnswer
-waitReply Answer.Waited = Done.Good
+-- a wait: no byte is received
+abbrev pub waitReply : Answer → (got : ℕ) → Done
+waitReply Answer.Exchanged got = Done.Bad Refusal.WrongAnswer
+waitReply Answer.Failed got = Done.Bad Refusal.WrongAnswer
+waitReply Answer.Waited got = if eqb got 0 then Done.Good else Done.Bad Refusal.WrongAnswer
 
 -- the CRC, high byte first, is that of the 3 sent and the 4 data bytes
 unfoldable pub crcGood : ℕ → List ℕ → Bool

@@ -69,7 +69,7 @@ resetChip failed k = ask Ask.Reset (λ a rx. onDone refused (doneReply failed a 
 
 -- a wait
 abbrev pub pause : {A : Type 0} → Talk A → Talk A
-pause k = ask Ask.Wait (λ a rx. onDone refused (waitReply a) k)
+pause k = ask Ask.Wait (λ a rx. onDone refused (waitReply a (length rx)) k)
 
 -- one call, and where it is done another
 unfoldable pub andThen : {A B : Type 0} → Talk A → (A → Talk B) → Talk B

@@ -76,13 +76,20 @@ pub fn done_reply(failed: Refusal, answer: Answer, got: usize, want: usize) -> D
     }
 }
 
-pub fn wait_reply(answer: Answer) -> Done
-    ensures { λ r. ⌜ r ≡ waitReply answer ⌝ }
+// `got` bytes stand beside the answer to a wait.
+pub fn wait_reply(answer: Answer, got: usize) -> Done
+    ensures { λ r. ⌜ r ≡ waitReply answer got ⌝ }
 {
     match answer {
         Answer::Exchanged => Done::Bad(Refusal::WrongAnswer),
         Answer::Failed => Done::Bad(Refusal::WrongAnswer),
-        Answer::Waited => Done::Good,
+        Answer::Waited => {
+            if got == 0 {
+                Done::Good
+            } else {
+                Done::Bad(Refusal::WrongAnswer)
+            }
+        }
     }
 }
 
