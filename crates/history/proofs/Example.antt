@@ -15,6 +15,8 @@ use Rattle.header.specs.Dlc.{lengthOf, dlcOf}
 use Rattle.header.specs.Header.{word0, word1, headerOf}
 use Rattle.message.specs.Object.{padded, objectBytes}
 use Rattle.message.specs.Message.{checkOf, encoding, messageIn, decoding}
+use Rattle.spi.specs.declared.refusal.Refusal.{Refusal}
+use Rattle.call.specs.declared.Outcome.{Outcome}
 use Rattle.plan.specs.Change.{modified}
 use Rattle.plan.specs.Step as plan
 use Rattle.tx_fifo.specs.Step as push
@@ -61,4 +63,4 @@ unfolding c₀ lived exchange performed sent commandOf leBytes beBytes leAt beAt
     reads.afterHeader reads.toTime reads.toBody reads.afterAgain reads.afterTime fetch.heldOf fetch.stepOf fetch.askOf fetch.lentAt
     fetch.lentStart found.messageOf found.outcomeOf found.filled found.filledBy ofPlan ofPush ofFetch askOf stepOf outcomeOf filledBy
     bodyOf slotOf itemAt row held sends sendOutput sendModel incoming appended deliverOf stepped answered heard settled event after
-computed = (refl, (refl, refl))
+computed = (refl, (Outcome.Refused Refusal.SpiWrite, refl, refl, refl))

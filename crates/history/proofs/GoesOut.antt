@@ -43,11 +43,11 @@ use Rattle.history.proofs.Slots.{next-fifo, next-asked}
 use Rattle.history.proofs.Bus.{oldest}
 use Rattle.history.proofs.Replies.{control-gentle, plain-written}
 use Rattle.history.proofs.Inv.{Doings, Inv}
-use Rattle.history.proofs.Calm.{Fit, buses-fit}
+use Rattle.history.proofs.Calm.{buses-fit}
 use Rattle.history.proofs.PushSteps.{encoded-for}
 use Rattle.history.proofs.PlanSteps.{alone}
 use Rattle.history.proofs.Transmits.{nothing-more, request-goes, request-starts-at, half-way, pushed, pushed-ready}
-use Rattle.history.proofs.Theorem.{None, event-keeps, run-keeps, holds-always}
+use Rattle.history.proofs.Theorem.{None, event-keeps, run-keeps, holds-always, fits}
 
 -- ---- a bus step that is no send of the last leaves TXREQ of FIFO n at 1
 
@@ -177,16 +177,13 @@ module _ (z : World) (inv : Inv None z) (n : ℕ) (i : isFifo n ≡ true) (c d :
       goes-out n i z inv (ap (λ (x : World). x .doing) is)
       (ap (λ (x : World). read TXREQ (fifoAt (x .chip) n .control)) is ∙ request-sets n i c d o s)
 
-fit : (v : World) → Inv None v → Fit (v .chip) (v .said)
-fit v inv = record { sound = inv .sound; lists = inv .lists }
-
 pub request-sends : RequestSends
 request-sends c w g es e n i =
     let v : World = world c w es in
     let inv = holds-always c w g es in
     just-two (λ ys. GoesOut (after (Begin (Request n) ∷ calm ys) v) n)
     (λ b b′.
-    let f = buses-fit b (v .chip) (v .said) (fit v inv) in
+    let f = buses-fit b (v .chip) (v .said) (fits c w g es) in
     let f′ = buses-fit b′ (buses b (v .chip)) _ f in
     let (s, same, is) = request-goes n i false idlePush idleFetch (alone idlePush idleFetch) b b′ [] (v .chip) (v .said) in
     goes-from-there _ (run-keeps (Begin (Request n) ∷ calm (b ∷ b′ ∷ [])) v inv) n i _ _ (f .sound) (f′ .sound) _
@@ -200,12 +197,12 @@ transmit-sends c w g es e n header seq payload (bs, h) =
     let (i, coded) = encoded-for n header seq payload bs h in
     seven (λ ys. Takes (atStatus v ys) n payload → GoesOut (after (Begin k ∷ calm ys) v) n)
     (λ b₁ b₂ b₃ b₄ b₅ b b′ ok.
-    let (d, s, one, is) = half-way v (fit v inv) e n header seq payload bs h b₁ b₂ b₃ b₄ b₅ i ok in
+    let (d, s, one, is) = half-way v (fits c w g es) e n header seq payload bs h b₁ b₂ b₃ b₄ b₅ i ok in
     let xs : List (List Bus) = b₁ ∷ b₂ ∷ b₃ ∷ b₄ ∷ b₅ ∷ [] in
     let there = subst (Inv None) (is [] ∙ nothing-more _) (run-keeps (Begin k ∷ calm xs) v inv) in
     let f = buses-fit b d s (record { sound = there .sound; lists = there .lists }) in
     let f′ = buses-fit b′ (buses b d) _ f in
-    let u = pushed v (fit v inv) e n header seq payload bs h b₁ b₂ b₃ b₄ b₅ in
-    let (s′, same, goes) = request-goes n i true u idleFetch (pushed-ready v (fit v inv) e n header seq payload bs h b₁ b₂ b₃ b₄ b₅) b b′ [] d s in
+    let u = pushed v (fits c w g es) e n header seq payload bs h b₁ b₂ b₃ b₄ b₅ in
+    let (s′, same, goes) = request-goes n i true u idleFetch (pushed-ready v (fits c w g es) e n header seq payload bs h b₁ b₂ b₃ b₄ b₅) b b′ [] d s in
     goes-from-there _ (run-keeps (Begin k ∷ calm (b₁ ∷ b₂ ∷ b₃ ∷ b₄ ∷ b₅ ∷ b ∷ b′ ∷ [])) v inv) n i _ _ (f .sound) (f′ .sound) _
     (is (b ∷ b′ ∷ []) ∙ goes ∙ nothing-more _))

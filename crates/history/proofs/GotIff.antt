@@ -29,7 +29,7 @@ use Rattle.reach.specs.Bus.{Bus}
 use Rattle.history.specs.Command.{Get}
 use Rattle.history.specs.History.{Said, called, idle, World}
 use Rattle.history.specs.Lists.{handedOutIn}
-use Rattle.history.specs.Demand.{all, atStatus, calls, Answers}
+use Rattle.history.specs.Demand.{all, atStatus, calls, Answers, Gives}
 use Rattle.history.proofs.Few.{same-last}
 use Rattle.history.proofs.Bus.{oldest}
 use Rattle.history.proofs.Calm.{Fit, buses-fit}
@@ -72,7 +72,7 @@ module _ (n : ℕ) (buf : List ℕ) where
 
 module _ (d : Model) (n : ℕ) (buf : List ℕ) (m : Message) where
   abbrev Good : Type 0
-  Good = (sending (frozenAt d n) ≡ false) × (0 < fifoAt d n .count) × (itemAt d n 0 ≡ holds m)
+  Good = Gives d n × (itemAt d n 0 ≡ holds m)
 
   if-got : handedOutIn n (fetchSaid (Get n buf) d n buf) ≡ m ∷ [] → Good
   unfolding fetchSaid
@@ -82,11 +82,11 @@ module _ (d : Model) (n : ℕ) (buf : List ℕ) (m : Message) where
       (λ e h. absurd (out-none n buf m h))
       (λ e. by-if P (eqb (fifoAt d n .count) 0)
       (λ y h. absurd (out-none n buf m h))
-      (λ y h. (e, above _ (eqb-false (fifoAt d n .count) 0 y), out-only n buf _ _ (itemAt d n 0) (item-is d n e) m h)))
+      (λ y h. ((e, above _ (eqb-false (fifoAt d n .count) 0 y)), out-only n buf _ _ (itemAt d n 0) (item-is d n e) m h)))
 
   got-if : Good → handedOutIn n (fetchSaid (Get n buf) d n buf) ≡ m ∷ []
   unfolding fetchSaid
-  got-if (e, y, item) = rw (e, ne-eqb (fifoAt d n .count) 0 (λ z. omega (arith, z, y)), item) (comes-back n buf _ _ m (item-is d n e ∙ item))
+  got-if ((e, y), item) = rw (e, ne-eqb (fifoAt d n .count) 0 (λ z. omega (arith, z, y)), item) (comes-back n buf _ _ m (item-is d n e ∙ item))
 
 module _ (v : World) (f : Fit (v .chip) (v .said)) (e : v .doing ≡ idle) (n : ℕ) (buf : List ℕ) (i : isFifo n ≡ true) (long : 64 ≤ length buf)
     (xs : List (List Bus)) (l : length xs ≡ 9) where
@@ -98,11 +98,11 @@ module _ (v : World) (f : Fit (v .chip) (v .said)) (e : v .doing ≡ idle) (n : 
       )
 
   -- the slot of the oldest decodes, and the get is done with that message
-  pub get-hands-out : sending (frozenAt (atStatus v xs) n) ≡ false → 0 < fifoAt (atStatus v xs) n .count
+  pub get-hands-out : Gives (atStatus v xs) n
       → (m : Message) × (itemAt (atStatus v xs) n 0 ≡ holds m)
       × Answers v (Get n buf) xs (called (Get n buf) (Outcome.Message (found.foundOf m)) (put buf 0 (m .payload)) ∷ [])
   unfolding fetchSaid
-  get-hands-out rx some =
+  get-hands-out (rx, some) =
       let d : Model = atStatus v xs in
       let g = buses-fit (all (take 2 xs)) (v .chip) (v .said) f in
       let (m, item) = oldest d (g .sound) _ (g .lists) n i some in

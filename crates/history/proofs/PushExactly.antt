@@ -238,7 +238,7 @@ module _ (also : Bool) (n : ℕ) (header : Header) (seq : ℕ) (payload bs : Lis
       (rw (← fr) (not-false _ x)) (rw (← fr) (ltb-false _ _ y)) r (rw (← fr) (leb-true _ _ z))))
       (λ z. good (not-false _ x, ltb-false _ _ y, leb-false _ _ z))))
 
-  -- and it takes a push that is done
+  -- where its FIFO takes it, it gets to its end
   pub push-goes : Takes d n payload → (b₃ b₄ b₅ : List Bus) → Pushed also n header seq payload bs p f i coded (b₁ ∷ b₂ ∷ b₃ ∷ b₄ ∷ b₅ ∷ []) PushAt.Control c t
   push-goes (x, y, z) b₃ b₄ b₅ =
       let fr : frozenAt d n ≡ frozenAt c n = frozen-then in

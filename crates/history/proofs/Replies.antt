@@ -180,7 +180,8 @@ module _ (c : Model) (n : ℕ) where
         let w : ℕ = mark UINC true v in
         let u : flag UINC w ≡ true = ap (λ (x : ℕ). eqb x 1) (read-write UINC 1 v (omega arith)) in
         let r : flag FRESET w ≡ false = ap (λ (x : ℕ). eqb x 1) (write-other UINC FRESET 1 v (omega arith) refl ∙ z) in
-        (kept w (fifoAt c n), written-out w ∙ ap (withFifo c n) (commanded-uinc (frozenAt c n) w (fifoAt c n) r u), refl, refl, kept-asked w (fifoAt c n) ∙ write-other UINC TXREQ 1 v (omega arith) refl)
+        let same : read TXREQ (kept w (fifoAt c n) .control) ≡ read TXREQ v = kept-asked w (fifoAt c n) ∙ write-other UINC TXREQ 1 v (omega arith) refl in
+        (kept w (fifoAt c n), written-out w ∙ ap (withFifo c n) (commanded-uinc (frozenAt c n) w (fifoAt c n) r u), refl, refl, same)
 
     -- without; only the control word is another
     pub plain-written : (v : ℕ) → read UINC v ≡ 0 → read FRESET v ≡ 0

@@ -18,8 +18,7 @@ use Rattle.reach.proofs.Told.{leaving-outside, leaving-empty}
 use Rattle.history.specs.Command.{Command, Push, Transmit, Request, HasNext, Peek, Get, Reading, Configuring, started}
 use Rattle.history.specs.History.{Event, Begin, Exchange, Fail, On, Said, Doing, idle, busy, World, says, heard, settled, goesOn, event, after}
 use Rattle.history.specs.Lists.{accepted, handedOut}
-use Rattle.history.specs.Demand.{Leaves, start, world, Each, TellsWell, Lists, PushExactly, PushedIff, GetExactly, GotIff, GetHandsOut, PeekExactly, PeekKeeps, HasNextExactly}
-use Rattle.history.specs.Demand.{PushFails, TransmitFails, RequestExactly, TransmitRefused, TransmitDone, RequestFails, NeverCaused}
+use Rattle.history.specs.Demand.{Leaves, start, world, Each, TellsWell}
 use Rattle.history.proofs.Sound.{Sound, Asked}
 use Rattle.history.proofs.Bus.{Listed}
 use Rattle.history.proofs.Calm.{Fit, step-fit, step-later}
@@ -27,12 +26,6 @@ use Rattle.history.proofs.Inv.{Mid, pushes, fetches, requests, configur
 use Rattle.history.proofs.PushSteps.{push-exchanged, push-failed, push-begins}
 use Rattle.history.proofs.FetchSteps.{fetch-exchanged, fetch-failed, fetch-begins}
 use Rattle.history.proofs.PlanSteps.{request-heard, request-starts-well, configure-heard, configure-starts-well, look-heard, look-starts-well}
-use Rattle.history.proofs.PushExactly.{push-exactly, pushed-iff}
-use Rattle.history.proofs.Transmits.{request-exactly, transmit-refused, transmit-done, request-fails}
-use Rattle.history.proofs.FetchExactly.{get-exactly, peek-exactly, has-next-exactly}
-use Rattle.history.proofs.GotIff.{got-iff, get-hands-out}
-use Rattle.history.proofs.PeekKeeps.{peek-keeps}
-use Rattle.history.proofs.PushFails.{push-fails, transmit-fails}
 
 -- a bus step is no call
 bus-tells : (b : Bus) (c : Model) → TellsWell (says b c)
@@ -121,59 +114,3 @@ holds-always c w g es = run-keeps es (start c w) (begins-well c w g)
 
 pub fits : (c : Model) (w : ℕ) → Leaves c w → (es : List Event) → Fit (world c w es .chip) (world c w es .said)
 fits c w g es = let i = holds-always c w g es in record { sound = i .sound; lists = i .lists }
-
--- ---- the theorems
-
--- 1. accepted is handed out, followed by what is held
-pub lists : Lists
-lists c w g es = holds-always c w g es .lists
-
--- 2. what a push answers
-pub push-exactly-always : PushExactly
-push-exactly-always c w g es e = push-exactly (world c w es) (fits c w g es) e
-
-pub pushed-iff-always : PushedIff
-pushed-iff-always c w g es e = pushed-iff (world c w es) (fits c w g es) e
-
--- 3. what a get, a peek and has-next answer
-pub get-exactly-always : GetExactly
-get-exactly-always c w g es e = get-exactly (world c w es) (fits c w g es) e
-
-pub got-iff-always : GotIff
-got-iff-always c w g es e = got-iff (world c w es) (fits c w g es) e
-
-pub get-hands-out-always : GetHandsOut
-get-hands-out-always c w g es e = get-hands-out (world c w es) (fits c w g es) e
-
-pub peek-exactly-always : PeekExactly
-peek-exactly-always c w g es e = peek-exactly (world c w es) (fits c w g es) e
-
-pub peek-keeps-always : PeekKeeps
-peek-keeps-always c w g es e = peek-keeps (world c w es) e
-
-pub has-next-exactly-always : HasNextExactly
-has-next-exactly-always c w g es e = has-next-exactly (world c w es) (fits c w g es) e
-
--- 4. a push in which an exchange failed
-pub push-fails-always : PushFails
-push-fails-always c w g es e = push-fails (world c w es) (fits c w g es) e
-
-pub transmit-fails-always : TransmitFails
-transmit-fails-always c w g es e = transmit-fails (world c w es) (fits c w g es) e
-
--- 5. request and transmit
-pub request-exactly-always : RequestExactly
-request-exactly-always c w g es e = request-exactly (world c w es) e
-
-pub transmit-refused-always : TransmitRefused
-transmit-refused-always c w g es e = transmit-refused (world c w es) (fits c w g es) e
-
-pub transmit-done-always : TransmitDone
-transmit-done-always c w g es e = transmit-done (world c w es) (fits c w g es) e
-
-pub request-fails-always : RequestFails
-request-fails-always c w g es e = request-fails (world c w es) (fits c w g es) e
-
--- 6. what is never answered
-pub never-caused : NeverCaused
-never-caused c w g es = holds-always c w g es .tells

@@ -125,7 +125,8 @@ pushAnswer d n payload =
 -- five exchanges, and bus steps before each
 abbrev pub PushExactly : Type 0
 PushExactly =
-    NextCall (λ v. (n : ℕ) (header : Header) (seq : ℕ) (payload : List ℕ) → WellFormed n header seq payload → (bs : List (List Bus)) → length bs ≡ 5
+    NextCall (λ v. (n : ℕ) (header : Header) (seq : ℕ) (payload : List ℕ) → WellFormed n header seq payload
+    → (bs : List (List Bus)) → length bs ≡ 5
     → Ends v (Push n header seq payload) bs (pushAnswer (atStatus v bs) n payload))
 
 -- its FIFO transmits, the payload fits and there is room
@@ -136,7 +137,8 @@ Takes d n payload =
 -- it is accepted exactly if its FIFO transmits, the payload fits and there was room at the status read
 abbrev pub PushedIff : Type 0
 PushedIff =
-    NextCall (λ v. (n : ℕ) (header : Header) (seq : ℕ) (payload : List ℕ) → WellFormed n header seq payload → (bs : List (List Bus)) → length bs ≡ 5
+    NextCall (λ v. (n : ℕ) (header : Header) (seq : ℕ) (payload : List ℕ) → WellFormed n header seq payload
+    → (bs : List (List Bus)) → length bs ≡ 5
     → ((x : Said) × Answers v (Push n header seq payload) bs (x ∷ []) × (acceptedIn n x ≡ toSend header seq payload ∷ []))
     ↔ Takes (atStatus v bs) n payload)
 
@@ -161,18 +163,22 @@ GetExactly =
     NextCall (λ v. (n : ℕ) (buf : List ℕ) → isFifo n ≡ true → 64 ≤ length buf → (bs : List (List Bus)) → length bs ≡ 9
     → Ends v (Get n buf) bs (fetchAnswer (atStatus v bs) n buf))
 
+-- its FIFO receives and one is held
+abbrev pub Gives : Model → ℕ → Type 0
+Gives d n = (sending (frozenAt d n) ≡ false) × (0 < fifoAt d n .count)
+
 -- it hands out the oldest exactly if its FIFO receives and held one at the status read
 abbrev pub GotIff : Type 0
 GotIff =
     NextCall (λ v. (n : ℕ) (buf : List ℕ) → isFifo n ≡ true → 64 ≤ length buf → (bs : List (List Bus)) → length bs ≡ 9 → (m : Message)
     → ((x : Said) × Answers v (Get n buf) bs (x ∷ []) × (handedOutIn n x ≡ m ∷ []))
-    ↔ ((sending (frozenAt (atStatus v bs) n) ≡ false) × (0 < fifoAt (atStatus v bs) n .count) × (itemAt (atStatus v bs) n 0 ≡ holds m)))
+    ↔ (Gives (atStatus v bs) n × (itemAt (atStatus v bs) n 0 ≡ holds m)))
 
 -- and every slot held decodes: a get from a FIFO that receives and held one then is done with the oldest
 abbrev pub GetHandsOut : Type 0
 GetHandsOut =
     NextCall (λ v. (n : ℕ) (buf : List ℕ) → isFifo n ≡ true → 64 ≤ length buf → (bs : List (List Bus)) → length bs ≡ 9
-    → sending (frozenAt (atStatus v bs) n) ≡ false → 0 < fifoAt (atStatus v bs) n .count
+    → Gives (atStatus v bs) n
     → (m : Message) × (itemAt (atStatus v bs) n 0 ≡ holds m)
     × Answers v (Get n buf) bs (called (Get n buf) (Outcome.Message (foundOf m)) (put buf 0 (m .payload)) ∷ []))
 
@@ -235,20 +241,25 @@ TransmitFails =
 
 -- two exchanges
 abbrev pub RequestExactly : Type 0
-RequestExactly = NextCall (λ v. (n : ℕ) → isFifo n ≡ true → (bs : List (List Bus)) → length bs ≡ 2 → Ends v (Request n) bs (answer Outcome.Done []))
+RequestExactly =
+    NextCall (λ v. (n : ℕ) → isFifo n ≡ true → (bs : List (List Bus)) → length bs ≡ 2
+    → Ends v (Request n) bs (answer Outcome.Done []))
 
 -- its push ends as a push does, and if it is refused there is no request
 abbrev pub TransmitRefused : Type 0
 TransmitRefused =
-    NextCall (λ v. (n : ℕ) (header : Header) (seq : ℕ) (payload : List ℕ) → WellFormed n header seq payload → (bs : List (List Bus)) → length bs ≡ 5
+    NextCall (λ v. (n : ℕ) (header : Header) (seq : ℕ) (payload : List ℕ) → WellFormed n header seq payload
+    → (bs : List (List Bus)) → length bs ≡ 5
     → (Takes (atStatus v bs) n payload → ⊥) → Ends v (Transmit n header seq payload) bs (pushAnswer (atStatus v bs) n payload))
 
 -- if it is done the request is done too
 abbrev pub TransmitDone : Type 0
 TransmitDone =
-    NextCall (λ v. (n : ℕ) (header : Header) (seq : ℕ) (payload : List ℕ) → WellFormed n header seq payload → (bs : List (List Bus)) → length bs ≡ 7
+    NextCall (λ v. (n : ℕ) (header : Header) (seq : ℕ) (payload : List ℕ) → WellFormed n header seq payload
+    → (bs : List (List Bus)) → length bs ≡ 7
     → Takes (atStatus v bs) n payload
-    → Answers v (Transmit n header seq payload) bs (called (Push n header seq payload) Outcome.Done [] ∷ called (Request n) Outcome.Done [] ∷ []))
+    → Answers v (Transmit n header seq payload) bs
+    (called (Push n header seq payload) Outcome.Done [] ∷ called (Request n) Outcome.Done [] ∷ []))
 
 -- the five exchanges of the push, one more or none, then one that fails: the request answers 1
 abbrev pub RequestFails : Type 0
@@ -273,7 +284,8 @@ SendsOldest v n =
 
 abbrev pub OldestGoes : Type 0
 OldestGoes =
-    Always (λ v. (n : ℕ) → isFifo n ≡ true → sending (frozenAt (v .chip) n) ≡ true → Requested (v .chip) n → 0 < fifoAt (v .chip) n .count → SendsOldest v n)
+    Always (λ v. (n : ℕ) → isFifo n ≡ true → sending (frozenAt (v .chip) n) ≡ true → Requested (v .chip) n
+    → 0 < fifoAt (v .chip) n .count → SendsOldest v n)
 
 -- e is a send that takes the last of FIFO n
 abbrev pub TakesLast : ℕ → Event → Model → Type 0
@@ -292,17 +304,20 @@ LastStays n (e ∷ es) v = (TakesLast n e (v .chip) → ⊥) × LastStays n es (
 abbrev pub GoesOut : World → ℕ → Type 0
 GoesOut v n =
     (es : List Event) → LastStays n es v
-    → (let z = after es v in Requested (z .chip) n × (sending (frozenAt (z .chip) n) ≡ true → 0 < fifoAt (z .chip) n .count → SendsOldest z n))
+    → (let z = after es v in
+    Requested (z .chip) n × (sending (frozenAt (z .chip) n) ≡ true → 0 < fifoAt (z .chip) n .count → SendsOldest z n))
 
 -- so it is after a request that is done, whatever calls and bus steps follow and whichever of their exchanges fail
 abbrev pub RequestSends : Type 0
 RequestSends =
-    NextCall (λ v. (n : ℕ) → isFifo n ≡ true → (bs : List (List Bus)) → length bs ≡ 2 → GoesOut (after (Begin (Request n) ∷ calm bs) v) n)
+    NextCall (λ v. (n : ℕ) → isFifo n ≡ true → (bs : List (List Bus)) → length bs ≡ 2
+    → GoesOut (after (Begin (Request n) ∷ calm bs) v) n)
 
 -- and after a transmit that is done
 abbrev pub TransmitSends : Type 0
 TransmitSends =
-    NextCall (λ v. (n : ℕ) (header : Header) (seq : ℕ) (payload : List ℕ) → WellFormed n header seq payload → (bs : List (List Bus)) → length bs ≡ 7
+    NextCall (λ v. (n : ℕ) (header : Header) (seq : ℕ) (payload : List ℕ) → WellFormed n header seq payload
+    → (bs : List (List Bus)) → length bs ≡ 7
     → Takes (atStatus v bs) n payload → GoesOut (after (Begin (Transmit n header seq payload) ∷ calm bs) v) n)
 
 -- ---- 7. no push, request, transmit, has-next, peek or get answers 3, 23, 25 or 26

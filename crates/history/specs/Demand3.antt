@@ -1,7 +1,8 @@
 -- Demand 3 whole: each of its statements.
 -- Assumes nothing.
-use Rattle.history.specs.Demand.{Lists, PushExactly, PushedIff, GetExactly, GotIff, GetHandsOut, PeekExactly, PeekKeeps, HasNextExactly}
-use Rattle.history.specs.Demand.{PushFails, TransmitFails, RequestExactly, TransmitRefused, TransmitDone, RequestFails, OldestGoes, RequestSends, TransmitSends, NeverCaused, AnsweredWhole}
+use Rattle.history.specs.Demand.{Lists, PushExactly, PushedIff, GetExactly, GotIff, GetHandsOut, PeekExactly, PeekKeeps}
+use Rattle.history.specs.Demand.{HasNextExactly, PushFails, TransmitFails, RequestExactly, TransmitRefused, TransmitDone}
+use Rattle.history.specs.Demand.{RequestFails, OldestGoes, RequestSends, TransmitSends, NeverCaused, AnsweredWhole}
 use Rattle.history.specs.Example.{Begins, Sends, SendsNot}
 
 pub record Demand3 : Type 0 where

@@ -8,13 +8,13 @@ use mathlib.Core.List.{List, [], _∷_}
 use lib.ListN.{replicate}
 use Rattle.fifo.specs.Control.{CiFIFOCON}
 use Rattle.parts.specs.Parts.{put}
-use Rattle.spi.specs.declared.refusal.Refusal.{Refusal}
 use Rattle.spi.specs.declared.ask.Ask.{Ask}
 use Rattle.spi.specs.Ask.{sent, wanted}
 use Rattle.header.specs.declared.Header.{Header}
 use Rattle.message.specs.declared.object.Stamp.{Stamp}
 use Rattle.message.specs.Message.{Message}
 use Rattle.call.specs.declared.Outcome.{Outcome}
+use Rattle.call.specs.Numbers.{outcomeNumbers}
 use Rattle.tx_fifo.specs.Step.{toSend}
 use Rattle.rx_fifo.specs.Outcome.{foundOf}
 use Rattle.state.specs.declared.Model.{Model}
@@ -93,8 +93,8 @@ saying o out =
 abbrev pub Sends : Type 0
 Sends = world c₀ w₀ (story Exchange) .said ≡ saying Outcome.Done (frame (toSend torque 5 torqueBytes))
 
--- the push is refused, FIFO 1 holds nothing, and nothing is sent
+-- the push answers 2, FIFO 1 holds nothing, and nothing is sent
 abbrev pub SendsNot : Type 0
 SendsNot =
     let v = world c₀ w₀ (story Fail) in
-    (v .said ≡ saying (Outcome.Refused Refusal.SpiWrite) nothing) × (held (v .chip) 1 ≡ [])
+    (o : Outcome) × (outcomeNumbers o ≡ 2 ∷ []) × (v .said ≡ saying o nothing) × (held (v .chip) 1 ≡ [])
