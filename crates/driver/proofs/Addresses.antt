@@ -3,11 +3,11 @@
 use Prim.Native.Nat.{ℕ, zero, suc, _+_, _%_, _^_, _≤_, _<_}
 use native.Mathlib.Omega.{arith}
 use mathlib.Core.Path.{_≡_, refl, sym, ap, _∙_, subst}
-use mathlib.Core.Bool.{Bool, true, false, _&&_}
+use mathlib.Core.Bool.{Bool, true, false, not, _&&_}
 use mathlib.Core.List.{List, [], _∷_}
 use lib.ListN.{length}
 use lib.Dec.{eqb, ltb, leb}
-use borrow.Author.Tests.{ltb-true, leb-true}
+use borrow.Author.Tests.{ltb-true, leb-true, not-false}
 use Rattle.laws.specs.If.{if_then_else_}
 use Rattle.laws.proofs.Choice.{by-if}
 use Rattle.laws.proofs.Table.{both}
@@ -226,13 +226,11 @@ tested b p r h = by-if (λ q. Always (talkFor q)) b h (λ e. tt)
 filter-always : (f : ℕ) (c : FilterConfiguration) → Always (talkFor (configureFilter f c))
 unfolding configureFilter filterCheck
 filter-always f c =
-    by-if (λ d. Always (talkFor (onDone turnedDown d p))) (isFilter f)
+    by-if (λ d. Always (talkFor (onDone turnedDown d p))) (not (isFilter f && isFifo (c .fifo))) (λ e. tt)
     (λ e.
-    let l : f < 32 = ltb-true f 32 e in
-    by-if (λ d. Always (talkFor (onDone turnedDown d p))) (isFifo (c .fifo))
-    (λ i. by-if (λ d. Always (talkFor (onDone turnedDown d p))) (isIdentifier (c .object) && isIdentifier (c .mask))
-    (λ j. items-always Refusal.SpiRead (filterItems f c) (omega arith & omega arith & omega arith & omega arith & tt)) (λ j. tt)) (λ i. tt))
-    (λ e. tt)
+    let l : f < 32 = ltb-true f 32 (both (isFilter f) (isFifo (c .fifo)) (not-false _ e) .0) in
+    by-if (λ d. Always (talkFor (onDone turnedDown d p))) (not (isIdentifier (c .object) && isIdentifier (c .mask))) (λ j. tt)
+    (λ j. items-always Refusal.SpiRead (filterItems f c) (omega arith & omega arith & omega arith & omega arith & tt)))
   where
     p : Prepared
     p = ready Refusal.SpiRead (filterItems f c)
@@ -255,8 +253,9 @@ plan-always (Osc o) = items-always _ _ (omega arith & either-below (o .pll) (Ite
 plan-always (Io c) = items-always _ _ (omega arith, tt)
 plan-always (BitTiming b) = tested (timingFits b) (ready _ _) _ (λ e. items-always _ _ (omega arith & omega arith & omega arith & tt))
 plan-always (Fifo n c) =
-    tested (isFifo n) (if fifoFits c then ready _ _ else turnedDown _) _
-    (λ e. tested (fifoFits c) (ready _ _) _ (λ d. items-always _ _ (change-below (CiFIFOCON .address n) (fifoSettings c) (control-below n e), tt)))
+    by-if (λ q. Always (talkFor q)) (not (isFifo n)) (λ e. tt)
+    (λ e. by-if (λ q. Always (talkFor q)) (not (fifoFits c)) (λ d. tt)
+    (λ d. items-always _ _ (change-below (CiFIFOCON .address n) (fifoSettings c) (control-below n (not-false _ e)), tt)))
 plan-always (Filter f c) = filter-always f c
 plan-always (FilterOff f) = tested (isFilter f) (ready _ _) _ (λ e. let l : f < 32 = ltb-true f 32 e in items-always _ _ (omega arith, tt))
 plan-always (Configure s) =
@@ -270,17 +269,15 @@ module _ (n : ℕ) (f : isFifo n ≡ true) where
   to-write len w =
       reads Refusal.SpiRead (CiFIFOUA .address n) _ (user-below n f)
       (λ u. choice (ltb 0xFBFF u) _ _ (λ e. tt)
-      (λ e. choice (inRange (u + 0x400) len) _ _
-      (λ i. writes Refusal.SpiWrite (u + 0x400) _ (ram-below (u + 0x400) len i) (writes Refusal.SpiRead (CiFIFOCON .address n) _ (control-below n f) tt))
-      (λ i. tt)))
+      (λ e. choice (not (inRange (u + 0x400) len)) _ _ (λ i. tt)
+      (λ i. writes Refusal.SpiWrite (u + 0x400) _ (ram-below (u + 0x400) len (not-false _ i)) (writes Refusal.SpiRead (CiFIFOCON .address n) _ (control-below n f) tt))))
 
   push-always : (size len : ℕ) → Always (push-talks.pushTalk n size len)
   push-always size len =
       reads Refusal.SpiRead (CiFIFOCON .address n) _ (control-below n f)
-      (λ w. choice (flag TXEN w) _ _
+      (λ w. choice (not (flag TXEN w)) _ _ (λ e. tt)
       (λ e. choice (ltb (payloadOf w) size) _ _ (λ i. tt)
-      (λ i. reads Refusal.SpiRead (CiFIFOSTA .address n) _ (status-below n f) (λ v. choice (flag TFNRFNIF v) _ _ (λ j. to-write len w) (λ j. tt))))
-      (λ e. tt))
+      (λ i. reads Refusal.SpiRead (CiFIFOSTA .address n) _ (status-below n f) (λ v. choice (not (flag TFNRFNIF v)) _ _ (λ j. tt) (λ j. to-write len w)))))
 
   encoded-always : (size : ℕ) (e : Encoding) → Always (push-talks.withEncoding n size e)
   encoded-always size (Encoding.refused r) = tt
@@ -289,7 +286,7 @@ module _ (n : ℕ) (f : isFifo n ≡ true) where
 pushed-always : (n : ℕ) (header : Header) (seq : ℕ) (payload : List ℕ) → Always (push-talks.pushCall n header seq payload)
 unfolding push-talks.pushCall
 pushed-always n header seq payload =
-    choice (isFifo n) _ _ (λ f. encoded-always n f (length payload) (encoding (toSend header seq payload))) (λ f. tt)
+    choice (not (isFifo n)) _ _ (λ f. tt) (λ f. encoded-always n (not-false _ f) (length payload) (encoding (toSend header seq payload)))
 
 request-always : (n : ℕ) → Always (requestCall n)
 unfolding requestCall
