@@ -43,7 +43,7 @@ pub use proved::areas::RxFifo;
 pub use proved::areas::TxFifo;
 /// Both bit rates.
 pub use proved::changes::BitTimeConfiguration;
-/// Fields of CiDBTCFG as the register has them, one less than what they count, and TDCO by its seven bits (127 is -1).
+/// Fields of CiDBTCFG as the register has them, one less than what they count, and TDCO, -64 to 63.
 pub use proved::changes::DataBitTime;
 /// Fields of IOCON.
 pub use proved::changes::IoConfiguration;

@@ -384,7 +384,9 @@ static void settings_fields(void)
         { { .bittime.data.tseg1 = 31 }, 0x008, 0x001F0000 },
         { { .bittime.data.tseg2 = 15 }, 0x008, 0x00000F00 },
         { { .bittime.data.sjw = 15 }, 0x008, 0x0000000F },
-        { { .bittime.data.tdco = 127 }, 0x00C, 0x00027F00 }, /* TDCMOD 2 */
+        { { .bittime.data.tdco = 63 }, 0x00C, 0x00023F00 }, /* TDCMOD 2 */
+        { { .bittime.data.tdco = -1 }, 0x00C, 0x00027F00 },
+        { { .bittime.data.tdco = -64 }, 0x00C, 0x00024000 },
         { { .dncnt = 0 }, 0x000, 0x04810760 }, /* CiCON: Configuration, TXQEN and STEF 0, RTXAT 1 */
         { { .dncnt = 18 }, 0x000, 0x04810772 },
         { { .dncnt = 0 }, 0x014, 0x00000000 },
@@ -407,7 +409,9 @@ static void settings_fields(void)
     IS(mcp_configure_io(&line, &s.io) == 0 && reg(0xE04) == 0x23000003);
     IS(mcp_configure_bit_timing(&line, &s.bittime) == 0);
     IS(reg(0x004) == 0x003E0F0F && reg(0x008) == 0x000E0303 && reg(0x00C) == 0x00020000);
-    s.bittime.data.tdco = 128;
+    s.bittime.data.tdco = 64;
+    IS(mcp_configure(&line, &s) == 24);
+    s.bittime.data.tdco = -65;
     IS(mcp_configure(&line, &s) == 24);
 }
 

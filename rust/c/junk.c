@@ -173,7 +173,7 @@ int main(int argc, char **argv)
         fill(&filter, sizeof filter);
         if (next() % 4) { /* such as are taken */
             header.id %= 0x800;
-            settings.bittime = (mcp_bittime){ { a % 256, b % 256, c % 128, a % 128 }, { a % 256, b % 32, c % 16, a % 16, b % 128 } };
+            settings.bittime = (mcp_bittime){ { a % 256, b % 256, c % 128, a % 128 }, { a % 256, b % 32, c % 16, a % 16, (int32_t)(b % 128) - 64 } };
             settings.dncnt %= 32;
             fifo.size = a % 40;
             fifo.plsize = b % 9;

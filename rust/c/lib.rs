@@ -125,7 +125,7 @@ pub struct CData {
     tseg1: u32,
     tseg2: u32,
     sjw: u32,
-    tdco: u32,
+    tdco: i32,
 }
 
 #[repr(C)]

@@ -87,9 +87,9 @@ typedef struct {
 typedef struct { uint8_t pll, divide; } mcp_oscillator;
 typedef struct { uint8_t xstbyen, txcanod, sof, intod; } mcp_io;
 
-/* Fields as CiNBTCFG and CiDBTCFG have them, one less than what they count; tdco: its seven bits, 127 is -1. */
+/* Fields as CiNBTCFG and CiDBTCFG have them, one less than what they count; tdco: -64 to 63. */
 typedef struct { uint32_t brp, tseg1, tseg2, sjw; } mcp_nominal;
-typedef struct { uint32_t brp, tseg1, tseg2, sjw, tdco; } mcp_data;
+typedef struct { uint32_t brp, tseg1, tseg2, sjw; int32_t tdco; } mcp_data;
 typedef struct { mcp_nominal nominal; mcp_data data; } mcp_bittime;
 
 /* counter: the time base counter; dncnt: DNCNT, 0 to leave it; canerrors to eccerror: interrupts beside those of transmit and receive. */

@@ -165,7 +165,7 @@ fn given(l: &mut Junk) -> Given {
             io: IoConfiguration { xstbyen: flags[2], txcanod: flags[3], sof: flags[4], intod: flags[5] },
             bittime: BitTimeConfiguration {
                 nominal: NominalBitTime { brp: to(a, 256), tseg1: to(b, 256), tseg2: to(c, 128), sjw: to(a, 128) },
-                data: DataBitTime { brp: to(a, 256), tseg1: to(b, 32), tseg2: to(c, 16), sjw: to(a, 16), tdco: to(b, 128) },
+                data: DataBitTime { brp: to(a, 256), tseg1: to(b, 32), tseg2: to(c, 16), sjw: to(a, 16), tdco: if fits { (b % 128) as i32 - 64 } else { b as i32 } },
             },
             counter: flags[12],
             dncnt: to(c, 32),
