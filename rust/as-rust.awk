@@ -102,7 +102,7 @@ function code(l, s,    i, rest, two) {
         rest = substr(s, i)
         two = substr(rest, 1, 2)
         if (two == "//") { comment(l, rest); return }
-        if (two == "/*") die(l, "a comment of this kind")
+        if (two == "/*") die(l, "a comment that does not begin with //")
         if (two == "b\"") {
             add("a string", "B", l, i)
             i = past_string(l, s, i + 2)
