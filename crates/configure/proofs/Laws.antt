@@ -1,7 +1,7 @@
 -- What is proved of the words that the calls write which set the chip up, in one.
 -- Assumes nothing.
 use Rattle.configure.specs.Laws.{Laws}
-use Rattle.configure.proofs.Writes.{mode-writes, oscillator-writes, io-writes, timing-writes, configure-writes, fifo-writes, off-writes, filter-writes}
+use Rattle.configure.proofs.Writes.{mode-writes, oscillator-writes, io-writes, timing-writes, offset-reads, configure-writes, fifo-writes, off-writes, filter-writes}
 
 pub laws : Laws
 laws = record {
@@ -9,6 +9,7 @@ laws = record {
   oscillatorWrites = oscillator-writes;
   ioWrites = io-writes;
   timingWrites = timing-writes;
+  offsetReads = offset-reads;
   configureWrites = configure-writes;
   fifoWrites = fifo-writes;
   offWrites = off-writes;

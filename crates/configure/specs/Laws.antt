@@ -80,6 +80,7 @@ pub record Laws : Type 0 where
   pub oscillatorWrites : OscillatorWrites
   pub ioWrites : IoWrites
   pub timingWrites : TimingWrites
+  pub offsetReads : OffsetReads
   pub configureWrites : ConfigureWrites
   pub fifoWrites : FifoWrites
   pub offWrites : OffWrites

@@ -5,6 +5,7 @@ use mathlib.Core.Path.{_≡_, refl, ap, _∙_, sym}
 use mathlib.Core.Bool.{Bool, true, false, false≢true, true≢false}
 use mathlib.Core.List.{List}
 use lib.ListN.{length}
+use lib.Dec.{eqb}
 use Rattle.spi.specs.declared.refusal.Refusal.{Refusal}
 use Rattle.spi.specs.declared.ask.Ask.{Ask}
 use Rattle.spi.specs.declared.ask.Answer.{Answer}
@@ -59,44 +60,32 @@ Stands P (done x) = P x
 Stands P (refused r) = Unit {0}
 Stands P (ask q k) = (isNothing q ≡ false) × ((a : Answer) (rx : List ℕ) → answers q a rx ≡ false → k a rx ≡ refused Refusal.WrongAnswer)
 
--- what is asked for wants so many bytes
-abbrev Asks : {A : Type 0} → ℕ → (Answer → List ℕ → Talk A) → Type 0
-Asks want k = (false ≡ false) × ((a : Answer) (rx : List ℕ) → exchanged a (length rx) want ≡ false → k a rx ≡ refused Refusal.WrongAnswer)
+module _ {A : Type 0} where
+  -- what is asked for wants so many bytes
+  abbrev Asks : ℕ → (Answer → List ℕ → Talk A) → Type 0
+  Asks want k = (false ≡ false) × ((a : Answer) (rx : List ℕ) → exchanged a (length rx) want ≡ false → k a rx ≡ refused Refusal.WrongAnswer)
 
-module _ {A : Type 0} (failed : Refusal) where
-  by-word : (k : ℕ → Talk A) → Asks 4 (λ a rx. onWord refused (wordReply failed a rx) k)
-  by-word k = (refl, go)
+  by-kind : (want : ℕ) (k : Answer → List ℕ → Talk A) → ((rx : List ℕ) → eqb (length rx) want ≡ false → k Answer.Exchanged rx ≡ refused Refusal.WrongAnswer)
+      → ((rx : List ℕ) → k Answer.Waited rx ≡ refused Refusal.WrongAnswer) → Asks want k
+  by-kind want k h l = (refl, go)
     where
-      go : (a : Answer) (rx : List ℕ) → exchanged a (length rx) 4 ≡ false → onWord refused (wordReply failed a rx) k ≡ refused Refusal.WrongAnswer
-      go Answer.Exchanged rx e = rw e
+      go : (a : Answer) (rx : List ℕ) → exchanged a (length rx) want ≡ false → k a rx ≡ refused Refusal.WrongAnswer
+      go Answer.Exchanged rx e = h rx e
       go Answer.Failed rx e = absurd (true≢false e)
-      go Answer.Waited rx e = refl
+      go Answer.Waited rx e = l rx
 
-  by-pair : (k : ℕ → ℕ → Talk A) → Asks 8 (λ a rx. onPair refused (pairReply failed a rx) k)
-  by-pair k = (refl, go)
-    where
-      go : (a : Answer) (rx : List ℕ) → exchanged a (length rx) 8 ≡ false → onPair refused (pairReply failed a rx) k ≡ refused Refusal.WrongAnswer
-      go Answer.Exchanged rx e = rw e
-      go Answer.Failed rx e = absurd (true≢false e)
-      go Answer.Waited rx e = refl
+  module _ (failed : Refusal) where
+    by-word : (k : ℕ → Talk A) → Asks 4 (λ a rx. onWord refused (wordReply failed a rx) k)
+    by-word k = by-kind 4 (λ a rx. onWord refused (wordReply failed a rx) k) (λ rx e. rw e) (λ rx. refl)
 
-  by-checked : (address : ℕ) (other : Talk A) (k : ℕ → Talk A) → Asks 6 (λ a rx. onChecked refused (crcReply failed address a rx) other k)
-  by-checked address other k = (refl, go)
-    where
-      go : (a : Answer) (rx : List ℕ) → exchanged a (length rx) 6 ≡ false
-          → onChecked refused (crcReply failed address a rx) other k ≡ refused Refusal.WrongAnswer
-      go Answer.Exchanged rx e = rw e
-      go Answer.Failed rx e = absurd (true≢false e)
-      go Answer.Waited rx e = refl
+    by-pair : (k : ℕ → ℕ → Talk A) → Asks 8 (λ a rx. onPair refused (pairReply failed a rx) k)
+    by-pair k = by-kind 8 (λ a rx. onPair refused (pairReply failed a rx) k) (λ rx e. rw e) (λ rx. refl)
 
-  by-done : (want : ℕ) (k : List ℕ → Talk A) → Asks want (λ a rx. onDone refused (doneReply failed a (length rx) want) (k rx))
-  by-done want k = (refl, go)
-    where
-      go : (a : Answer) (rx : List ℕ) → exchanged a (length rx) want ≡ false
-          → onDone refused (doneReply failed a (length rx) want) (k rx) ≡ refused Refusal.WrongAnswer
-      go Answer.Exchanged rx e = rw e
-      go Answer.Failed rx e = absurd (true≢false e)
-      go Answer.Waited rx e = refl
+    by-checked : (address : ℕ) (other : Talk A) (k : ℕ → Talk A) → Asks 6 (λ a rx. onChecked refused (crcReply failed address a rx) other k)
+    by-checked address other k = by-kind 6 (λ a rx. onChecked refused (crcReply failed address a rx) other k) (λ rx e. rw e) (λ rx. refl)
+
+    by-done : (want : ℕ) (k : List ℕ → Talk A) → Asks want (λ a rx. onDone refused (doneReply failed a (length rx) want) (k rx))
+    by-done want k = by-kind want (λ a rx. onDone refused (doneReply failed a (length rx) want) (k rx)) (λ rx e. rw e) (λ rx. refl)
 
 by-wait : {A : Type 0} (a : Answer) (got : ℕ) (k : Talk A) → waited a got ≡ false → onDone refused (waitReply a got) k ≡ refused Refusal.WrongAnswer
 by-wait Answer.Exchanged got k e = refl
