@@ -79,7 +79,7 @@ int main(void)
     static bench b;
     const mcp_line line = { .transfer = transfer, .wait = mcp_chip_wait, .context = &b };
     /* 500 kbit/s and 2 Mbit/s at 40 MHz; four messages of up to 8 bytes; mode 6 is CAN 2.0. */
-    const mcp_settings settings = { .bittime = { .nominal = { 0, 62, 15, 15 }, .data = { 0, 14, 3, 3, 0 } } };
+    const mcp_settings settings = { .bittime = { .nominal = { 0, 62, 15, 15 }, .data = { 0, 14, 3, 3, 16 } } };
     const mcp_fifo sender = { .size = 4, .plsize = 0, .transmit = 1 };
     const mcp_header torque = { .id = 0x123 };
     must("chip", mcp_chip_new(&b.chip));

@@ -31,7 +31,7 @@ fn settings() -> Settings {
         io: IoConfiguration { xstbyen: false, txcanod: false, sof: false, intod: false },
         bittime: BitTimeConfiguration {
             nominal: NominalBitTime { brp: 0, tseg1: 62, tseg2: 15, sjw: 15 },
-            data: DataBitTime { brp: 0, tseg1: 14, tseg2: 3, sjw: 3, tdco: 0 },
+            data: DataBitTime { brp: 0, tseg1: 14, tseg2: 3, sjw: 3, tdco: 16 },
         },
         counter: false,
         dncnt: 0,
