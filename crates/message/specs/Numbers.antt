@@ -14,7 +14,7 @@ readingNumbers Reading.Whole = 0 ∷ []
 readingNumbers (Reading.Bad r) = numbered r
 readingNumbers Reading.Short = []
 
--- of what the code answers for a message to write
+-- of what the code answers for a message to write: nothing where all is well
 abbrev pub encodingNumbers : Encoding → List ℕ
 encodingNumbers e = doneNumbers (encodedAs e .done)
 
