@@ -52,7 +52,7 @@ impl Chip {
 
     /// How many messages a FIFO holds. Refused: 20.
     pub fn held(&self, fifo: u8) -> Result<u8, Refusal> {
-        match fifos::is_fifo(fifo) {
+        match fifos::is_fifo(fifo as u32) {
             true => Ok(bus::held_len(self.model, fifo)),
             false => Err(Refusal::BadNumber),
         }

@@ -140,7 +140,7 @@ fn items(m: Model, n: u8, count: u8) {
 }
 
 fn put_held(m: Model, n: u8, out: &mut [u8]) -> usize {
-    if fifo::is_fifo(n) {
+    if fifo::is_fifo(n as u32) {
         return lines::decimal(out, 0, bus::held_len(m, n) as u64);
     }
     lines::refusal(out, 0, Refusal::BadNumber)

@@ -97,7 +97,7 @@ pub fn configure_bit_timing(b: BitTimeConfiguration) -> Plan
 pub fn configure_fifo(n: u8, c: FifoConfiguration) -> Plan
     ensures { λ r. ⌜ r ≡ planFor (configureFifo n c) ⌝ }
 {
-    if is_fifo(n) {
+    if is_fifo(n as u32) {
         if areas::fifo_fits(c) {
             one_item(Refusal::SpiRead, areas::fifo_change(n, c))
         } else {

@@ -212,7 +212,7 @@ pub fn filter_check(f: u8, c: FilterConfiguration) -> Done
     let mask = c.mask;
     checked(
         f < 32,
-        is_fifo(c.fifo),
+        is_fifo(c.fifo as u32),
         is_identifier(object),
         is_identifier(mask),
     )

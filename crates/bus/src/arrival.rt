@@ -98,7 +98,7 @@ fn appended(m: Model, n: u8, len: usize, object: &[u8]) -> Delivered
 pub fn deliver(m: Model, n: u8, header: Header, time: u32, payload: &[u8]) -> Delivered
     ensures { λ r. ⌜ r ≡ deliverOf m n header time (now (payload .entry)) ⌝ }
 {
-    if !fifo::is_fifo(n) {
+    if !fifo::is_fifo(n as u32) {
         return told(Delivery::Refused(Refusal::BadNumber), m);
     }
     let e = message::encode(header, 0, stamp_of(m, n, time), payload);

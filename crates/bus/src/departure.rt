@@ -73,7 +73,7 @@ fn taken(item: Decoded, m: Model) -> Sent
 pub fn send(m: Model, n: u8) -> Sent
     ensures { λ r. ⌜ r ≡ sentAs (sendOutput m n) (sendModel m n) ⌝ }
 {
-    if !fifo::is_fifo(n) {
+    if !fifo::is_fifo(n as u32) {
         return answered(Sending::Refused(Refusal::BadNumber), no_frame(), m);
     }
     if !sends(m, n) {

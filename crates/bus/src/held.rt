@@ -57,7 +57,7 @@ pub fn held_len(m: Model, n: u8) -> u8
     ensures { λ r. ⌜ r ≡ length (held m n) ⌝ }
 {
     let own = fifo_at(m, n);
-    if fifo::is_fifo(n) {
+    if fifo::is_fifo(n as u32) {
         return own.count;
     }
     0

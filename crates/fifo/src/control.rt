@@ -17,7 +17,7 @@ pub fn payload_bytes(plsize: u32) -> usize
 }
 
 // The FIFOs that a call may name.
-pub fn is_fifo(n: u8) -> bool
+pub fn is_fifo(n: u32) -> bool
     ensures { λ r. ⌜ r ≡ isFifo n ⌝ }
 {
     if n < 1 {

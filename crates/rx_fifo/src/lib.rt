@@ -31,7 +31,7 @@ pub struct Fetch {
 fn first_at(fifo: u8) -> FetchAt
     ensures { λ r. ⌜ r ≡ firstAt fifo ⌝ }
 {
-    if fifo::is_fifo(fifo) {
+    if fifo::is_fifo(fifo as u32) {
         FetchAt::Control
     } else {
         FetchAt::Refused(Refusal::BadNumber)
@@ -42,7 +42,7 @@ fn first_at(fifo: u8) -> FetchAt
 fn lent_at(fifo: u8, room: usize) -> FetchAt
     ensures { λ r. ⌜ r ≡ lentAt fifo room ⌝ }
 {
-    if fifo::is_fifo(fifo) {
+    if fifo::is_fifo(fifo as u32) {
         if room < 64 {
             FetchAt::Refused(Refusal::BufferTooSmall)
         } else {

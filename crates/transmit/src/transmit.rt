@@ -35,7 +35,7 @@ pub struct Transmit {
 pub fn request_start(fifo: u8) -> Plan
     ensures { λ r. ⌜ r ≡ requestStart fifo ⌝ }
 {
-    if is_fifo(fifo) {
+    if is_fifo(fifo as u32) {
         let c = with_flag(changing(FifoControl::address(fifo)), 9, true);
         let n = Item::Nothing;
         short_plan(Refusal::SpiRead, Item::Change(c), n, n, n)

@@ -49,7 +49,7 @@ pub struct Push {
 fn encoded_for(fifo: u8, header: Header, seq: u32, payload: &[u8]) -> Encoded
     ensures { λ r. ⌜ r ≡ encodedAs (encodingFor fifo header seq (now (payload .entry))) ⌝ }
 {
-    if is_fifo(fifo) {
+    if is_fifo(fifo as u32) {
         encode(header, seq, Stamp::None, payload)
     } else {
         let o = Object {
