@@ -210,9 +210,10 @@ pub fn filter_check(f: u8, c: FilterConfiguration) -> Done
 {
     let object = c.object;
     let mask = c.mask;
+    let fifo = c.fifo;
     checked(
         f < 32,
-        is_fifo(c.fifo as u32),
+        is_fifo(fifo as u32),
         is_identifier(object),
         is_identifier(mask),
     )

@@ -42,8 +42,8 @@ use Rattle.rx_fifo.specs.declared.Fetch.{Fetch}
 use Rattle.rx_fifo.specs.Outcome.{messageOf}
 use Rattle.rx_fifo.specs.Talk as fetch-talks
 use Rattle.rx_fifo.proofs.Bounds as fetch
-use Rattle.driver.specs.declared.calls.CallAt.{CallAt}
-use Rattle.driver.specs.declared.calls.Call.{Call}
+use Rattle.driver.specs.CallAt.{CallAt}
+use Rattle.driver.specs.Call.{Call}
 use Rattle.driver.specs.Step.{askOf, stepOf, transmitOf}
 use Rattle.driver.specs.Talk.{talkAt, talkOf, fetchTalk}
 use Rattle.driver.specs.Demand1.{registerLeft, itemLeft, planLeft, leftAt, left, EveryCallEnds}

@@ -13,8 +13,8 @@ use Rattle.ram.specs.Step as ram-steps
 use Rattle.ram.proofs.Runs as ram
 use Rattle.rx_fifo.specs.Talk.{Fetched, told, message, empty, outcomeBy, lentAfter, talkOf}
 use Rattle.rx_fifo.proofs.Runs as fetch
-use Rattle.driver.specs.declared.calls.CallAt.{CallAt}
-use Rattle.driver.specs.declared.calls.Call.{Call}
+use Rattle.driver.specs.CallAt.{CallAt}
+use Rattle.driver.specs.Call.{Call}
 use Rattle.driver.specs.Step.{outcomeAt, outcomeOf, filledAt, filledBy}
 use Rattle.driver.specs.Demand1.{RefusedKeeps}
 use Rattle.driver.proofs.Nodes.{over-agrees}

@@ -26,8 +26,8 @@ use Rattle.transmit.specs.Transmit.{transmitTalkOf}
 use Rattle.fetch.specs.declared.Want.{Want}
 use Rattle.fetch.specs.declared.FetchAt.{FetchAt}
 use Rattle.rx_fifo.specs.Talk.{Fetched, told, message, empty, outcomeBy, talkAt as fetchAt, talkOf as fetchOf}
-use Rattle.driver.specs.declared.calls.CallAt.{CallAt}
-use Rattle.driver.specs.declared.calls.Call.{Call}
+use Rattle.driver.specs.CallAt.{CallAt}
+use Rattle.driver.specs.Call.{Call}
 use Rattle.driver.specs.Step.{stepOf}
 use Rattle.driver.specs.Talk.{talkAt, talkOf}
 use Rattle.driver.specs.Demand1.{exchanged, waited, answers, OverAgrees, WrongAnswers}

@@ -26,8 +26,8 @@ use Rattle.tx_fifo.proofs.Runs as push
 use Rattle.transmit.proofs.Transmits as transmit
 use Rattle.rx_fifo.proofs.Runs as fetch
 use Rattle.rx_fifo.specs.Talk.{outcomeBy}
-use Rattle.driver.specs.declared.calls.CallAt.{CallAt}
-use Rattle.driver.specs.declared.calls.Call.{Call}
+use Rattle.driver.specs.CallAt.{CallAt}
+use Rattle.driver.specs.Call.{Call}
 use Rattle.driver.specs.Step.{transmitOf, askAt, askOf, stepAt, stepOf, outcomeAt, outcomeOf}
 use Rattle.driver.specs.Start.{ofRegister, ofRam, ofPlan, ofPush, ofTransmit, ofFetch}
 use Rattle.driver.specs.Talk.{fetchTalk, talkAt, talkOf}

@@ -37,7 +37,7 @@ use Rattle.tx_fifo.specs.Talk.{pushCall}
 use Rattle.transmit.specs.Transmit.{requestStart, requestCall, transmitStart, transmitCall}
 use Rattle.rx_fifo.specs.Step.{hasNextStart, peekStart, getStart}
 use Rattle.rx_fifo.specs.Talk.{hasNextTalk, peekTalk, getTalk}
-use Rattle.driver.specs.declared.calls.Call.{Call}
+use Rattle.driver.specs.Call.{Call}
 use Rattle.driver.specs.Talk.{told}
 use Rattle.driver.specs.Start.{ofRegister, ofRam, ofPlan, ofPush, ofTransmit, ofFetch}
 

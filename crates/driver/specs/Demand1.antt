@@ -19,8 +19,8 @@ use Rattle.register.specs.declared.RegisterCall.{RegisterCall}
 use Rattle.plan.specs.declared.plan.PlanAt.{PlanAt}
 use Rattle.plan.specs.declared.plan.Plan.{Plan}
 use Rattle.plan.specs.Talk.{listed, allAsks}
-use Rattle.driver.specs.declared.calls.CallAt.{CallAt}
-use Rattle.driver.specs.declared.calls.Call.{Call}
+use Rattle.driver.specs.CallAt.{CallAt}
+use Rattle.driver.specs.Call.{Call}
 use Rattle.driver.specs.Step.{askOf, stepOf, outcomeOf, filledBy}
 use Rattle.driver.specs.Talk.{talkOf}
 use Rattle.driver.specs.Calls.{Start, started, wholeTalk, first, tests}

@@ -1,3 +1,5 @@
+pub mod Call
+pub mod CallAt
 pub mod Calls
 pub mod Demand1
 pub mod Send

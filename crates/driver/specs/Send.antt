@@ -4,8 +4,8 @@ use Prim.Native.Nat.{ℕ}
 use mathlib.Core.List.{List}
 use Rattle.ram.specs.declared.RamCall.{RamCall}
 use Rattle.ram.specs.Echo.{echoBytes}
-use Rattle.driver.specs.declared.calls.CallAt.{CallAt}
-use Rattle.driver.specs.declared.calls.Call.{Call}
+use Rattle.driver.specs.CallAt.{CallAt}
+use Rattle.driver.specs.Call.{Call}
 
 -- the body of a call on RAM: the pattern of the echo, otherwise the lent bytes
 abbrev pub ramBody : RamCall → List ℕ → List ℕ

@@ -12,8 +12,8 @@ use Rattle.tx_fifo.specs.declared.push.PushAt.{PushAt}
 use Rattle.transmit.specs.declared.transmit.Transmit.{Transmit}
 use Rattle.rx_fifo.specs.declared.Fetch.{Fetch}
 use Rattle.rx_fifo.specs.Step.{hasNextStart}
-use Rattle.driver.specs.declared.calls.CallAt.{CallAt}
-use Rattle.driver.specs.declared.calls.Call.{Call}
+use Rattle.driver.specs.CallAt.{CallAt}
+use Rattle.driver.specs.Call.{Call}
 
 -- parts that are not used: refused, so that they ask for nothing
 abbrev pub idlePlan : Plan

@@ -16,8 +16,8 @@ use Rattle.tx_fifo.specs.Step as push
 use Rattle.transmit.specs.Transmit.{transmitAsk, transmitStep, transmitOutcome}
 use Rattle.rx_fifo.specs.Step as fetch
 use Rattle.rx_fifo.specs.Outcome as found
-use Rattle.driver.specs.declared.calls.CallAt.{CallAt}
-use Rattle.driver.specs.declared.calls.Call.{Call}
+use Rattle.driver.specs.CallAt.{CallAt}
+use Rattle.driver.specs.Call.{Call}
 
 -- a transmit: the push, and the request that follows it
 abbrev pub transmitOf : Call → Transmit

@@ -9,8 +9,8 @@ use Rattle.tx_fifo.specs.Talk as push
 use Rattle.transmit.specs.Transmit.{transmitTalkOf}
 use Rattle.rx_fifo.specs.declared.Fetch.{Fetch}
 use Rattle.rx_fifo.specs.Talk as fetch
-use Rattle.driver.specs.declared.calls.CallAt.{CallAt}
-use Rattle.driver.specs.declared.calls.Call.{Call}
+use Rattle.driver.specs.CallAt.{CallAt}
+use Rattle.driver.specs.Call.{Call}
 use Rattle.driver.specs.Step.{transmitOf}
 
 -- has-next, peek and get end in what was fetched: its outcome

@@ -30,7 +30,7 @@ use Rattle.fetch.specs.declared.FetchAt.{FetchAt}
 use Rattle.fetch.specs.Step.{toAddress, byStatus, afterBody, nextAt}
 use Rattle.rx_fifo.specs.Step as fetch
 use Rattle.rx_fifo.specs.Outcome as found
-use Rattle.driver.specs.declared.calls.Call.{Call}
+use Rattle.driver.specs.Call.{Call}
 use Rattle.driver.specs.Start.{idlePlan, idlePush, ofFetch}
 use Rattle.ring.specs.Ring.{sending}
 use Rattle.ring.specs.Layout.{stamped, size}

@@ -20,7 +20,7 @@ use Rattle.transmit.specs.Transmit.{requestStart}
 use Rattle.fetch.specs.declared.Want.{Want}
 use Rattle.fetch.specs.declared.FetchAt.{FetchAt}
 use Rattle.rx_fifo.specs.declared.Fetch.{Fetch}
-use Rattle.driver.specs.declared.calls.Call.{Call}
+use Rattle.driver.specs.Call.{Call}
 use Rattle.state.specs.declared.Model.{Model}
 use Rattle.bus.specs.Held.{held}
 use Rattle.history.specs.Command.{Command, Push, Transmit, Request, HasNext, Peek, Get, Reading, Configuring, Look, Setting}

@@ -8,7 +8,7 @@ use Rattle.laws.proofs.Choice.{by-if}
 use Rattle.spi.specs.declared.ask.Ask.{Ask}
 use Rattle.spi.specs.declared.ask.Answer.{Answer}
 use Rattle.spi.specs.Ask.{sent, wanted}
-use Rattle.driver.specs.declared.calls.Call.{Call}
+use Rattle.driver.specs.Call.{Call}
 use Rattle.driver.specs.Step.{askOf, stepOf}
 use Rattle.driver.specs.Send.{bodyOf}
 use Rattle.state.specs.declared.Model.{Model}

@@ -20,8 +20,8 @@ use Rattle.register.specs.Step as register
 use Rattle.ram.specs.declared.RamCall.{RamCall}
 use Rattle.ram.specs.Step as ram
 use Rattle.state.specs.declared.Model.{Model}
-use Rattle.driver.specs.declared.calls.CallAt.{CallAt}
-use Rattle.driver.specs.declared.calls.Call.{Call}
+use Rattle.driver.specs.CallAt.{CallAt}
+use Rattle.driver.specs.Call.{Call}
 use Rattle.driver.specs.Step.{askAt, askOf, stepAt, stepOf}
 use Rattle.driver.specs.Start.{ofRegister, ofRam}
 use Rattle.history.specs.Command.{Look, looks}

@@ -30,7 +30,7 @@ use Rattle.fetch.specs.declared.Want.{Want}
 use Rattle.fetch.specs.declared.FetchAt.{FetchAt}
 use Rattle.fetch.specs.Step.{afterControl, afterStatus, afterAddress, byLength, afterHeader, toTime, toBody, afterAgain, afterTime, stamped, nextBy, nextAt}
 use Rattle.rx_fifo.specs.Step as fetch
-use Rattle.driver.specs.declared.calls.Call.{Call}
+use Rattle.driver.specs.Call.{Call}
 use Rattle.driver.specs.Start.{idlePlan, idlePush, ofFetch}
 use Rattle.driver.specs.Step.{askOf, stepOf, outcomeOf}
 use Rattle.driver.specs.Send.{bodyOf}

@@ -13,7 +13,7 @@ use Rattle.plan.specs.Step as plan
 use Rattle.tx_fifo.specs.declared.push.Push.{Push as Pushes}
 use Rattle.transmit.specs.Transmit.{requestStart}
 use Rattle.rx_fifo.specs.declared.Fetch.{Fetch}
-use Rattle.driver.specs.declared.calls.Call.{Call}
+use Rattle.driver.specs.Call.{Call}
 use Rattle.driver.specs.Start.{idlePush, idleFetch, ofPlan}
 use Rattle.driver.specs.Step.{askOf, stepOf, outcomeOf, filledBy}
 use Rattle.driver.specs.Send.{bodyOf}

@@ -13,8 +13,8 @@ use Rattle.tx_fifo.specs.declared.push.Push.{Push as Pushes}
 use Rattle.tx_fifo.specs.Step as push
 use Rattle.transmit.specs.Transmit.{transmitAsk, transmitStep, transmitOutcome}
 use Rattle.rx_fifo.specs.declared.Fetch.{Fetch}
-use Rattle.driver.specs.declared.calls.CallAt.{CallAt}
-use Rattle.driver.specs.declared.calls.Call.{Call}
+use Rattle.driver.specs.CallAt.{CallAt}
+use Rattle.driver.specs.Call.{Call}
 use Rattle.driver.specs.Step.{askOf, stepOf, outcomeOf, filledBy}
 use Rattle.state.specs.declared.Model.{Model}
 use Rattle.history.specs.Command.{Command, firstCall, lent}

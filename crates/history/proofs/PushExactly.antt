@@ -25,7 +25,7 @@ use Rattle.plan.specs.declared.plan.Plan.{Plan}
 use Rattle.tx_fifo.specs.declared.push.PushAt.{PushAt}
 use Rattle.tx_fifo.specs.Step as push
 use Rattle.rx_fifo.specs.declared.Fetch.{Fetch}
-use Rattle.driver.specs.declared.calls.Call.{Call}
+use Rattle.driver.specs.Call.{Call}
 use Rattle.driver.specs.Start.{idlePlan, idleFetch, ofPush}
 use Rattle.ring.specs.Ring.{sending, depth}
 use Rattle.state.specs.declared.Model.{Model}

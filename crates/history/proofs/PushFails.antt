@@ -22,7 +22,7 @@ use Rattle.plan.specs.declared.plan.Plan.{Plan}
 use Rattle.transmit.specs.Transmit.{requestStart, transmitStart}
 use Rattle.driver.specs.Start.{idlePlan, idleFetch, ofPush, ofTransmit}
 use Rattle.driver.specs.Step.{askOf, outcomeOf}
-use Rattle.driver.specs.declared.calls.Call.{Call}
+use Rattle.driver.specs.Call.{Call}
 use Rattle.ring.specs.Ring.{sending, depth}
 use Rattle.ring.specs.Layout.{size}
 use Rattle.state.specs.declared.Fixed.{Fixed}

@@ -35,7 +35,7 @@ use Rattle.tx_fifo.specs.Step as push
 use Rattle.transmit.specs.Transmit.{requestStart, transmitStart}
 use Rattle.driver.specs.Start.{idlePlan, idleFetch, ofPush, ofTransmit}
 use Rattle.rx_fifo.specs.declared.Fetch.{Fetch}
-use Rattle.driver.specs.declared.calls.Call.{Call}
+use Rattle.driver.specs.Call.{Call}
 use Rattle.ring.specs.declared.ring.Fifo.{Fifo}
 use Rattle.ring.specs.Ring.{sending, depth, claimed, increased}
 use Rattle.ring.specs.Layout.{stamped, size}

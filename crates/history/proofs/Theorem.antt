@@ -6,7 +6,7 @@ use mathlib.Core.Bool.{Bool, true, false}
 use mathlib.Core.List.{List, [], _∷_}
 use Rattle.laws.proofs.Choice.{by-if}
 use Rattle.fifo.specs.Control.{isFifo}
-use Rattle.driver.specs.declared.calls.Call.{Call}
+use Rattle.driver.specs.Call.{Call}
 use Rattle.fetch.specs.declared.Want.{Want}
 use Rattle.state.specs.declared.Model.{Model}
 use Rattle.bank.specs.Registers.{conWritten}

@@ -17,7 +17,7 @@ use Rattle.adjust.specs.Calls.{configureOsc, configureIo, configureBitTiming, c
 use Rattle.tx_fifo.specs.Step.{startOf}
 use Rattle.transmit.specs.Transmit.{requestStart, transmitStart}
 use Rattle.rx_fifo.specs.Step.{hasNextStart, peekStart, getStart}
-use Rattle.driver.specs.declared.calls.Call.{Call}
+use Rattle.driver.specs.Call.{Call}
 use Rattle.driver.specs.Start.{ofRegister, ofRam, ofPlan, ofPush, ofTransmit, ofFetch}
 
 -- the calls that only read: a register, a register checked, the mode, RAM into a part of a lent buffer

@@ -10,7 +10,7 @@ use Rattle.spi.specs.Ask.{sent, wanted}
 use Rattle.message.specs.Message.{Message}
 use Rattle.call.specs.declared.Outcome.{Outcome}
 use Rattle.tx_fifo.specs.Step.{isDone}
-use Rattle.driver.specs.declared.calls.Call.{Call}
+use Rattle.driver.specs.Call.{Call}
 use Rattle.driver.specs.Step.{askOf, stepOf, outcomeOf, filledBy}
 use Rattle.driver.specs.Send.{bodyOf}
 use Rattle.state.specs.declared.Model.{Model}
