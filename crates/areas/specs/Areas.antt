@@ -1,4 +1,4 @@
--- The changes that configure a FIFO and a filter.
+-- The changes that configure a FIFO and a filter. `To`: the change of the same fields to bits of a word, which is what a plan keeps of a change.
 -- Assumes nothing.
 use Prim.Native.Nat.{ℕ, _/_, _%_}
 use mathlib.Core.Bool.{Bool, true, false, not, _&&_}
@@ -15,7 +15,7 @@ use Rattle.header.specs.Header.{topId, sidOf, eidOf}
 use Rattle.spi.specs.declared.refusal.Refusal.{Refusal}
 use Rattle.spi.specs.declared.refusal.Done.{Done}
 use Rattle.plan.specs.declared.change.Change.{Change}
-use Rattle.plan.specs.Change.{changeOf}
+use Rattle.plan.specs.Change.{changeOf, changeTo}
 use Rattle.areas.specs.declared.settings.FifoMode.{FifoMode}
 use Rattle.areas.specs.declared.settings.FifoConfiguration.{FifoConfiguration}
 use Rattle.areas.specs.declared.settings.Identifier.{Identifier}
@@ -61,6 +61,9 @@ onSettings f fifo = FBP (f % 4) := fifo ∷ FLTEN (f % 4) := 1 ∷ []
 abbrev pub onChange : (f fifo : ℕ) → Change
 onChange f fifo = changeOf (CiFLTCON .address (f / 4)) (onSettings f fifo)
 
+abbrev pub onTo : (f bits : ℕ) → Change
+onTo f bits = changeTo (CiFLTCON .address (f / 4)) (FBP (f % 4) ∷ FLTEN (f % 4) ∷ []) bits
+
 -- whether a filter takes extended frames only, and whether it looks at the kind of frame
 abbrev pub extendedOnly : FilterMode → Bool
 extendedOnly FilterMode.Standard = false
@@ -78,11 +81,17 @@ objectSettings i mode = SID := sidOf (i .extended) (i .id) ∷ EID := eidOf (i .
 abbrev pub objectChange : ℕ → Identifier → FilterMode → Change
 objectChange f i mode = changeOf (CiFLTOBJ .address f) (objectSettings i mode)
 
+abbrev pub objectTo : (f bits : ℕ) → Change
+objectTo f bits = changeTo (CiFLTOBJ .address f) (SID ∷ EID ∷ EXIDE ∷ []) bits
+
 abbrev pub maskSettings : Identifier → FilterMode → List Setting
 maskSettings i mode = MSID := sidOf (i .extended) (i .id) ∷ MEID := eidOf (i .extended) (i .id) ∷ MIDE := digit (oneKind mode) ∷ []
 
 abbrev pub maskChange : ℕ → Identifier → FilterMode → Change
 maskChange f i mode = changeOf (CiMASK .address f) (maskSettings i mode)
+
+abbrev pub maskTo : (f bits : ℕ) → Change
+maskTo f bits = changeTo (CiMASK .address f) (MSID ∷ MEID ∷ MIDE ∷ []) bits
 
 -- an identifier that there is
 abbrev pub isIdentifier : Identifier → Bool

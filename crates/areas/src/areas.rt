@@ -1,17 +1,17 @@
-// The changes that configure a FIFO and a filter.
+// The changes that configure a FIFO and a filter: the bits that they set, and the change of a register to these bits. And that which requests a
+// transmission.
 ghost use mathlib.Core.Path.{_≡_};
 ghost use mathlib.Core.Bool.{true, not, _&&_};
 ghost use Rattle.laws.specs.If.{if_then_else_};
 ghost use Rattle.spi.specs.declared.refusal.Refusal.{Refusal};
 ghost use Rattle.spi.specs.declared.refusal.Done.{Done};
-ghost use Prim.Native.Nat.{_<_, _≤_};
-ghost use Rattle.header.specs.Header.{topId, sidOf, eidOf};
-ghost use Rattle.field.specs.Field.{digit, place};
-ghost use Rattle.field.specs.Settings.{_:=_};
+ghost use Prim.Native.Nat.{_-_, _^_, _<_, _≤_};
+ghost use Rattle.header.specs.Header.{topId};
+ghost use Rattle.field.specs.Settings.{_:=_, fieldsOf, settings};
+ghost use Rattle.fifo.specs.Control.{CiFIFOCON, TXREQ, FSIZE, PLSIZE};
 ghost use mathlib.Core.List.{[], _∷_};
-ghost use Rattle.plan.specs.Change.{settingAll};
-ghost use Rattle.plan.specs.declared.item.Item.{Item};
-ghost use Rattle.areas.specs.Areas.{directionSettings, directionFits, fifoFits, fifoChange, offChange, onChange, extendedOnly, oneKind, objectChange, maskChange, isIdentifier, filterCheck};
+ghost use Rattle.plan.specs.Change.{changeOf, cleared};
+ghost use Rattle.areas.specs.Areas.{directionSettings, directionFits, fifoFits, fifoChange, offChange, onChange, onTo, extendedOnly, oneKind, objectSettings, objectTo, maskSettings, maskTo, isIdentifier, filterCheck};
 use crate::FifoConfiguration;
 use crate::FifoMode;
 use crate::FilterConfiguration;
@@ -27,10 +27,6 @@ use filter::FilterObject;
 use header::eid_of;
 use header::sid_of;
 use plan::Change;
-use plan::Item;
-use plan::changing;
-use plan::with_field;
-use plan::with_flag;
 use spi::Done;
 use spi::Refusal;
 
@@ -65,67 +61,119 @@ pub fn fifo_fits(c: FifoConfiguration) -> bool
     direction_fits(mode)
 }
 
-fn with_transmit(c: Change, t: TxFifo) -> Change
+fn with_transmit(control: FifoControl, t: TxFifo) -> FifoControl
     requires { ⌜ (t .txpri < 32) × (t .txat < 4) ⌝ }
-    ensures { λ r. ⌜ r ≡ settingAll (directionSettings (FifoMode.Transmit t)) c ⌝ }
+    ensures { λ r. ⌜ r .0 ≡ settings (directionSettings (FifoMode.Transmit t)) (control .0) ⌝ }
 {
-    let a = with_field(with_flag(c, 7, true), 16, 5, t.txpri);
-    let b = with_flag(with_field(a, 21, 2, t.txat), 6, t.rtren);
-    let d = with_flag(with_flag(b, 4, t.txatie), 2, t.empty);
-    with_flag(with_flag(d, 1, t.half), 0, t.notfull)
+    control
+        .with_txen(true)
+        .with_txpri(t.txpri)
+        .with_txat(t.txat)
+        .with_rtren(t.rtren)
+        .with_txatie(t.txatie)
+        .with_tferffie(t.empty)
+        .with_tfhrfhie(t.half)
+        .with_tfnrfnie(t.notfull)
 }
 
-fn with_receive(c: Change, r: RxFifo) -> Change
-    ensures { λ result. ⌜ result ≡ settingAll (directionSettings (FifoMode.Receive r)) c ⌝ }
+fn with_receive(control: FifoControl, f: RxFifo) -> FifoControl
+    ensures { λ r. ⌜ r .0 ≡ settings (directionSettings (FifoMode.Receive f)) (control .0) ⌝ }
 {
-    let a = with_flag(with_flag(c, 7, false), 5, r.rxtsen);
-    let b = with_flag(with_flag(a, 3, r.rxovie), 2, r.full);
-    with_flag(with_flag(b, 1, r.half), 0, r.notempty)
+    control
+        .with_txen(false)
+        .with_rxtsen(f.rxtsen)
+        .with_rxovie(f.rxovie)
+        .with_tferffie(f.full)
+        .with_tfhrfhie(f.half)
+        .with_tfnrfnie(f.notempty)
 }
 
-fn with_direction(c: Change, mode: FifoMode) -> Change
+fn with_direction(control: FifoControl, mode: FifoMode) -> FifoControl
     requires { ⌜ directionFits mode ≡ true ⌝ }
-    ensures { λ r. ⌜ r ≡ settingAll (directionSettings mode) c ⌝ }
+    ensures { λ r. ⌜ r .0 ≡ settings (directionSettings mode) (control .0) ⌝ }
 {
     match mode {
-        FifoMode::Transmit(t) => with_transmit(c, t),
-        FifoMode::Receive(r) => with_receive(c, r),
+        FifoMode::Transmit(t) => with_transmit(control, t),
+        FifoMode::Receive(f) => with_receive(control, f),
     }
 }
 
-// Size 1 to 32 stores size - 1, above 32 stores 31.
-pub fn fifo_change(n: u8, c: FifoConfiguration) -> Item
+// Every bit but the fields that are set.
+fn fifo_keep(mode: FifoMode) -> u32
+    ensures { λ r. ⌜ r ≡ cleared (FSIZE ∷ PLSIZE ∷ fieldsOf (directionSettings mode)) (2 ^ 32 - 1) ⌝ }
+{
+    let both = FifoControl(0xFFFF_FFFF)
+        .with_fsize(0)
+        .with_plsize(0)
+        .with_txen(false)
+        .with_tferffie(false)
+        .with_tfhrfhie(false)
+        .with_tfnrfnie(false);
+    match mode {
+        FifoMode::Transmit(_) => both.with_txpri(0)
+            .with_txat(0)
+            .with_rtren(false)
+            .with_txatie(false)
+            .0,
+        FifoMode::Receive(_) => both.with_rxtsen(false).with_rxovie(false).0,
+    }
+}
+
+pub fn fifo_change(n: u8, c: FifoConfiguration) -> Change
     requires { ⌜ fifoFits c ≡ true ⌝ }
-    ensures { λ r. ⌜ r ≡ Item.Change (fifoChange n c) ⌝ }
+    ensures { λ r. ⌜ r ≡ fifoChange n c ⌝ }
 {
     let mode = c.mode;
-    let size = field::at_most(c.size - 1, 31);
-    let a = with_field(changing(FifoControl::address(n)), 24, 5, size);
-    Item::Change(with_direction(with_field(a, 29, 3, c.plsize), mode))
+    let sized = FifoControl(0).with_fifo_size(c.size).with_plsize(c.plsize);
+    Change {
+        address: FifoControl::address(n),
+        keep: fifo_keep(mode),
+        set: with_direction(sized, mode).0,
+    }
 }
 
-pub fn off_change(f: u8) -> Item
-    ensures { λ r. ⌜ r ≡ Item.Change (offChange f) ⌝ }
+// The FIFO is to send what it holds.
+pub fn request_change(n: u8) -> Change
+    ensures { λ r. ⌜ r ≡ changeOf (CiFIFOCON .address n) (TXREQ := 1 ∷ []) ⌝ }
 {
-    Item::Change(with_flag(
-        changing(FilterControl::address(f / 4)),
-        8 * (f as u32 % 4) + 7,
-        false,
-    ))
+    Change {
+        address: FifoControl::address(n),
+        keep: FifoControl(0xFFFF_FFFF).with_txreq(false).0,
+        set: FifoControl(0).with_txreq(true).0,
+    }
 }
 
-pub fn on_change(f: u8, fifo: u8) -> Item
+pub fn off_change(f: u8) -> Change
+    ensures { λ r. ⌜ r ≡ offChange f ⌝ }
+{
+    Change {
+        address: FilterControl::address(f / 4),
+        keep: FilterControl(0xFFFF_FFFF).with_enabled(f, false).0,
+        set: FilterControl(0).with_enabled(f, false).0,
+    }
+}
+
+pub fn on_bits(f: u8, fifo: u32) -> u32
     requires { ⌜ fifo < 32 ⌝ }
-    ensures { λ r. ⌜ r ≡ Item.Change (onChange f fifo) ⌝ }
+    ensures { λ r. ⌜ r ≡ onChange f fifo .set ⌝ }
 {
-    let i = f as u32 % 4;
-    let a = with_field(
-        changing(FilterControl::address(f / 4)),
-        8 * i,
-        5,
-        fifo as u32,
-    );
-    Item::Change(with_flag(a, 8 * i + 7, true))
+    FilterControl(0)
+        .with_target(f, fifo)
+        .with_enabled(f, true)
+        .0
+}
+
+pub fn on_change(f: u8, bits: u32) -> Change
+    ensures { λ r. ⌜ r ≡ onTo f bits ⌝ }
+{
+    Change {
+        address: FilterControl::address(f / 4),
+        keep: FilterControl(0xFFFF_FFFF)
+            .with_target(f, 0)
+            .with_enabled(f, false)
+            .0,
+        set: bits,
+    }
 }
 
 fn extended_only(mode: FilterMode) -> bool
@@ -160,32 +208,54 @@ fn is_identifier(i: Identifier) -> bool
     i.id <= top_id(i.extended)
 }
 
-// SID, EID and the flag above SID11, which stand at the same bits in an object and in a mask.
-fn identifier_change(address: u16, i: Identifier, on: bool) -> Change
+pub fn object_bits(i: Identifier, mode: FilterMode) -> u32
     requires { ⌜ i .id ≤ topId (i .extended) ⌝ }
-    ensures { λ r. ⌜ r ≡ settingAll (place 0 11 := sidOf (i .extended) (i .id) ∷ place 11 18 := eidOf (i .extended) (i .id) ∷ place 30 1 := digit on ∷ []) (record { address = address; keep = 0xFFFFFFFF; set = 0 }) ⌝ }
+    ensures { λ r. ⌜ r ≡ settings (objectSettings i mode) 0 ⌝ }
 {
-    let sid = sid_of(i.extended, i.id);
-    let eid = eid_of(i.extended, i.id);
-    with_flag(
-        with_field(with_field(changing(address), 0, 11, sid), 11, 18, eid),
-        30,
-        on,
-    )
+    FilterObject(0)
+        .with_sid(sid_of(i.extended, i.id))
+        .with_eid(eid_of(i.extended, i.id))
+        .with_exide(extended_only(mode))
+        .0
 }
 
-pub fn object_change(f: u8, i: Identifier, mode: FilterMode) -> Item
-    requires { ⌜ i .id ≤ topId (i .extended) ⌝ }
-    ensures { λ r. ⌜ r ≡ Item.Change (objectChange f i mode) ⌝ }
+pub fn object_change(f: u8, bits: u32) -> Change
+    ensures { λ r. ⌜ r ≡ objectTo f bits ⌝ }
 {
-    Item::Change(identifier_change(FilterObject::address(f), i, extended_only(mode)))
+    Change {
+        address: FilterObject::address(f),
+        keep: FilterObject(0xFFFF_FFFF)
+            .with_sid(0)
+            .with_eid(0)
+            .with_exide(false)
+            .0,
+        set: bits,
+    }
 }
 
-pub fn mask_change(f: u8, i: Identifier, mode: FilterMode) -> Item
+pub fn mask_bits(i: Identifier, mode: FilterMode) -> u32
     requires { ⌜ i .id ≤ topId (i .extended) ⌝ }
-    ensures { λ r. ⌜ r ≡ Item.Change (maskChange f i mode) ⌝ }
+    ensures { λ r. ⌜ r ≡ settings (maskSettings i mode) 0 ⌝ }
 {
-    Item::Change(identifier_change(FilterMask::address(f), i, one_kind(mode)))
+    FilterMask(0)
+        .with_msid(sid_of(i.extended, i.id))
+        .with_meid(eid_of(i.extended, i.id))
+        .with_mide(one_kind(mode))
+        .0
+}
+
+pub fn mask_change(f: u8, bits: u32) -> Change
+    ensures { λ r. ⌜ r ≡ maskTo f bits ⌝ }
+{
+    Change {
+        address: FilterMask::address(f),
+        keep: FilterMask(0xFFFF_FFFF)
+            .with_msid(0)
+            .with_meid(0)
+            .with_mide(false)
+            .0,
+        set: bits,
+    }
 }
 
 // What the tests of a filter's number, its target, its object and its mask say.
@@ -205,14 +275,14 @@ fn checked(filter: bool, fifo: bool, object: bool, mask: bool) -> Done
     Done::Bad(Refusal::BadNumber)
 }
 
-pub fn filter_check(f: u8, c: FilterConfiguration) -> Done
+pub fn filter_check(f: u32, c: FilterConfiguration) -> Done
     ensures { λ r. ⌜ r ≡ filterCheck f c ⌝ }
 {
     let object = c.object;
     let mask = c.mask;
     checked(
         f < 32,
-        is_fifo(c.fifo as u32),
+        is_fifo(c.fifo),
         is_identifier(object),
         is_identifier(mask),
     )

@@ -46,7 +46,7 @@ pub enum FilterMode {
 
 // A filter gives what its object and mask match to a FIFO.
 pub struct FilterConfiguration {
-    pub fifo: u8,
+    pub fifo: u32,
     pub mode: FilterMode,
     pub object: Identifier,
     pub mask: Identifier,

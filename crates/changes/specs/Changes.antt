@@ -1,6 +1,7 @@
 -- The changes that configuration calls make: which fields of which register are set, to what. Every other bit is as read.
+-- `To`: the change of the same fields to bits of a word, which is what a plan keeps of a change.
 -- Assumes nothing.
-use Prim.Native.Nat.{ℕ, _^_}
+use Prim.Native.Nat.{ℕ, _-_, _^_}
 use mathlib.Core.Bool.{Bool, true, _&&_}
 use mathlib.Core.List.{List, [], _∷_, _++_}
 use lib.Dec.{ltb}
@@ -19,7 +20,7 @@ use Rattle.interrupt.specs.Interrupt.{CiINT, IE}
 use Rattle.interrupt.specs.declared.Cause.{Cause}
 use Rattle.plan.specs.declared.change.Change.{Change}
 use Rattle.plan.specs.declared.item.Item.{Item}
-use Rattle.plan.specs.Change.{changeOf}
+use Rattle.plan.specs.Change.{changeOf, changeTo}
 use Rattle.changes.specs.declared.settings.OscillatorConfiguration.{OscillatorConfiguration}
 use Rattle.changes.specs.declared.settings.IoConfiguration.{IoConfiguration}
 use Rattle.changes.specs.declared.settings.NominalBitTime.{NominalBitTime}
@@ -47,17 +48,26 @@ modeSettings m = REQOP := m ∷ []
 abbrev pub modeChange : ℕ → Change
 modeChange m = changeOf (CiCON .address 0) (modeSettings m)
 
+abbrev pub modeTo : ℕ → Change
+modeTo bits = changeTo (CiCON .address 0) (REQOP ∷ []) bits
+
 abbrev pub oscillatorSettings : OscillatorConfiguration → List Setting
 oscillatorSettings o = PLLEN := digit (o .pll) ∷ SCLKDIV := digit (o .divide) ∷ OSCDIS := 0 ∷ []
 
 abbrev pub oscillatorChange : OscillatorConfiguration → Change
 oscillatorChange o = changeOf (OSC .address 0) (oscillatorSettings o)
 
+abbrev pub oscillatorTo : ℕ → Change
+oscillatorTo bits = changeTo (OSC .address 0) (PLLEN ∷ SCLKDIV ∷ OSCDIS ∷ []) bits
+
 abbrev pub ioSettings : IoConfiguration → List Setting
 ioSettings c = XSTBYEN := digit (c .xstbyen) ∷ TXCANOD := digit (c .txcanod) ∷ SOF := digit (c .sof) ∷ INTOD := digit (c .intod) ∷ []
 
 abbrev pub ioChange : IoConfiguration → Change
 ioChange c = changeOf (IOCON .address 0) (ioSettings c)
+
+abbrev pub ioTo : ℕ → Change
+ioTo bits = changeTo (IOCON .address 0) (XSTBYEN ∷ TXCANOD ∷ SOF ∷ INTOD ∷ []) bits
 
 -- ---- bit timing
 
@@ -67,11 +77,17 @@ nominalSettings n = nbt.BRP := n .brp ∷ nbt.TSEG1 := n .tseg1 ∷ nbt.TSEG2 :=
 abbrev pub nominalChange : NominalBitTime → Change
 nominalChange n = changeOf (nbt.CiNBTCFG .address 0) (nominalSettings n)
 
+abbrev pub nominalTo : ℕ → Change
+nominalTo bits = changeTo (nbt.CiNBTCFG .address 0) (nbt.BRP ∷ nbt.TSEG1 ∷ nbt.TSEG2 ∷ nbt.SJW ∷ []) bits
+
 abbrev pub dataSettings : DataBitTime → List Setting
 dataSettings d = dbt.BRP := d .brp ∷ dbt.TSEG1 := d .tseg1 ∷ dbt.TSEG2 := d .tseg2 ∷ dbt.SJW := d .sjw ∷ []
 
 abbrev pub dataChange : DataBitTime → Change
 dataChange d = changeOf (dbt.CiDBTCFG .address 0) (dataSettings d)
+
+abbrev pub dataTo : ℕ → Change
+dataTo bits = changeTo (dbt.CiDBTCFG .address 0) (dbt.BRP ∷ dbt.TSEG1 ∷ dbt.TSEG2 ∷ dbt.SJW ∷ []) bits
 
 -- TDCO is from -64 to 63
 unfoldable pub timingFits : BitTimeConfiguration → Bool
@@ -83,6 +99,9 @@ delaySettings d = TDCMOD := 2 ∷ TDCO := sevenOf (d .tdco) ∷ TDCV := 0 ∷ []
 
 abbrev pub delayChange : DataBitTime → Change
 delayChange d = changeOf (CiTDC .address 0) (delaySettings d)
+
+abbrev pub delayTo : ℕ → Change
+delayTo bits = changeTo (CiTDC .address 0) (TDCMOD ∷ TDCO ∷ TDCV ∷ []) bits
 
 -- ---- what else `configure` changes: event FIFO and transmit queue off, counter on, the data bits, attempts by RTXAT
 
@@ -110,6 +129,9 @@ dncntSettings n = DNCNT := n ∷ []
 abbrev pub dncntChange : ℕ → Change
 dncntChange n = changeOf (CiCON .address 0) (dncntSettings n)
 
+abbrev pub dncntTo : ℕ → Change
+dncntTo bits = changeTo (CiCON .address 0) (DNCNT ∷ []) bits
+
 abbrev pub rtxatSettings : List Setting
 rtxatSettings = RTXAT := 1 ∷ []
 
@@ -130,3 +152,7 @@ interruptSettings s =
 
 abbrev pub interruptChange : Settings → Change
 interruptChange s = changeOf (CiINT .address 0) (interruptSettings s)
+
+-- an enable is only set to 1
+abbrev pub interruptTo : ℕ → Change
+interruptTo bits = record { address = CiINT .address 0; keep = 2 ^ 32 - 1 - bits; set = bits }

@@ -1,18 +1,12 @@
-// The change of each register that the mode, oscillator, IO and bit timing calls and `configure` make.
+// The change of each register that the mode, oscillator, IO and bit timing calls and `configure` make: the bits that it sets, and the change
+// of a register to these bits.
 ghost use mathlib.Core.Path.{_≡_};
 ghost use mathlib.Core.Bool.{_&&_};
-ghost use mathlib.Core.List.{[], _∷_};
-ghost use Prim.Native.Nat.{_<_};
-ghost use lib.Dec.{eqb};
-ghost use Rattle.laws.specs.If.{if_then_else_};
-ghost use Rattle.field.specs.Field.{place, Fits};
-ghost use Rattle.field.specs.Settings.{_:=_, AllFit};
+ghost use Rattle.field.specs.Field.{Fits};
+ghost use Rattle.field.specs.Settings.{AllFit};
 ghost use Rattle.configuration.specs.CanControl.{REQOP, DNCNT};
 ghost use Rattle.bit_timing.specs.Signed.{Small};
-ghost use Rattle.plan.specs.Change.{settingAll};
-ghost use Rattle.plan.specs.declared.item.Item.{Item};
-ghost use Rattle.plan.specs.declared.item.Poll.{Poll};
-ghost use Rattle.changes.specs.Changes.{fits, allFit, whenAsked, modeChange, oscillatorChange, ioChange, nominalSettings, dataSettings, timingFits, nominalChange, dataChange, delayChange, stefChange, txqenChange, counterChange, dncntChange, rtxatChange, asked, interruptChange};
+ghost use Rattle.changes.specs.Changes.{fits, allFit, modeChange, modeTo, oscillatorChange, oscillatorTo, ioChange, ioTo, nominalSettings, dataSettings, timingFits, nominalChange, nominalTo, dataChange, dataTo, delayChange, delayTo, stefChange, txqenChange, counterChange, dncntChange, dncntTo, rtxatChange, interruptChange, interruptTo};
 use crate::BitTimeConfiguration;
 use crate::DataBitTime;
 use crate::IoConfiguration;
@@ -27,47 +21,76 @@ use chip::IoControl;
 use chip::OscillatorControl;
 use configuration::CanControl;
 use configuration::TimeStampControl;
+use interrupt::Cause;
 use interrupt::Interrupt;
 use plan::Change;
-use plan::Item;
-use plan::Poll;
-use plan::changing;
-use plan::with_field;
-use plan::with_flag;
+use plan::keeping;
 
-pub fn mode_change(m: u32) -> Item
+pub fn mode_bits(m: u32) -> u32
     requires { ⌜ Fits REQOP m ⌝ }
-    ensures { λ r. ⌜ r ≡ Item.Change (modeChange m) ⌝ }
+    ensures { λ r. ⌜ r ≡ modeChange m .set ⌝ }
 {
-    Item::Change(with_field(changing(CanControl::address()), 24, 3, m))
+    CanControl(0).with_reqop(m).0
 }
 
-pub fn oscillator_change(o: OscillatorConfiguration) -> Item
-    ensures { λ r. ⌜ r ≡ Item.Change (oscillatorChange o) ⌝ }
+pub fn mode_change(bits: u32) -> Change
+    ensures { λ r. ⌜ r ≡ modeTo bits ⌝ }
 {
-    let a = with_flag(changing(OscillatorControl::address()), 0, o.pll);
-    let b = with_flag(a, 4, o.divide);
-    Item::Change(with_flag(b, 2, false))
-}
-
-// The PLL is waited for where it is on: at most three polls with two waits.
-pub fn pll_poll(on: bool) -> Item
-    ensures { λ r. ⌜ r ≡ whenAsked on (Item.Poll Poll.Pll 2) ⌝ }
-{
-    if on {
-        Item::Poll(Poll::Pll, 2)
-    } else {
-        Item::Nothing
+    Change {
+        address: CanControl::address(),
+        keep: CanControl(0xFFFF_FFFF).with_reqop(0).0,
+        set: bits,
     }
 }
 
-pub fn io_change(c: IoConfiguration) -> Item
-    ensures { λ r. ⌜ r ≡ Item.Change (ioChange c) ⌝ }
+pub fn oscillator_bits(o: OscillatorConfiguration) -> u32
+    ensures { λ r. ⌜ r ≡ oscillatorChange o .set ⌝ }
 {
-    let a = with_flag(changing(IoControl::address()), 6, c.xstbyen);
-    let b = with_flag(a, 28, c.txcanod);
-    let d = with_flag(b, 29, c.sof);
-    Item::Change(with_flag(d, 30, c.intod))
+    OscillatorControl(0)
+        .with_pllen(o.pll)
+        .with_sclkdiv(o.divide)
+        .with_oscdis(false)
+        .0
+}
+
+pub fn oscillator_change(bits: u32) -> Change
+    ensures { λ r. ⌜ r ≡ oscillatorTo bits ⌝ }
+{
+    Change {
+        address: OscillatorControl::address(),
+        keep: OscillatorControl(0xFFFF_FFFF)
+            .with_pllen(false)
+            .with_sclkdiv(false)
+            .with_oscdis(false)
+            .0,
+        set: bits,
+    }
+}
+
+pub fn io_bits(c: IoConfiguration) -> u32
+    ensures { λ r. ⌜ r ≡ ioChange c .set ⌝ }
+{
+    IoControl(0)
+        .with_xstbyen(c.xstbyen)
+        .with_txcanod(c.txcanod)
+        .with_sof(c.sof)
+        .with_intod(c.intod)
+        .0
+}
+
+pub fn io_change(bits: u32) -> Change
+    ensures { λ r. ⌜ r ≡ ioTo bits ⌝ }
+{
+    Change {
+        address: IoControl::address(),
+        keep: IoControl(0xFFFF_FFFF)
+            .with_xstbyen(false)
+            .with_txcanod(false)
+            .with_sof(false)
+            .with_intod(false)
+            .0,
+        set: bits,
+    }
 }
 
 fn nominal_fits(n: NominalBitTime) -> bool
@@ -126,106 +149,161 @@ pub fn settings_fit(s: Settings) -> bool
     if timing_fits(b) { s.dncnt < 32 } else { false }
 }
 
-pub fn nominal_change(n: NominalBitTime) -> Item
+pub fn nominal_bits(n: NominalBitTime) -> u32
     requires { ⌜ AllFit (nominalSettings n) ⌝ }
-    ensures { λ r. ⌜ r ≡ Item.Change (nominalChange n) ⌝ }
+    ensures { λ r. ⌜ r ≡ nominalChange n .set ⌝ }
 {
-    let a = with_field(
-        changing(NominalBitTimeConfiguration::address()),
-        24,
-        8,
-        n.brp,
-    );
-    let b = with_field(a, 16, 8, n.tseg1);
-    let c = with_field(b, 8, 7, n.tseg2);
-    Item::Change(with_field(c, 0, 7, n.sjw))
+    NominalBitTimeConfiguration(0)
+        .with_brp(n.brp)
+        .with_tseg1(n.tseg1)
+        .with_tseg2(n.tseg2)
+        .with_sjw(n.sjw)
+        .0
 }
 
-pub fn data_change(d: DataBitTime) -> Item
+pub fn nominal_change(bits: u32) -> Change
+    ensures { λ r. ⌜ r ≡ nominalTo bits ⌝ }
+{
+    Change {
+        address: NominalBitTimeConfiguration::address(),
+        keep: NominalBitTimeConfiguration(0xFFFF_FFFF)
+            .with_brp(0)
+            .with_tseg1(0)
+            .with_tseg2(0)
+            .with_sjw(0)
+            .0,
+        set: bits,
+    }
+}
+
+pub fn data_bits(d: DataBitTime) -> u32
     requires { ⌜ AllFit (dataSettings d) ⌝ }
-    ensures { λ r. ⌜ r ≡ Item.Change (dataChange d) ⌝ }
+    ensures { λ r. ⌜ r ≡ dataChange d .set ⌝ }
 {
-    let a = with_field(changing(DataBitTimeConfiguration::address()), 24, 8, d.brp);
-    let b = with_field(a, 16, 5, d.tseg1);
-    let c = with_field(b, 8, 4, d.tseg2);
-    Item::Change(with_field(c, 0, 4, d.sjw))
+    DataBitTimeConfiguration(0)
+        .with_brp(d.brp)
+        .with_tseg1(d.tseg1)
+        .with_tseg2(d.tseg2)
+        .with_sjw(d.sjw)
+        .0
 }
 
-pub fn delay_change(d: DataBitTime) -> Item
+pub fn data_change(bits: u32) -> Change
+    ensures { λ r. ⌜ r ≡ dataTo bits ⌝ }
+{
+    Change {
+        address: DataBitTimeConfiguration::address(),
+        keep: DataBitTimeConfiguration(0xFFFF_FFFF)
+            .with_brp(0)
+            .with_tseg1(0)
+            .with_tseg2(0)
+            .with_sjw(0)
+            .0,
+        set: bits,
+    }
+}
+
+pub fn delay_bits(d: DataBitTime) -> u32
     requires { ⌜ Small (d .tdco) ⌝ }
-    ensures { λ r. ⌜ r ≡ Item.Change (delayChange d) ⌝ }
+    ensures { λ r. ⌜ r ≡ delayChange d .set ⌝ }
 {
-    let a = with_field(changing(TransmitterDelayCompensation::address()), 16, 2, 2);
-    let b = with_field(a, 8, 7, signed::seven(d.tdco));
-    Item::Change(with_field(b, 0, 6, 0))
+    TransmitterDelayCompensation(0)
+        .with_tdcmod(2)
+        .with_tdco(d.tdco)
+        .with_tdcv(0)
+        .0
 }
 
-pub fn stef_change() -> Item
-    ensures { λ r. ⌜ r ≡ Item.Change stefChange ⌝ }
+pub fn delay_change(bits: u32) -> Change
+    ensures { λ r. ⌜ r ≡ delayTo bits ⌝ }
 {
-    Item::Change(with_flag(changing(CanControl::address()), 19, false))
-}
-
-pub fn txqen_change() -> Item
-    ensures { λ r. ⌜ r ≡ Item.Change txqenChange ⌝ }
-{
-    Item::Change(with_flag(changing(CanControl::address()), 20, false))
-}
-
-// The time base counter is only turned on.
-pub fn counter_change(on: bool) -> Item
-    ensures { λ r. ⌜ r ≡ whenAsked on (Item.Change counterChange) ⌝ }
-{
-    if on {
-        Item::Change(with_flag(changing(TimeStampControl::address()), 16, true))
-    } else {
-        Item::Nothing
+    Change {
+        address: TransmitterDelayCompensation::address(),
+        keep: TransmitterDelayCompensation(0xFFFF_FFFF)
+            .with_tdcmod(0)
+            .with_tdco(0)
+            .with_tdcv(0)
+            .0,
+        set: bits,
     }
 }
 
-pub fn dncnt_change(n: u32) -> Item
+pub fn stef_change() -> Change
+    ensures { λ r. ⌜ r ≡ stefChange ⌝ }
+{
+    Change {
+        address: CanControl::address(),
+        keep: CanControl(0xFFFF_FFFF).with_stef(false).0,
+        set: CanControl(0).with_stef(false).0,
+    }
+}
+
+pub fn txqen_change() -> Change
+    ensures { λ r. ⌜ r ≡ txqenChange ⌝ }
+{
+    Change {
+        address: CanControl::address(),
+        keep: CanControl(0xFFFF_FFFF).with_txqen(false).0,
+        set: CanControl(0).with_txqen(false).0,
+    }
+}
+
+pub fn counter_change() -> Change
+    ensures { λ r. ⌜ r ≡ counterChange ⌝ }
+{
+    Change {
+        address: TimeStampControl::address(),
+        keep: TimeStampControl(0xFFFF_FFFF).with_tbcen(false).0,
+        set: TimeStampControl(0).with_tbcen(true).0,
+    }
+}
+
+pub fn dncnt_bits(n: u32) -> u32
     requires { ⌜ Fits DNCNT n ⌝ }
-    ensures { λ r. ⌜ r ≡ (if eqb n 0 then Item.Nothing else Item.Change (dncntChange n)) ⌝ }
+    ensures { λ r. ⌜ r ≡ dncntChange n .set ⌝ }
 {
-    if n == 0 {
-        Item::Nothing
-    } else {
-        Item::Change(with_field(changing(CanControl::address()), 0, 5, n))
+    CanControl(0).with_dncnt(n).0
+}
+
+pub fn dncnt_change(bits: u32) -> Change
+    ensures { λ r. ⌜ r ≡ dncntTo bits ⌝ }
+{
+    Change {
+        address: CanControl::address(),
+        keep: CanControl(0xFFFF_FFFF).with_dncnt(0).0,
+        set: bits,
     }
 }
 
-pub fn rtxat_change() -> Item
-    ensures { λ r. ⌜ r ≡ Item.Change rtxatChange ⌝ }
+pub fn rtxat_change() -> Change
+    ensures { λ r. ⌜ r ≡ rtxatChange ⌝ }
 {
-    Item::Change(with_flag(changing(CanControl::address()), 16, true))
-}
-
-// A bit set where it is asked for.
-fn with_asked(c: Change, on: bool, pos: u32) -> Change
-    requires { ⌜ pos < 32 ⌝ }
-    ensures { λ r. ⌜ r ≡ settingAll (asked on (place pos 1 := 1 ∷ [])) c ⌝ }
-{
-    if on { with_flag(c, pos, true) } else { c }
-}
-
-// The CAN errors: IVMIE, CERRIE, SERRIE.
-fn with_can_errors(c: Change, on: bool) -> Change
-    ensures { λ r. ⌜ r ≡ settingAll (asked on (place 31 1 := 1 ∷ place 29 1 := 1 ∷ place 28 1 := 1 ∷ [])) c ⌝ }
-{
-    if on {
-        with_flag(with_flag(with_flag(c, 31, true), 29, true), 28, true)
-    } else {
-        c
+    Change {
+        address: CanControl::address(),
+        keep: CanControl(0xFFFF_FFFF).with_rtxat(false).0,
+        set: CanControl(0).with_rtxat(true).0,
     }
 }
 
 // RXIE and TXIE, and what is asked for.
-pub fn interrupt_change(s: Settings) -> Item
-    ensures { λ r. ⌜ r ≡ Item.Change (interruptChange s) ⌝ }
+pub fn interrupt_bits(s: Settings) -> u32
+    ensures { λ r. ⌜ r ≡ interruptChange s .set ⌝ }
 {
-    let a = with_flag(changing(Interrupt::address()), 17, true);
-    let b = with_can_errors(with_flag(a, 16, true), s.canerrors);
-    let c = with_asked(b, s.spierror, 25);
-    let d = with_asked(c, s.eccerror, 24);
-    Item::Change(with_asked(d, s.counter, 18))
+    Interrupt(0)
+        .with_enabled(Cause::Rx, true)
+        .with_enabled(Cause::Tx, true)
+        .with_enabled(Cause::Ivm, s.canerrors)
+        .with_enabled(Cause::Cerr, s.canerrors)
+        .with_enabled(Cause::Serr, s.canerrors)
+        .with_enabled(Cause::SpiCrc, s.spierror)
+        .with_enabled(Cause::Ecc, s.eccerror)
+        .with_enabled(Cause::Tbc, s.counter)
+        .0
+}
+
+// An enable is only turned on.
+pub fn interrupt_change(bits: u32) -> Change
+    ensures { λ r. ⌜ r ≡ interruptTo bits ⌝ }
+{
+    keeping(Interrupt::address(), bits, bits)
 }

@@ -2,14 +2,14 @@
 -- Assumes nothing.
 use Prim.Native.Nat.{ℕ, _+_, _-_, _*_, _/_, _%_, _^_, _<_}
 use mathlib.Core.Path.{_≡_, refl, sym, ap, ap₂, _∙_}
-use mathlib.Core.List.{List, [], _∷_, _++_}
+use mathlib.Core.List.{List, [], _∷_}
 use native.Mathlib.Nat.{mod-lt, mod-eq-of-lt}
 use lib.Pow.{pow-pos, split}
 use lib.Bits.{bitAnd, bitOr, and-block, or-block, and-shr, or-shr, and-mod, or-mod, and-lt, and-mask, and-zero-r, or-zero-l, or-zero-r}
 use Rattle.field.specs.Field.{place, withField}
-use Rattle.field.specs.Settings.{Setting, _:=_, settings, AllFit}
+use Rattle.field.specs.Settings.{Setting, _:=_, fieldsOf, settings, AllFit}
 use Rattle.plan.specs.declared.change.Change.{Change}
-use Rattle.plan.specs.Change.{modified, setting, settingAll, ChangeSets}
+use Rattle.plan.specs.Change.{modified, setting, settingAll, changeOf, cleared, changeTo, ChangeSets, ChangeIs}
 
 -- one field: above it, in it, below it
 module _ (w m s p k v : ℕ) where
@@ -46,11 +46,6 @@ module _ (w m s p k v : ℕ) where
       below : bitOr (bitAnd w m) s % 2 ^ p ≡ bitOr (bitAnd (w % 2 ^ p) (m % 2 ^ p)) (s % 2 ^ p)
       below = rw (or-mod (bitAnd w m) s p, and-mod w m p)
 
--- settings in two parts
-pub set-parts : (ss ts : List Setting) (c : Change) → settingAll (ss ++ ts) c ≡ settingAll ts (settingAll ss c)
-set-parts [] ts c = refl
-set-parts (s ∷ ss) ts c = set-parts ss ts (setting s c)
-
 -- all of them
 sets-from : (c : Change) (ss : List Setting) (w : ℕ) → AllFit ss → modified (settingAll ss c) w ≡ settings ss (modified c w)
 unfolding modified
@@ -64,3 +59,14 @@ unfolding modified
 change-sets address ss w l h =
     sets-from (record { address = address; keep = 2 ^ 32 - 1; set = 0 }) ss w h
     ∙ ap (settings ss) (or-zero-r (bitAnd w (2 ^ 32 - 1)) ∙ and-mask w 32 ∙ mod-eq-of-lt l)
+
+-- the parts of a change: its fields are cleared in what is kept, and set in what is set
+parts-from : (ss : List Setting) (c : Change) → settingAll ss c ≡ record { address = c .address; keep = cleared (fieldsOf ss) (c .keep); set = settings ss (c .set) }
+parts-from [] c = refl
+parts-from (place p k := v ∷ ss) c = parts-from ss (setting (place p k := v) c)
+
+pub change-parts : (address : ℕ) (ss : List Setting) → changeOf address ss ≡ changeTo address (fieldsOf ss) (settings ss 0)
+change-parts address ss = parts-from ss (record { address = address; keep = 2 ^ 32 - 1; set = 0 })
+
+pub change-is : ChangeIs
+change-is address ss = ap (λ c. changeTo address (fieldsOf ss) (c .set)) (change-parts address ss) ∙ sym (change-parts address ss)

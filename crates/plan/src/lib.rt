@@ -4,11 +4,8 @@ mod item;
 mod plan;
 
 pub use change::Change;
-pub use change::changing;
 pub use change::keeping;
 pub use change::modified_word;
-pub use change::with_field;
-pub use change::with_flag;
 pub use item::Item;
 pub use item::Poll;
 pub use item::echo_word;
