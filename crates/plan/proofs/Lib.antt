@@ -1,4 +1,3 @@
-mod Arms
 pub mod Changes
 pub mod Places
 pub mod Runs

@@ -1,7 +1,7 @@
 // The items of a plan.
 ghost use mathlib.Core.Path.{_≡_};
 ghost use Prim.Native.Nat.{_-_};
-ghost use Rattle.plan.specs.Item.{addressOf, shown, lateOf, echoWord, isThere};
+ghost use Rattle.plan.specs.Item.{shown, lateOf, echoWord, isThere};
 use crate::Change;
 use chip::OscillatorControl;
 use configuration::CanControl;
@@ -22,15 +22,6 @@ pub enum Item {
     Echo,
     // Nothing: what was not asked for.
     Nothing,
-}
-
-pub fn poll_address(p: Poll) -> u16
-    ensures { λ r. ⌜ r ≡ addressOf p ⌝ }
-{
-    match p {
-        Poll::Mode(_, _) => CanControl::address(),
-        Poll::Pll => OscillatorControl::address(),
-    }
 }
 
 pub fn is_shown(p: Poll, w: u32) -> bool
