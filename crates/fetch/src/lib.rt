@@ -1,16 +1,16 @@
 // Has-next, peek and get, from one exchange to the next.
 ghost use mathlib.Core.Path.{_≡_};
 ghost use Rattle.words.specs.Words.{roundUp};
-ghost use Rattle.spi.specs.Reply.{doneReply};
+ghost use Rattle.spi.specs.Reply.{doneReply, wordReply};
 ghost use Rattle.spi.specs.Talk.{onWord, onPair, onDone};
 ghost use Rattle.spi.specs.declared.refusal.Refusal.{Refusal};
 ghost use Rattle.fetch.specs.declared.FetchAt.{FetchAt};
-ghost use Rattle.fetch.specs.Step.{afterControl, toAddress, afterStatus, afterAddress, afterHeader, toTime, toBody, afterAgain, stamped, afterTime, afterBody, nextBy, nextAt};
+ghost use Rattle.fetch.specs.Step.{afterControl, toAddress, afterStatus, afterAddress, afterHeader, toTime, toBody, afterAgain, stamped, afterTime, afterBody, nextAt};
+ghost use Rattle.fetch.specs.Numbers.{foundIn, fetchAt, standing, started, staged, refusedFor};
 use call::Found;
 use fifo::FifoControl;
 use fifo::FifoStatus;
 use header::Length;
-use message::Stamp;
 use spi::Answer;
 use spi::Done;
 use spi::OneWord;
@@ -45,220 +45,328 @@ pub enum FetchAt {
     Refused(Refusal),
 }
 
+// The exchange that a call asks for, or how it ended.
+pub enum FetchStage {
+    Control,
+    Status,
+    Address,
+    Header,
+    // Control again, for RXTSEN.
+    Again,
+    Time,
+    Body,
+    // Control a third time, and that word to be written with UINC.
+    Next,
+    Commit,
+    Done,
+    Empty,
+    Yes,
+    No,
+    Refused,
+}
+
+// A call as plain numbers; which of them count is told by the stage.
+pub struct FetchNumbers {
+    pub stage: FetchStage,
+    pub want: Want,
+    pub fifo: u8,
+    // Whether there is a timestamp.
+    pub stamped: bool,
+    // The payload's length.
+    pub len: u8,
+    // The address of the next RAM access; of the object while control is read again.
+    pub m: u16,
+    // Control as read last, to be written with UINC.
+    pub w: u32,
+    // The object's two header words, and its timestamp.
+    pub a: u32,
+    pub b: u32,
+    pub t: u32,
+    pub why: Refusal,
+}
+
+// Before the first exchange.
+pub fn start(want: Want, fifo: u8) -> FetchNumbers
+    ensures { λ r. ⌜ r ≡ started want fifo ⌝ }
+{
+    FetchNumbers {
+        stage: FetchStage::Control,
+        want: want,
+        fifo: fifo,
+        stamped: false,
+        len: 0,
+        m: 0,
+        w: 0,
+        a: 0,
+        b: 0,
+        t: 0,
+        why: Refusal::WrongAnswer,
+    }
+}
+
+fn at_stage(c: FetchNumbers, stage: FetchStage) -> FetchNumbers
+    ensures { λ r. ⌜ r ≡ staged c stage ⌝ }
+{
+    let want = c.want;
+    let why = c.why;
+    FetchNumbers {
+        stage: stage,
+        want: want,
+        fifo: c.fifo,
+        stamped: c.stamped,
+        len: c.len,
+        m: c.m,
+        w: c.w,
+        a: c.a,
+        b: c.b,
+        t: c.t,
+        why: why,
+    }
+}
+
+pub fn refused(c: FetchNumbers, why: Refusal) -> FetchNumbers
+    ensures { λ r. ⌜ r ≡ refusedFor c why ⌝ }
+{
+    let want = c.want;
+    FetchNumbers {
+        stage: FetchStage::Refused,
+        want: want,
+        fifo: c.fifo,
+        stamped: c.stamped,
+        len: c.len,
+        m: c.m,
+        w: c.w,
+        a: c.a,
+        b: c.b,
+        t: c.t,
+        why: why,
+    }
+}
+
 // TXEN is looked at only here, in the first control word.
-fn after_control(reply: OneWord) -> FetchAt
-    ensures { λ r. ⌜ r ≡ onWord FetchAt.Refused reply afterControl ⌝ }
+fn after_control(c: FetchNumbers, reply: OneWord) -> FetchNumbers
+    ensures { λ r. ⌜ standing r ≡ (c .fifo, c .want, onWord FetchAt.Refused reply afterControl) ⌝ }
 {
     match reply {
         OneWord::Word(w) => {
             if FifoControl(w).txen() {
-                FetchAt::Refused(Refusal::FifoNotRx)
+                refused(c, Refusal::FifoNotRx)
             } else {
-                FetchAt::Status
+                at_stage(c, FetchStage::Status)
             }
         }
-        OneWord::Bad(r) => FetchAt::Refused(r),
+        OneWord::Bad(r) => refused(c, r),
     }
 }
 
-fn to_address(next: bool) -> FetchAt
-    ensures { λ r. ⌜ r ≡ toAddress next ⌝ }
+fn told(c: FetchNumbers, next: bool) -> FetchNumbers
+    ensures { λ r. ⌜ standing r ≡ (c .fifo, c .want, FetchAt.Told next) ⌝ }
 {
     if next {
-        FetchAt::Address
+        at_stage(c, FetchStage::Yes)
     } else {
-        FetchAt::Empty
+        at_stage(c, FetchStage::No)
     }
 }
 
-fn after_status(want: Want, reply: OneWord) -> FetchAt
-    ensures { λ r. ⌜ r ≡ onWord FetchAt.Refused reply (afterStatus want) ⌝ }
+fn to_address(c: FetchNumbers, next: bool) -> FetchNumbers
+    ensures { λ r. ⌜ standing r ≡ (c .fifo, c .want, toAddress next) ⌝ }
+{
+    if next {
+        at_stage(c, FetchStage::Address)
+    } else {
+        at_stage(c, FetchStage::Empty)
+    }
+}
+
+fn after_status(c: FetchNumbers, reply: OneWord) -> FetchNumbers
+    ensures { λ r. ⌜ standing r ≡ (c .fifo, c .want, onWord FetchAt.Refused reply (afterStatus (c .want))) ⌝ }
 {
     match reply {
         OneWord::Word(v) => {
             let next = FifoStatus(v).tfnrfnif();
+            let want = c.want;
             match want {
-                Want::HasNext => FetchAt::Told(next),
-                Want::Peek => to_address(next),
-                Want::Get => to_address(next),
+                Want::HasNext => told(c, next),
+                Want::Peek => to_address(c, next),
+                Want::Get => to_address(c, next),
             }
         }
-        OneWord::Bad(r) => FetchAt::Refused(r),
+        OneWord::Bad(r) => refused(c, r),
     }
 }
 
 // The object lies 0x400 above the user address.
-fn to_header(u: u32) -> FetchAt
-    ensures { λ r. ⌜ r ≡ afterAddress u ⌝ }
+fn to_header(c: FetchNumbers, u: u32) -> FetchNumbers
+    ensures { λ r. ⌜ standing r ≡ (c .fifo, c .want, afterAddress u) ⌝ }
 {
     if 0xFBFF < u {
-        return FetchAt::Refused(Refusal::BadUserAddress);
+        return refused(c, Refusal::BadUserAddress);
     }
     let m = u + 0x400;
     if spi::in_range(m, 8) {
-        FetchAt::Header(m as u16)
+        let mut n = at_stage(c, FetchStage::Header);
+        n.m = m as u16;
+        n
     } else {
-        FetchAt::Refused(Refusal::InvalidRamAddress(m))
+        refused(c, Refusal::InvalidRamAddress(m))
     }
 }
 
-fn after_address(reply: OneWord) -> FetchAt
-    ensures { λ r. ⌜ r ≡ onWord FetchAt.Refused reply afterAddress ⌝ }
+fn after_address(c: FetchNumbers, reply: OneWord) -> FetchNumbers
+    ensures { λ r. ⌜ standing r ≡ (c .fifo, c .want, onWord FetchAt.Refused reply afterAddress) ⌝ }
 {
     match reply {
-        OneWord::Word(u) => to_header(u),
-        OneWord::Bad(r) => FetchAt::Refused(r),
+        OneWord::Word(u) => to_header(c, u),
+        OneWord::Bad(r) => refused(c, r),
     }
 }
 
-fn to_again(m: u16, a: u32, b: u32) -> FetchAt
-    ensures { λ r. ⌜ r ≡ afterHeader m a b ⌝ }
+fn to_again(c: FetchNumbers, a: u32, b: u32) -> FetchNumbers
+    ensures { λ r. ⌜ standing r ≡ (c .fifo, c .want, afterHeader (c .m) a b) ⌝ }
 {
     match header::length_of(b) {
-        Length::Is(n) => {
-            let f = Found {
-                header: header::header_of(a, b),
-                stamp: Stamp::None,
-                len: n as u8,
-            };
-            FetchAt::Again(m, f)
+        Length::Is(l) => {
+            let mut n = at_stage(c, FetchStage::Again);
+            n.a = a;
+            n.b = b;
+            n.stamped = false;
+            n.len = l as u8;
+            n
         }
-        Length::Bad => FetchAt::Refused(Refusal::BadDlc),
+        Length::Bad => refused(c, Refusal::BadDlc),
     }
 }
 
-fn after_header(m: u16, reply: TwoWords) -> FetchAt
-    ensures { λ r. ⌜ r ≡ onPair FetchAt.Refused reply (afterHeader m) ⌝ }
+fn after_header(c: FetchNumbers, reply: TwoWords) -> FetchNumbers
+    ensures { λ r. ⌜ standing r ≡ (c .fifo, c .want, onPair FetchAt.Refused reply (afterHeader (c .m))) ⌝ }
 {
     match reply {
-        TwoWords::Words(a, b) => to_again(m, a, b),
-        TwoWords::Bad(r) => FetchAt::Refused(r),
+        TwoWords::Words(a, b) => to_again(c, a, b),
+        TwoWords::Bad(r) => refused(c, r),
     }
 }
 
-fn to_time(x: u32, f: Found) -> FetchAt
-    ensures { λ r. ⌜ r ≡ toTime x f ⌝ }
+fn to_time(c: FetchNumbers, x: u32) -> FetchNumbers
+    ensures { λ r. ⌜ standing r ≡ (c .fifo, c .want, toTime x (foundIn c)) ⌝ }
 {
     if spi::in_range(x, 4) {
-        FetchAt::Time(x as u16, f)
+        let mut n = at_stage(c, FetchStage::Time);
+        n.m = x as u16;
+        n
     } else {
-        FetchAt::Refused(Refusal::InvalidRamAddress(x))
+        refused(c, Refusal::InvalidRamAddress(x))
     }
 }
 
-fn to_body(x: u32, f: Found) -> FetchAt
-    ensures { λ r. ⌜ r ≡ toBody x f ⌝ }
+fn to_body(c: FetchNumbers, x: u32) -> FetchNumbers
+    ensures { λ r. ⌜ standing r ≡ (c .fifo, c .want, toBody x (foundIn c)) ⌝ }
 {
-    if spi::in_range(x, words::round_up(f.len as usize)) {
-        FetchAt::Body(x as u16, f)
+    if spi::in_range(x, words::round_up(c.len as usize)) {
+        let mut n = at_stage(c, FetchStage::Body);
+        n.m = x as u16;
+        n
     } else {
-        FetchAt::Refused(Refusal::InvalidRamAddress(x))
+        refused(c, Refusal::InvalidRamAddress(x))
     }
 }
 
 // RXTSEN is that of the second control word.
-fn after_again(m: u16, f: Found, reply: OneWord) -> FetchAt
-    ensures { λ r. ⌜ r ≡ onWord FetchAt.Refused reply (afterAgain m f) ⌝ }
+fn after_again(c: FetchNumbers, reply: OneWord) -> FetchNumbers
+    ensures { λ r. ⌜ standing r ≡ (c .fifo, c .want, onWord FetchAt.Refused reply (afterAgain (c .m) (foundIn c))) ⌝ }
 {
     match reply {
         OneWord::Word(w) => {
-            let x = (m as u32) + 8;
+            let x = (c.m as u32) + 8;
             if FifoControl(w).rxtsen() {
-                to_time(x, f)
+                to_time(c, x)
             } else {
-                to_body(x, f)
+                to_body(c, x)
             }
         }
-        OneWord::Bad(r) => FetchAt::Refused(r),
+        OneWord::Bad(r) => refused(c, r),
     }
 }
 
-fn with_stamp(f: Found, t: u32) -> Found
-    ensures { λ r. ⌜ r ≡ stamped f t ⌝ }
-{
-    let h = f.header;
-    Found {
-        header: h,
-        stamp: Stamp::At(t),
-        len: f.len,
-    }
-}
-
-fn after_time(x: u16, f: Found, reply: OneWord) -> FetchAt
-    ensures { λ r. ⌜ r ≡ onWord FetchAt.Refused reply (afterTime x f) ⌝ }
+fn after_time(c: FetchNumbers, reply: OneWord) -> FetchNumbers
+    ensures { λ r. ⌜ standing r ≡ (c .fifo, c .want, onWord FetchAt.Refused reply (afterTime (c .m) (foundIn c))) ⌝ }
 {
     match reply {
-        OneWord::Word(t) => to_body((x as u32) + 4, with_stamp(f, t)),
-        OneWord::Bad(r) => FetchAt::Refused(r),
+        OneWord::Word(t) => {
+            let mut n = c;
+            n.stamped = true;
+            n.t = t;
+            to_body(n, (c.m as u32) + 4)
+        }
+        OneWord::Bad(r) => refused(c, r),
     }
 }
 
-fn after_body(want: Want, f: Found, answer: Answer, got: usize) -> FetchAt
-    ensures { λ r. ⌜ r ≡ onDone FetchAt.Refused (doneReply Refusal.SpiRead answer got (roundUp (f .len))) (afterBody want f) ⌝ }
+fn after_body(c: FetchNumbers, answer: Answer, got: usize) -> FetchNumbers
+    ensures { λ r. ⌜ standing r ≡ (c .fifo, c .want, onDone FetchAt.Refused (doneReply Refusal.SpiRead answer got (roundUp (c .len))) (afterBody (c .want) (foundIn c))) ⌝ }
 {
     match spi::done_reply(
         Refusal::SpiRead,
         answer,
         got,
-        words::round_up(f.len as usize),
+        words::round_up(c.len as usize),
     ) {
-        Done::Good => match want {
-            Want::HasNext => FetchAt::Done(f),
-            Want::Peek => FetchAt::Done(f),
-            Want::Get => FetchAt::Next(f),
-        },
-        Done::Bad(r) => FetchAt::Refused(r),
+        Done::Good => {
+            let want = c.want;
+            match want {
+                Want::HasNext => at_stage(c, FetchStage::Done),
+                Want::Peek => at_stage(c, FetchStage::Done),
+                Want::Get => at_stage(c, FetchStage::Next),
+            }
+        }
+        Done::Bad(r) => refused(c, r),
     }
 }
 
-fn after_next(f: Found, reply: OneWord) -> FetchAt
-    ensures { λ r. ⌜ r ≡ onWord FetchAt.Refused reply (λ w. FetchAt.Commit w f) ⌝ }
+fn after_next(c: FetchNumbers, reply: OneWord) -> FetchNumbers
+    ensures { λ r. ⌜ standing r ≡ (c .fifo, c .want, onWord FetchAt.Refused reply (λ w. FetchAt.Commit w (foundIn c))) ⌝ }
 {
     match reply {
-        OneWord::Word(w) => FetchAt::Commit(w, f),
-        OneWord::Bad(r) => FetchAt::Refused(r),
+        OneWord::Word(w) => {
+            let mut n = at_stage(c, FetchStage::Commit);
+            n.w = w;
+            n
+        }
+        OneWord::Bad(r) => refused(c, r),
     }
 }
 
-fn after_commit(f: Found, answer: Answer, got: usize) -> FetchAt
-    ensures { λ r. ⌜ r ≡ onDone FetchAt.Refused (doneReply Refusal.SpiRead answer got 0) (FetchAt.Done f) ⌝ }
+fn after_commit(c: FetchNumbers, answer: Answer, got: usize) -> FetchNumbers
+    ensures { λ r. ⌜ standing r ≡ (c .fifo, c .want, onDone FetchAt.Refused (doneReply Refusal.SpiRead answer got 0) (FetchAt.Done (foundIn c))) ⌝ }
 {
     match spi::done_reply(Refusal::SpiRead, answer, got, 0) {
-        Done::Good => FetchAt::Done(f),
-        Done::Bad(r) => FetchAt::Refused(r),
-    }
-}
-
-// Where an answer leads, by what it says as a word, as two words, or by its kind and length. After the end it is wrong.
-fn next_by(
-    want: Want,
-    at: FetchAt,
-    word: OneWord,
-    pair: TwoWords,
-    answer: Answer,
-    got: usize,
-) -> FetchAt
-    ensures { λ r. ⌜ r ≡ nextBy want at word pair answer got ⌝ }
-{
-    match at {
-        FetchAt::Control => after_control(word),
-        FetchAt::Status => after_status(want, word),
-        FetchAt::Address => after_address(word),
-        FetchAt::Header(m) => after_header(m, pair),
-        FetchAt::Again(m, f) => after_again(m, f, word),
-        FetchAt::Time(x, f) => after_time(x, f, word),
-        FetchAt::Body(_, f) => after_body(want, f, answer, got),
-        FetchAt::Next(f) => after_next(f, word),
-        FetchAt::Commit(_, f) => after_commit(f, answer, got),
-        _ => FetchAt::Refused(Refusal::WrongAnswer),
+        Done::Good => at_stage(c, FetchStage::Done),
+        Done::Bad(r) => refused(c, r),
     }
 }
 
 // A failed exchange of these calls is 1.
-pub fn next_at(want: Want, at: FetchAt, answer: Answer, rx: &[u8]) -> FetchAt
-    ensures { λ r. ⌜ r ≡ nextAt want at answer (now (rx .entry)) ⌝ }
+fn word(answer: Answer, rx: &[u8]) -> OneWord
+    ensures { λ r. ⌜ r ≡ wordReply Refusal.SpiRead answer (now (rx .entry)) ⌝ }
 {
-    let word = spi::word_reply(Refusal::SpiRead, answer, rx);
-    let pair = spi::pair_reply(Refusal::SpiRead, answer, rx);
-    next_by(want, at, word, pair, answer, rx.len())
+    spi::word_reply(Refusal::SpiRead, answer, rx)
+}
+
+// After the end every answer is wrong.
+pub fn next_at(c: FetchNumbers, answer: Answer, rx: &[u8]) -> FetchNumbers
+    ensures { λ r. ⌜ standing r ≡ (c .fifo, c .want, nextAt (c .want) (fetchAt c) answer (now (rx .entry))) ⌝ }
+{
+    let stage = c.stage;
+    match stage {
+        FetchStage::Control => after_control(c, word(answer, rx)),
+        FetchStage::Status => after_status(c, word(answer, rx)),
+        FetchStage::Address => after_address(c, word(answer, rx)),
+        FetchStage::Header => after_header(c, spi::pair_reply(Refusal::SpiRead, answer, rx)),
+        FetchStage::Again => after_again(c, word(answer, rx)),
+        FetchStage::Time => after_time(c, word(answer, rx)),
+        FetchStage::Body => after_body(c, answer, rx.len()),
+        FetchStage::Next => after_next(c, word(answer, rx)),
+        FetchStage::Commit => after_commit(c, answer, rx.len()),
+        _ => refused(c, Refusal::WrongAnswer),
+    }
 }

@@ -1,4 +1,5 @@
 pub mod Step
 pub mod Outcome
+pub mod Numbers
 pub mod Talk
 pub mod Laws

@@ -4,10 +4,11 @@ use Prim.Native.Nat.{ℕ, min}
 use mathlib.Core.List.{List}
 use mathlib.Core.Bool.{Bool}
 use lib.ListN.{length, take}
-use lib.Dec.{leb}
+use lib.Dec.{leb, ltb}
 use Rattle.laws.specs.If.{if_then_else_}
 use Rattle.parts.specs.Parts.{put}
 use Rattle.message.specs.Message.{Message}
+use Rattle.spi.specs.declared.refusal.Refusal.{Refusal}
 use Rattle.call.specs.declared.Found.{Found}
 use Rattle.call.specs.declared.Outcome.{Outcome}
 use Rattle.rx_fifo.specs.declared.Fetch.{Fetch}
@@ -65,3 +66,20 @@ filled held n buf = if leb 64 (length buf) then put buf 0 (take (min n 64) held)
 -- the lent buffer afterwards
 unfoldable pub filledBy : Fetch → List ℕ → List ℕ
 filledBy s buf = filled (s .held) (sizeAt (s .at)) buf
+
+-- ---- the end, for a lent buffer of n bytes
+
+-- 28 for a message that there is no room for
+abbrev pub roomFor : ℕ → Outcome → Outcome
+roomFor n Outcome.Running = Outcome.Running
+roomFor n Outcome.Done = Outcome.Done
+roomFor n (Outcome.Word w) = Outcome.Word w
+roomFor n (Outcome.Mode m) = Outcome.Mode m
+roomFor n Outcome.Yes = Outcome.Yes
+roomFor n Outcome.No = Outcome.No
+roomFor n Outcome.Empty = Outcome.Empty
+roomFor n (Outcome.Message f) = if ltb n 64 then Outcome.Refused Refusal.BufferTooSmall else Outcome.Message f
+roomFor n (Outcome.Refused r) = Outcome.Refused r
+
+unfoldable pub finishedAs : Fetch → ℕ → Outcome
+finishedAs s n = roomFor n (outcomeOf s)

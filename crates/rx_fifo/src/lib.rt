@@ -1,19 +1,27 @@
 // Has-next, peek and get: the oldest message of a receive FIFO.
 ghost use mathlib.Core.Path.{_≡_};
 ghost use mathlib.Core.Bool.{true};
+ghost use mathlib.Core.List.{[]};
 ghost use Prim.Native.Nat.{min};
+ghost use lib.ListN.{length};
 ghost use Rattle.field.specs.Field.{mark};
 ghost use Rattle.fifo.specs.Control.{UINC};
+ghost use Rattle.header.specs.Header.{headerOf};
 ghost use Rattle.spi.specs.declared.ask.Ask.{Ask};
-ghost use Rattle.rx_fifo.specs.Step.{askFrom, askOf, firstAt, lentAt, startOf, hasNextStart, lentStart, peekStart, getStart, stepOf};
-ghost use Rattle.rx_fifo.specs.Outcome.{toldOf, outcomeOf, filledBy};
+ghost use Rattle.fetch.specs.Numbers.{stampIn};
+ghost use Rattle.rx_fifo.specs.Step.{askOf, hasNextStart, lentStart, peekStart, getStart, stepOf};
+ghost use Rattle.rx_fifo.specs.Outcome.{filledBy, finishedAs};
+ghost use Rattle.rx_fifo.specs.Numbers.{fetchOf, FetchEnds};
 use call::Found;
 use call::Outcome;
 use fetch::FetchAt;
+use fetch::FetchNumbers;
+use fetch::FetchStage;
 use fetch::Want;
 use fifo::FifoControl;
 use fifo::FifoStatus;
 use fifo::UserAddress;
+use message::Stamp;
 use spi::Answer;
 use spi::Ask;
 use spi::Refusal;
@@ -28,65 +36,46 @@ pub struct Fetch {
     pub at: FetchAt,
 }
 
-fn first_at(fifo: u8) -> FetchAt
-    ensures { λ r. ⌜ r ≡ firstAt fifo ⌝ }
+pub fn has_next_start(fifo: u8, body: &mut [u8; 76]) -> FetchNumbers
+    ensures { λ r. ⌜ fetchOf r (now (body .exit)) ≡ hasNextStart fifo ⌝ }
 {
+    held::clear(body);
+    let c = fetch::start(Want::HasNext, fifo);
     if fifo::is_fifo(fifo as u32) {
-        FetchAt::Control
+        c
     } else {
-        FetchAt::Refused(Refusal::BadNumber)
+        fetch::refused(c, Refusal::BadNumber)
     }
 }
 
 // 20 before 28.
-fn lent_at(fifo: u8, room: usize) -> FetchAt
-    ensures { λ r. ⌜ r ≡ lentAt fifo room ⌝ }
+fn lent_start(want: Want, fifo: u8, room: usize, body: &mut [u8; 76]) -> FetchNumbers
+    ensures { λ r. ⌜ fetchOf r (now (body .exit)) ≡ lentStart want fifo room ⌝ }
 {
+    held::clear(body);
+    let c = fetch::start(want, fifo);
     if fifo::is_fifo(fifo as u32) {
         if room < 64 {
-            FetchAt::Refused(Refusal::BufferTooSmall)
+            fetch::refused(c, Refusal::BufferTooSmall)
         } else {
-            FetchAt::Control
+            c
         }
     } else {
-        FetchAt::Refused(Refusal::BadNumber)
+        fetch::refused(c, Refusal::BadNumber)
     }
-}
-
-fn start(want: Want, fifo: u8, at: FetchAt) -> Fetch
-    ensures { λ r. ⌜ r ≡ startOf want fifo at ⌝ }
-{
-    Fetch {
-        fifo: fifo,
-        want: want,
-        held: [0u8; 64],
-        at: at,
-    }
-}
-
-fn lent_start(want: Want, fifo: u8, room: usize) -> Fetch
-    ensures { λ r. ⌜ r ≡ lentStart want fifo room ⌝ }
-{
-    start(want, fifo, lent_at(fifo, room))
-}
-
-pub fn has_next_start(fifo: u8) -> Fetch
-    ensures { λ r. ⌜ r ≡ hasNextStart fifo ⌝ }
-{
-    start(Want::HasNext, fifo, first_at(fifo))
 }
 
 // `room` is the length of the buffer that will be lent for the payload.
-pub fn peek_start(fifo: u8, room: usize) -> Fetch
-    ensures { λ r. ⌜ r ≡ peekStart fifo room ⌝ }
+pub fn peek_start(fifo: u8, room: usize, body: &mut [u8; 76]) -> FetchNumbers
+    ensures { λ r. ⌜ fetchOf r (now (body .exit)) ≡ peekStart fifo room ⌝ }
 {
-    lent_start(Want::Peek, fifo, room)
+    lent_start(Want::Peek, fifo, room, body)
 }
 
-pub fn get_start(fifo: u8, room: usize) -> Fetch
-    ensures { λ r. ⌜ r ≡ getStart fifo room ⌝ }
+pub fn get_start(fifo: u8, room: usize, body: &mut [u8; 76]) -> FetchNumbers
+    ensures { λ r. ⌜ fetchOf r (now (body .exit)) ≡ getStart fifo room ⌝ }
 {
-    lent_start(Want::Get, fifo, room)
+    lent_start(Want::Get, fifo, room, body)
 }
 
 fn read_word(address: u16) -> Ask
@@ -104,94 +93,100 @@ fn with_uinc(w: u32) -> u32
     FifoControl(w).with_uinc(true).0
 }
 
-fn ask_at(fifo: u8, at: FetchAt) -> Ask
-    ensures { λ r. ⌜ r ≡ askFrom fifo at ⌝ }
+pub fn fetch_ask(c: FetchNumbers) -> Ask
+    ensures { λ r. ⌜ r ≡ askOf (fetchOf c []) ⌝ }
 {
-    match at {
-        FetchAt::Control => read_word(FifoControl::address(fifo)),
-        FetchAt::Status => read_word(FifoStatus::address(fifo)),
-        FetchAt::Address => read_word(UserAddress::address(fifo)),
-        FetchAt::Header(m) => Ask::Read {
-            address: m,
+    let stage = c.stage;
+    match stage {
+        FetchStage::Control => read_word(FifoControl::address(c.fifo)),
+        FetchStage::Status => read_word(FifoStatus::address(c.fifo)),
+        FetchStage::Address => read_word(UserAddress::address(c.fifo)),
+        FetchStage::Header => Ask::Read {
+            address: c.m,
             count: 8,
         },
-        FetchAt::Again(_, _) => read_word(FifoControl::address(fifo)),
-        FetchAt::Time(x, _) => read_word(x),
-        FetchAt::Body(x, f) => Ask::Read {
-            address: x,
-            count: words::round_up(f.len as usize),
+        FetchStage::Again => read_word(FifoControl::address(c.fifo)),
+        FetchStage::Time => read_word(c.m),
+        FetchStage::Body => Ask::Read {
+            address: c.m,
+            count: words::round_up(c.len as usize),
         },
-        FetchAt::Next(_) => read_word(FifoControl::address(fifo)),
-        FetchAt::Commit(w, _) => Ask::Word {
-            address: FifoControl::address(fifo),
-            word: with_uinc(w),
+        FetchStage::Next => read_word(FifoControl::address(c.fifo)),
+        FetchStage::Commit => Ask::Word {
+            address: FifoControl::address(c.fifo),
+            word: with_uinc(c.w),
         },
         _ => Ask::Nothing,
     }
 }
 
-pub fn fetch_ask(s: Fetch) -> Ask
-    ensures { λ r. ⌜ r ≡ askOf s ⌝ }
+pub fn fetch_step(c: FetchNumbers, answer: Answer, rx: &[u8], body: &mut [u8; 76]) -> FetchNumbers
+    ensures { λ r. ⌜ fetchOf r (now (body .exit)) ≡ stepOf (fetchOf c (now (body .entry))) answer (now (rx .entry)) ⌝ }
 {
-    let at = s.at;
-    ask_at(s.fifo, at)
+    held::hold(c, rx, body);
+    fetch::next_at(c, answer, rx)
 }
 
-pub fn fetch_step(s: Fetch, answer: Answer, rx: &[u8]) -> Fetch
-    ensures { λ r. ⌜ r ≡ stepOf s answer (now (rx .entry)) ⌝ }
+fn stamp_of(c: FetchNumbers) -> Stamp
+    ensures { λ r. ⌜ r ≡ stampIn c ⌝ }
 {
-    let at = s.at;
-    let want = s.want;
-    let h = s.held;
-    let held = held::held_at(at, h, rx);
-    let next = fetch::next_at(want, at, answer, rx);
-    Fetch {
-        fifo: s.fifo,
-        want: want,
-        held: held,
-        at: next,
+    if c.stamped {
+        Stamp::At(c.t)
+    } else {
+        Stamp::None
     }
-}
-
-fn told(next: bool) -> Outcome
-    ensures { λ r. ⌜ r ≡ toldOf next ⌝ }
-{
-    if next { Outcome::Yes } else { Outcome::No }
 }
 
 // As many bytes as the lent buffer is filled with.
-fn found(f: Found) -> Found
-    ensures { λ r. ⌜ r ≡ record { header = f .header; stamp = f .stamp; len = min (f .len) 64 } ⌝ }
+fn found(c: FetchNumbers) -> Found
+    ensures { λ r. ⌜ r ≡ record { header = headerOf (c .a) (c .b); stamp = stampIn c; len = min (c .len) 64 } ⌝ }
 {
-    let h = f.header;
-    let t = f.stamp;
     Found {
-        header: h,
-        stamp: t,
-        len: held::at_most_64(f.len as usize) as u8,
+        header: header::header_of(c.a, c.b),
+        stamp: stamp_of(c),
+        len: held::at_most_64(c.len as usize) as u8,
     }
 }
 
-pub fn fetch_outcome(s: Fetch) -> Outcome
-    ensures { λ r. ⌜ r ≡ outcomeOf s ⌝ }
+pub fn fetch_outcome(c: FetchNumbers) -> Outcome
+    ensures { λ r. ⌜ FetchEnds c r ⌝ }
 {
-    let at = s.at;
-    match at {
-        FetchAt::Done(f) => Outcome::Message(found(f)),
-        FetchAt::Empty => Outcome::Empty,
-        FetchAt::Told(next) => told(next),
-        FetchAt::Refused(r) => Outcome::Refused(r),
+    let stage = c.stage;
+    let why = c.why;
+    match stage {
+        FetchStage::Done => Outcome::Message(found(c)),
+        FetchStage::Empty => Outcome::Empty,
+        FetchStage::Yes => Outcome::Yes,
+        FetchStage::No => Outcome::No,
+        FetchStage::Refused => Outcome::Refused(why),
         _ => Outcome::Running,
     }
 }
 
 // The payload of a call that is done with a message goes to the front of the lent buffer; no other byte is changed, and none
 // where the call is not done with a message or the buffer is too small.
-pub fn fetch_fill(s: Fetch, buf: &mut [u8])
-    ensures { λ _. ⌜ now (buf .exit) ≡ filledBy s (now (buf .entry)) ⌝ }
+pub fn fetch_fill(c: FetchNumbers, body: &[u8; 76], buf: &mut [u8])
+    ensures { λ _. ⌜ now (buf .exit) ≡ filledBy (fetchOf c (now (body .entry))) (now (buf .entry)) ⌝ }
 {
-    let at = s.at;
-    let h = s.held;
-    let n = held::size_at(at);
-    held::pour(h, n, buf);
+    let n = held::size_of(c);
+    held::pour(body, n, buf);
+}
+
+// How the call ended, with the lent buffer filled; 28 where that is too small for a message.
+pub fn fetch_finish(c: FetchNumbers, body: &[u8; 76], buf: &mut [u8]) -> Outcome
+    ensures { λ r. ⌜ (r ≡ finishedAs (fetchOf c (now (body .entry))) (length (now (buf .entry)))) × (now (buf .exit) ≡ filledBy (fetchOf c (now (body .entry))) (now (buf .entry))) ⌝ }
+{
+    let room = buf.len();
+    let stage = c.stage;
+    fetch_fill(c, body, buf);
+    match stage {
+        FetchStage::Done => {
+            if room < 64 {
+                Outcome::Refused(Refusal::BufferTooSmall)
+            } else {
+                fetch_outcome(c)
+            }
+        }
+        _ => fetch_outcome(c),
+    }
 }
