@@ -1,71 +1,21 @@
+-- `register::register_ask` meets its contract.
+-- Assumes nothing.
+use mathlib.Core.List.{[]}
 use borrow.Author.Needs.{needs}
+use Rattle.spi.specs.declared.ask.Answer.{Answer}
+use Rattle.register.specs.Step.{askOf}
+use Rattle.register.proofs.Arms.{others}
 use Rattle.register.proofs.register_ask.Statement.{statement}
 use Rattle.register.proofs.register_ask.Tie as tie
-use Rattle.register.proofs.register_ask.Reads as reads
-use Rattle.register.proofs.register_ask.Lts as lts
-use Rattle.configuration.proofs.can_control.CanControl.address.Reads as address-reads
-
--- src/lib.rt:124:33
-enum-told : tie.Need-enum-told
-enum-told c = search needs
-
--- src/lib.rt:125:32
-enum-told-2 : tie.Need-enum-told-2
-enum-told-2 c = search needs
-
--- src/lib.rt:126:33
-enum-told-3 : tie.Need-enum-told-3
-enum-told-3 c = search needs
-
--- src/lib.rt:127:35
-enum-told-4 : tie.Need-enum-told-4
-enum-told-4 c = search needs
-
--- src/lib.rt:129:22
-enum-told-5 : tie.Need-enum-told-5
-enum-told-5 c = search needs
-
--- src/lib.rt:129:22
-address-requires : tie.Need-address-requires
-address-requires c κs = search needs
-
--- src/lib.rt:119:1
-returns : tie.Need-returns
-returns c = ?
-
--- src/lib.rt:119:1
-returns-2 : tie.Need-returns-2
-returns-2 c = ?
-
--- src/lib.rt:119:1
-returns-3 : tie.Need-returns-3
-returns-3 c = ?
-
--- src/lib.rt:119:1
-returns-4 : tie.Need-returns-4
-returns-4 c = ?
-
--- src/lib.rt:119:1
-returns-5 : tie.Need-returns-5
-returns-5 c = ?
-
--- src/lib.rt:119:1
-returns-6 : tie.Need-returns-6
-returns-6 c = ?
 
 pub register-ask-spec : {M : Type 1} → statement M
+unfolding askOf
 register-ask-spec =
     tie.close
-    (tie.spec
-    enum-told
-    enum-told-2
-    enum-told-3
-    enum-told-4
-    enum-told-5
-    address-requires
-    returns
-    returns-2
-    returns-3
-    returns-4
-    returns-5
-    returns-6)
+    (tie.spec (search needs) (search needs) (search needs) (search needs) (search needs) (λ c κs. search needs)
+    (λ c. simp (c .enum-told .given .1))
+    (λ c. simp (c .enum-told2 .given .1))
+    (λ c. simp (c .enum-told3 .given .1))
+    (λ c. simp (c .enum-told4 .given .1))
+    (λ c. simp (c .address .ensures, c .before .enum-told5 .given .1))
+    (λ c. others _ _ _ _ Answer.Waited [] (c .before .args .c .stage) .1 (c .match .keys6)))
