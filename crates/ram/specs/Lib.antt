@@ -1,3 +1,4 @@
 pub mod Echo
+pub mod Numbers
 pub mod Step
 pub mod Talk

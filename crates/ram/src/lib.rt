@@ -1,10 +1,13 @@
 // The calls on RAM: read, write, and the echo of 32 words by which the line is tried.
 ghost use mathlib.Core.Path.{_≡_};
+ghost use Prim.Native.Nat.{_<_, _^_};
+ghost use lib.ListN.{length};
 ghost use Rattle.spi.specs.Reply.{doneReply};
 ghost use Rattle.spi.specs.Talk.{onDone};
 ghost use Rattle.spi.specs.declared.refusal.Refusal.{Refusal};
-ghost use Rattle.ram.specs.Echo.{echoBytes};
-ghost use Rattle.ram.specs.Step.{inside, readStart, writeStart, afterEcho, stepOf, askOf, outcomeOf, filledPart, filledBy};
+ghost use Rattle.ram.specs.Echo.{echoBytes, same};
+ghost use Rattle.ram.specs.Numbers.{atStage, ramOf};
+ghost use Rattle.ram.specs.Step.{inside, readStart, writeStart, afterEcho, stepOf, askOf, outcomeOf, filledPart, filledBy, finishedPart, finishedAs};
 ghost use Rattle.ram.specs.declared.RamCall.{RamCall};
 use call::Outcome;
 use spi::Answer;
@@ -17,7 +20,7 @@ const ECHO_ADDRESS: u16 = 0x400;
 
 const ECHO_LEN: usize = 128;
 
-// Where a call stands.
+// Where a call stands, of which the definitions speak.
 pub enum RamCall {
     // The address, the place in the lent buffer, how many bytes.
     Read(u16, usize, usize),
@@ -31,6 +34,50 @@ pub enum RamCall {
     Refused(Refusal),
 }
 
+pub enum RamStage {
+    Read,
+    Received,
+    Write,
+    EchoWrite,
+    EchoRead,
+    Done,
+    Refused,
+}
+
+// Where a call stands, in plain numbers. `m`: the address; `place`: where in the lent buffer the bytes go that are read; `count`: how
+// many bytes are read or written. A stage looks only at those that it needs.
+pub struct RamNumbers {
+    pub stage: RamStage,
+    pub m: u16,
+    pub place: usize,
+    pub count: usize,
+    pub why: Refusal,
+}
+
+fn refused(why: Refusal) -> RamNumbers
+    ensures { λ r. ⌜ ramOf r ≡ RamCall.Refused why ⌝ }
+{
+    RamNumbers {
+        stage: RamStage::Refused,
+        m: 0,
+        place: 0,
+        count: 0,
+        why,
+    }
+}
+
+fn at_stage(stage: RamStage, m: u16, place: usize, count: usize) -> RamNumbers
+    ensures { λ r. ⌜ ramOf r ≡ atStage stage m place count Refusal.WrongAnswer ⌝ }
+{
+    RamNumbers {
+        stage,
+        m,
+        place,
+        count,
+        why: Refusal::WrongAnswer,
+    }
+}
+
 // Whether a part lies inside a buffer of `room` bytes; the sum of the two could wrap.
 fn is_inside(place: usize, count: usize, room: usize) -> bool
     ensures { λ r. ⌜ r ≡ inside place count room ⌝ }
@@ -42,33 +89,41 @@ fn is_inside(place: usize, count: usize, room: usize) -> bool
 }
 
 // The buffer is tested before the address.
-pub fn read_ram_start(address: u32, room: usize, place: usize, count: usize) -> RamCall
-    ensures { λ r. ⌜ r ≡ readStart address room place count ⌝ }
+pub fn read_ram_start(address: u32, room: usize, place: usize, count: usize) -> RamNumbers
+    ensures { λ r. ⌜ ramOf r ≡ readStart address room place count ⌝ }
 {
     if is_inside(place, count, room) {
         match spi::read_access(address, count) {
-            Done::Good => RamCall::Read(address as u16, place, count),
-            Done::Bad(r) => RamCall::Refused(r),
+            Done::Good => at_stage(RamStage::Read, address as u16, place, count),
+            Done::Bad(r) => refused(r),
         }
     } else {
-        RamCall::Refused(Refusal::BufferTooSmall)
+        refused(Refusal::BufferTooSmall)
     }
 }
 
 // The bytes to write are the call's body: the caller lends them when they are sent.
-pub fn write_ram_start(address: u32, count: usize) -> RamCall
-    ensures { λ r. ⌜ r ≡ writeStart address count ⌝ }
+pub fn write_ram_start(address: u32, count: usize) -> RamNumbers
+    ensures { λ r. ⌜ ramOf r ≡ writeStart address count ⌝ }
 {
     match spi::write_access(address, count) {
-        Done::Good => RamCall::Write(address as u16, count),
-        Done::Bad(r) => RamCall::Refused(r),
+        Done::Good => at_stage(RamStage::Write, address as u16, 0, count),
+        Done::Bad(r) => refused(r),
     }
 }
 
-pub fn verify_long_start() -> RamCall
-    ensures { λ r. ⌜ r ≡ RamCall.EchoWrite ⌝ }
+pub fn verify_long_start() -> RamNumbers
+    ensures { λ r. ⌜ ramOf r ≡ RamCall.EchoWrite ⌝ }
 {
-    RamCall::EchoWrite
+    at_stage(RamStage::EchoWrite, 0, 0, 0)
+}
+
+// Word i of an echo: one bit is set.
+fn echo_word(i: usize) -> u32
+    requires { ⌜ i < 32 ⌝ }
+    ensures { λ r. ⌜ r ≡ 2 ^ i ⌝ }
+{
+    1u32 << i
 }
 
 // The body of an echo: 32 words, each with one bit set.
@@ -78,24 +133,31 @@ pub fn echo_pattern() -> [u8; 128]
     let mut p = [0u8; 128];
     let mut i = 0;
     while i < 32 {
-        let w = words::le_bytes(1u32 << i);
+        let w = words::le_bytes(echo_word(i));
         parts::put_at(&mut p, 4 * i, &w);
         i += 1;
     }
     p
 }
 
-pub fn ram_ask(s: RamCall) -> Ask
-    ensures { λ r. ⌜ r ≡ askOf s ⌝ }
+pub fn ram_ask(c: RamNumbers) -> Ask
+    ensures { λ r. ⌜ r ≡ askOf (ramOf c) ⌝ }
 {
-    match s {
-        RamCall::Read(address, _, count) => Ask::Read { address, count },
-        RamCall::Write(address, count) => Ask::Body { address, count },
-        RamCall::EchoWrite => Ask::Body {
+    let stage = c.stage;
+    match stage {
+        RamStage::Read => Ask::Read {
+            address: c.m,
+            count: c.count,
+        },
+        RamStage::Write => Ask::Body {
+            address: c.m,
+            count: c.count,
+        },
+        RamStage::EchoWrite => Ask::Body {
             address: ECHO_ADDRESS,
             count: ECHO_LEN,
         },
-        RamCall::EchoRead => Ask::Read {
+        RamStage::EchoRead => Ask::Read {
             address: ECHO_ADDRESS,
             count: ECHO_LEN,
         },
@@ -103,14 +165,30 @@ pub fn ram_ask(s: RamCall) -> Ask
     }
 }
 
-fn after_echo(rx: &[u8]) -> RamCall
-    ensures { λ r. ⌜ r ≡ afterEcho (now (rx .entry)) ⌝ }
+// Whether what was read back is the pattern: word by word, so that no pattern is made.
+fn is_echo(rx: &[u8]) -> bool
+    ensures { λ r. ⌜ r ≡ same (now (rx .entry)) echoBytes ⌝ }
 {
-    let p = echo_pattern();
-    if parts::same(rx, &p) {
-        RamCall::Done
+    if rx.len() != ECHO_LEN {
+        return false;
+    }
+    let mut i = 0;
+    while i < 32 {
+        if words::le_at(rx, 4 * i) != echo_word(i) {
+            return false;
+        }
+        i += 1;
+    }
+    true
+}
+
+fn after_echo(rx: &[u8]) -> RamNumbers
+    ensures { λ r. ⌜ ramOf r ≡ afterEcho (now (rx .entry)) ⌝ }
+{
+    if is_echo(rx) {
+        at_stage(RamStage::Done, 0, 0, 0)
     } else {
-        RamCall::Refused(Refusal::SpiFailedRamEcho)
+        refused(Refusal::SpiFailedRamEcho)
     }
 }
 
@@ -121,62 +199,84 @@ fn echo_reply(answer: Answer, got: usize, want: usize) -> Done
     spi::done_reply(Refusal::ConfigurationModeTimeout, answer, got, want)
 }
 
-fn when_done(reply: Done, then: RamCall) -> RamCall
-    ensures { λ r. ⌜ r ≡ onDone RamCall.Refused reply then ⌝ }
+fn when_done(reply: Done, stage: RamStage, place: usize, count: usize) -> RamNumbers
+    ensures { λ r. ⌜ ramOf r ≡ onDone RamCall.Refused reply (atStage stage 0 place count Refusal.WrongAnswer) ⌝ }
 {
     match reply {
-        Done::Good => then,
-        Done::Bad(r) => RamCall::Refused(r),
+        Done::Good => at_stage(stage, 0, place, count),
+        Done::Bad(r) => refused(r),
+    }
+}
+
+fn when_echoed(reply: Done, rx: &[u8]) -> RamNumbers
+    ensures { λ r. ⌜ ramOf r ≡ onDone RamCall.Refused reply (afterEcho (now (rx .entry))) ⌝ }
+{
+    match reply {
+        Done::Good => after_echo(rx),
+        Done::Bad(r) => refused(r),
     }
 }
 
 // A failed read is told as 1, a failed write as 2.
-pub fn ram_step(s: RamCall, answer: Answer, rx: &[u8]) -> RamCall
-    ensures { λ r. ⌜ r ≡ stepOf s answer (now (rx .entry)) ⌝ }
+pub fn ram_step(c: RamNumbers, answer: Answer, rx: &[u8]) -> RamNumbers
+    ensures { λ r. ⌜ ramOf r ≡ stepOf (ramOf c) answer (now (rx .entry)) ⌝ }
 {
-    match s {
-        RamCall::Read(_, place, count) => when_done(
-            spi::done_reply(Refusal::SpiRead, answer, rx.len(), count),
-            RamCall::Received(place, count),
+    let stage = c.stage;
+    match stage {
+        RamStage::Read => when_done(
+            spi::done_reply(Refusal::SpiRead, answer, rx.len(), c.count),
+            RamStage::Received,
+            c.place,
+            c.count,
         ),
-        RamCall::Write(_, _) => when_done(
+        RamStage::Write => when_done(
             spi::done_reply(Refusal::SpiWrite, answer, rx.len(), 0),
-            RamCall::Done,
+            RamStage::Done,
+            0,
+            0,
         ),
-        RamCall::EchoWrite => when_done(echo_reply(answer, rx.len(), 0), RamCall::EchoRead),
-        RamCall::EchoRead => when_done(echo_reply(answer, rx.len(), ECHO_LEN), after_echo(rx)),
-        _ => RamCall::Refused(Refusal::WrongAnswer),
+        RamStage::EchoWrite => when_done(echo_reply(answer, rx.len(), 0), RamStage::EchoRead, 0, 0),
+        RamStage::EchoRead => when_echoed(echo_reply(answer, rx.len(), ECHO_LEN), rx),
+        _ => refused(Refusal::WrongAnswer),
     }
 }
 
-pub fn ram_outcome(s: RamCall) -> Outcome
-    ensures { λ r. ⌜ r ≡ outcomeOf s ⌝ }
+pub fn ram_outcome(c: RamNumbers) -> Outcome
+    ensures { λ r. ⌜ r ≡ outcomeOf (ramOf c) ⌝ }
 {
-    match s {
-        RamCall::Received(_, _) => Outcome::Done,
-        RamCall::Done => Outcome::Done,
-        RamCall::Refused(r) => Outcome::Refused(r),
+    let stage = c.stage;
+    let why = c.why;
+    match stage {
+        RamStage::Received => Outcome::Done,
+        RamStage::Done => Outcome::Done,
+        RamStage::Refused => Outcome::Refused(why),
         _ => Outcome::Running,
     }
 }
 
-// The buffer is tested again, as it is lent again.
-fn fill_part(place: usize, count: usize, rx: &[u8], buf: &mut [u8])
-    ensures { λ _. ⌜ now (buf .exit) ≡ filledPart place count (now (rx .entry)) (now (buf .entry)) ⌝ }
+// The buffer is tested again, as it is lent again, and then the bytes, as they are shown again.
+fn finish_part(place: usize, count: usize, rx: &[u8], buf: &mut [u8]) -> Outcome
+    ensures { λ r. ⌜ (r ≡ finishedPart place count (length (now (rx .entry))) (length (now (buf .entry)))) × (now (buf .exit) ≡ filledPart place count (now (rx .entry)) (now (buf .entry))) ⌝ }
 {
-    if rx.len() == count {
-        if is_inside(place, count, buf.len()) {
+    if is_inside(place, count, buf.len()) {
+        if rx.len() == count {
             parts::put_at(buf, place, rx);
+            Outcome::Done
+        } else {
+            Outcome::Refused(Refusal::WrongAnswer)
         }
+    } else {
+        Outcome::Refused(Refusal::BufferTooSmall)
     }
 }
 
 // What a read received goes to its part of the lent buffer; any other call changes no byte.
-pub fn ram_fill(s: RamCall, rx: &[u8], buf: &mut [u8])
-    ensures { λ _. ⌜ now (buf .exit) ≡ filledBy s (now (rx .entry)) (now (buf .entry)) ⌝ }
+pub fn ram_finish(c: RamNumbers, rx: &[u8], buf: &mut [u8]) -> Outcome
+    ensures { λ r. ⌜ (r ≡ finishedAs (ramOf c) (length (now (rx .entry))) (length (now (buf .entry)))) × (now (buf .exit) ≡ filledBy (ramOf c) (now (rx .entry)) (now (buf .entry))) ⌝ }
 {
-    match s {
-        RamCall::Received(place, count) => fill_part(place, count, rx, buf),
-        _ => {}
+    let stage = c.stage;
+    match stage {
+        RamStage::Received => finish_part(c.place, c.count, rx, buf),
+        _ => ram_outcome(c),
     }
 }

@@ -1,6 +1,8 @@
 // The calls on a register as a whole: reset, read, write, checked read, and the mode that CiCON shows.
 ghost use mathlib.Core.Path.{_≡_};
 ghost use Rattle.spi.specs.Talk.{onDone, onWord, onChecked};
+ghost use Rattle.spi.specs.declared.refusal.Refusal.{Refusal};
+ghost use Rattle.register.specs.Numbers.{atStage, registerOf};
 ghost use Rattle.register.specs.Step.{addressed, afterMismatch, afterMode, stepOf, askOf, outcomeOf, readStart, writeStart, checkedStart};
 ghost use Rattle.register.specs.declared.RegisterCall.{RegisterCall};
 use call::Outcome;
@@ -12,7 +14,7 @@ use spi::Done;
 use spi::OneWord;
 use spi::Refusal;
 
-// Where a call stands.
+// Where a call stands, of which the definitions speak.
 pub enum RegisterCall {
     Reset,
     Read(u16),
@@ -26,57 +28,104 @@ pub enum RegisterCall {
     Refused(Refusal),
 }
 
-// An address has 12 bits in a command, and one that is wider is refused before any exchange.
-fn at_address(address: u16, call: RegisterCall) -> RegisterCall
-    ensures { λ r. ⌜ r ≡ addressed address call ⌝ }
+pub enum RegisterStage {
+    Reset,
+    Read,
+    Write,
+    Checked,
+    Mode,
+    Done,
+    Word,
+    OpMode,
+    Refused,
+}
+
+// Where a call stands, in plain numbers. `m`: the address; `w`: the word to write, or that was read, or the mode; `more`: how many
+// mismatches more are followed by another try. A stage looks only at those that it needs.
+pub struct RegisterNumbers {
+    pub stage: RegisterStage,
+    pub m: u16,
+    pub w: u32,
+    pub more: u8,
+    pub why: Refusal,
+}
+
+fn refused(why: Refusal) -> RegisterNumbers
+    ensures { λ r. ⌜ registerOf r ≡ RegisterCall.Refused why ⌝ }
 {
-    if address < 0x1000 {
-        call
-    } else {
-        RegisterCall::Refused(Refusal::BadSetting)
+    RegisterNumbers {
+        stage: RegisterStage::Refused,
+        m: 0,
+        w: 0,
+        more: 0,
+        why,
     }
 }
 
-pub fn reset_start() -> RegisterCall
-    ensures { λ r. ⌜ r ≡ RegisterCall.Reset ⌝ }
+fn at_stage(stage: RegisterStage, m: u16, w: u32, more: u8) -> RegisterNumbers
+    ensures { λ r. ⌜ registerOf r ≡ atStage stage m w more Refusal.WrongAnswer ⌝ }
 {
-    RegisterCall::Reset
+    RegisterNumbers {
+        stage,
+        m,
+        w,
+        more,
+        why: Refusal::WrongAnswer,
+    }
 }
 
-pub fn read_start(address: u16) -> RegisterCall
-    ensures { λ r. ⌜ r ≡ readStart address ⌝ }
+// An address has 12 bits in a command, and one that is wider is refused before any exchange.
+fn at_address(address: u32, stage: RegisterStage, w: u32, more: u8) -> RegisterNumbers
+    ensures { λ r. ⌜ registerOf r ≡ addressed address (atStage stage address w more Refusal.WrongAnswer) ⌝ }
 {
-    at_address(address, RegisterCall::Read(address))
+    if address < 0x1000 {
+        at_stage(stage, address as u16, w, more)
+    } else {
+        refused(Refusal::BadSetting)
+    }
 }
 
-pub fn write_start(address: u16, word: u32) -> RegisterCall
-    ensures { λ r. ⌜ r ≡ writeStart address word ⌝ }
+pub fn reset_start() -> RegisterNumbers
+    ensures { λ r. ⌜ registerOf r ≡ RegisterCall.Reset ⌝ }
 {
-    at_address(address, RegisterCall::Write(address, word))
+    at_stage(RegisterStage::Reset, 0, 0, 0)
+}
+
+pub fn read_start(address: u32) -> RegisterNumbers
+    ensures { λ r. ⌜ registerOf r ≡ readStart address ⌝ }
+{
+    at_address(address, RegisterStage::Read, 0, 0)
+}
+
+pub fn write_start(address: u32, word: u32) -> RegisterNumbers
+    ensures { λ r. ⌜ registerOf r ≡ writeStart address word ⌝ }
+{
+    at_address(address, RegisterStage::Write, word, 0)
 }
 
 // Three tries: two mismatches are followed by another.
-pub fn checked_start(address: u16) -> RegisterCall
-    ensures { λ r. ⌜ r ≡ checkedStart address ⌝ }
+pub fn checked_start(address: u32) -> RegisterNumbers
+    ensures { λ r. ⌜ registerOf r ≡ checkedStart address ⌝ }
 {
-    at_address(address, RegisterCall::Checked(address, 2))
+    at_address(address, RegisterStage::Checked, 0, 2)
 }
 
-pub fn get_op_mode_start() -> RegisterCall
-    ensures { λ r. ⌜ r ≡ RegisterCall.Mode ⌝ }
+pub fn get_op_mode_start() -> RegisterNumbers
+    ensures { λ r. ⌜ registerOf r ≡ RegisterCall.Mode ⌝ }
 {
-    RegisterCall::Mode
+    at_stage(RegisterStage::Mode, 0, 0, 0)
 }
 
-pub fn register_ask(s: RegisterCall) -> Ask
-    ensures { λ r. ⌜ r ≡ askOf s ⌝ }
+pub fn register_ask(c: RegisterNumbers) -> Ask
+    ensures { λ r. ⌜ r ≡ askOf (registerOf c) ⌝ }
 {
-    match s {
-        RegisterCall::Reset => Ask::Reset,
-        RegisterCall::Read(address) => Ask::Read { address, count: 4 },
-        RegisterCall::Write(address, word) => Ask::Word { address, word },
-        RegisterCall::Checked(address, _) => Ask::Checked { address },
-        RegisterCall::Mode => Ask::Read {
+    let stage = c.stage;
+    match stage {
+        RegisterStage::Reset => Ask::Reset,
+        RegisterStage::Read => Ask::Read { address: c.m, count: 4 },
+        RegisterStage::Write => Ask::Word { address: c.m, word: c.w },
+        RegisterStage::Checked => Ask::Checked { address: c.m },
+        RegisterStage::Mode => Ask::Read {
             address: CanControl::address(),
             count: 4,
         },
@@ -84,79 +133,82 @@ pub fn register_ask(s: RegisterCall) -> Ask
     }
 }
 
-fn after_mismatch(address: u16, left: u8) -> RegisterCall
-    ensures { λ r. ⌜ r ≡ afterMismatch address left ⌝ }
+fn after_mismatch(m: u16, more: u8) -> RegisterNumbers
+    ensures { λ r. ⌜ registerOf r ≡ afterMismatch m more ⌝ }
 {
-    if left == 0 {
-        RegisterCall::Refused(Refusal::CrcMismatch)
+    if more == 0 {
+        refused(Refusal::CrcMismatch)
     } else {
-        RegisterCall::Checked(address, left - 1)
+        at_stage(RegisterStage::Checked, m, 0, more - 1)
     }
 }
 
-fn ended(reply: Done) -> RegisterCall
-    ensures { λ r. ⌜ r ≡ onDone RegisterCall.Refused reply RegisterCall.Done ⌝ }
+fn ended(reply: Done) -> RegisterNumbers
+    ensures { λ r. ⌜ registerOf r ≡ onDone RegisterCall.Refused reply RegisterCall.Done ⌝ }
 {
     match reply {
-        Done::Good => RegisterCall::Done,
-        Done::Bad(r) => RegisterCall::Refused(r),
+        Done::Good => at_stage(RegisterStage::Done, 0, 0, 0),
+        Done::Bad(r) => refused(r),
     }
 }
 
-fn when_read(reply: OneWord) -> RegisterCall
-    ensures { λ r. ⌜ r ≡ onWord RegisterCall.Refused reply RegisterCall.Word ⌝ }
+fn when_read(reply: OneWord) -> RegisterNumbers
+    ensures { λ r. ⌜ registerOf r ≡ onWord RegisterCall.Refused reply RegisterCall.Word ⌝ }
 {
     match reply {
-        OneWord::Word(w) => RegisterCall::Word(w),
-        OneWord::Bad(r) => RegisterCall::Refused(r),
+        OneWord::Word(w) => at_stage(RegisterStage::Word, 0, w, 0),
+        OneWord::Bad(r) => refused(r),
     }
 }
 
-fn when_mode_read(reply: OneWord) -> RegisterCall
-    ensures { λ r. ⌜ r ≡ onWord RegisterCall.Refused reply afterMode ⌝ }
+fn when_mode_read(reply: OneWord) -> RegisterNumbers
+    ensures { λ r. ⌜ registerOf r ≡ onWord RegisterCall.Refused reply afterMode ⌝ }
 {
     match reply {
-        OneWord::Word(w) => RegisterCall::OpMode(CanControl(w).opmod()),
-        OneWord::Bad(r) => RegisterCall::Refused(r),
+        OneWord::Word(w) => at_stage(RegisterStage::OpMode, 0, CanControl(w).opmod(), 0),
+        OneWord::Bad(r) => refused(r),
     }
 }
 
-fn when_checked(address: u16, left: u8, reply: CheckedWord) -> RegisterCall
-    ensures { λ r. ⌜ r ≡ onChecked RegisterCall.Refused reply (afterMismatch address left) RegisterCall.Word ⌝ }
+fn when_checked(m: u16, more: u8, reply: CheckedWord) -> RegisterNumbers
+    ensures { λ r. ⌜ registerOf r ≡ onChecked RegisterCall.Refused reply (afterMismatch m more) RegisterCall.Word ⌝ }
 {
     match reply {
-        CheckedWord::Word(w) => RegisterCall::Word(w),
-        CheckedWord::Mismatch => after_mismatch(address, left),
-        CheckedWord::Bad(r) => RegisterCall::Refused(r),
+        CheckedWord::Word(w) => at_stage(RegisterStage::Word, 0, w, 0),
+        CheckedWord::Mismatch => after_mismatch(m, more),
+        CheckedWord::Bad(r) => refused(r),
     }
 }
 
 // A failed reset is told as 2, every other failed exchange as 1: a register write too.
-pub fn register_step(s: RegisterCall, answer: Answer, rx: &[u8]) -> RegisterCall
-    ensures { λ r. ⌜ r ≡ stepOf s answer (now (rx .entry)) ⌝ }
+pub fn register_step(c: RegisterNumbers, answer: Answer, rx: &[u8]) -> RegisterNumbers
+    ensures { λ r. ⌜ registerOf r ≡ stepOf (registerOf c) answer (now (rx .entry)) ⌝ }
 {
-    match s {
-        RegisterCall::Reset => ended(spi::done_reply(Refusal::SpiWrite, answer, rx.len(), 0)),
-        RegisterCall::Read(_) => when_read(spi::word_reply(Refusal::SpiRead, answer, rx)),
-        RegisterCall::Write(_, _) => ended(spi::done_reply(Refusal::SpiRead, answer, rx.len(), 0)),
-        RegisterCall::Checked(address, left) => when_checked(
-            address,
-            left,
-            spi::crc_reply(Refusal::SpiRead, address, answer, rx),
+    let stage = c.stage;
+    match stage {
+        RegisterStage::Reset => ended(spi::done_reply(Refusal::SpiWrite, answer, rx.len(), 0)),
+        RegisterStage::Read => when_read(spi::word_reply(Refusal::SpiRead, answer, rx)),
+        RegisterStage::Write => ended(spi::done_reply(Refusal::SpiRead, answer, rx.len(), 0)),
+        RegisterStage::Checked => when_checked(
+            c.m,
+            c.more,
+            spi::crc_reply(Refusal::SpiRead, c.m, answer, rx),
         ),
-        RegisterCall::Mode => when_mode_read(spi::word_reply(Refusal::SpiRead, answer, rx)),
-        _ => RegisterCall::Refused(Refusal::WrongAnswer),
+        RegisterStage::Mode => when_mode_read(spi::word_reply(Refusal::SpiRead, answer, rx)),
+        _ => refused(Refusal::WrongAnswer),
     }
 }
 
-pub fn register_outcome(s: RegisterCall) -> Outcome
-    ensures { λ r. ⌜ r ≡ outcomeOf s ⌝ }
+pub fn register_outcome(c: RegisterNumbers) -> Outcome
+    ensures { λ r. ⌜ r ≡ outcomeOf (registerOf c) ⌝ }
 {
-    match s {
-        RegisterCall::Done => Outcome::Done,
-        RegisterCall::Word(w) => Outcome::Word(w),
-        RegisterCall::OpMode(m) => Outcome::Mode(m),
-        RegisterCall::Refused(r) => Outcome::Refused(r),
+    let stage = c.stage;
+    let why = c.why;
+    match stage {
+        RegisterStage::Done => Outcome::Done,
+        RegisterStage::Word => Outcome::Word(c.w),
+        RegisterStage::OpMode => Outcome::Mode(c.w),
+        RegisterStage::Refused => Outcome::Refused(why),
         _ => Outcome::Running,
     }
 }

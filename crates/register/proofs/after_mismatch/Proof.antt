@@ -10,6 +10,6 @@ pub after-mismatch-spec : {M : Type 1} → statement M
 unfolding afterMismatch
 after-mismatch-spec =
     tie.close
-    (tie.spec (search needs)
-    (λ c. simp (eq-eqb _ _ (c .if1 .taken)))
-    (λ c. simp (ne-eqb _ _ (c .if1 .left))))
+    (tie.spec (λ c κs. search needs) (search needs) (λ c κs. search needs)
+    (λ c. simp (c .refused .ensures, eq-eqb _ _ (c .before .if1 .taken)))
+    (λ c. simp (c .at-stage .ensures, ne-eqb _ _ (c .before .if1 .left))))

@@ -7,6 +7,6 @@ use Rattle.register.proofs.ended.Tie as tie
 pub ended-spec : {M : Type 1} → statement M
 ended-spec =
     tie.close
-    (tie.spec (search needs) (search needs)
-    (λ c. simp (c .enum-told .given .1))
-    (λ c. simp (c .before .reply .given .1)))
+    (tie.spec (search needs) (λ c κs. search needs) (search needs) (λ c κs. search needs)
+    (λ c. simp (c .at-stage .ensures, c .before .enum-told .given .1))
+    (λ c. simp (c .refused .ensures, c .before .before .reply .given .1)))

@@ -14,8 +14,8 @@ register-ask-spec =
     tie.close
     (tie.spec (search needs) (search needs) (search needs) (search needs) (search needs) (λ c κs. search needs)
     (λ c. simp (c .enum-told .given .1))
-    (λ c. simp (c .before .s .given .1))
-    (λ c. simp (c .before .s2 .given .1))
-    (λ c. simp (c .before .s3 .given .1))
-    (λ c. simp (c .address .ensures, c .before .enum-told2 .given .1))
-    (λ c. others Answer.Waited [] (c .before .args .s) .1 (c .match .keys6)))
+    (λ c. simp (c .enum-told2 .given .1))
+    (λ c. simp (c .enum-told3 .given .1))
+    (λ c. simp (c .enum-told4 .given .1))
+    (λ c. simp (c .address .ensures, c .before .enum-told5 .given .1))
+    (λ c. others _ _ _ _ Answer.Waited [] (c .before .args .c .stage) .1 (c .match .keys6)))

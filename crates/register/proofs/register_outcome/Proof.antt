@@ -14,7 +14,7 @@ register-outcome-spec =
     tie.close
     (tie.spec (search needs) (search needs) (search needs) (search needs)
     (λ c. simp (c .enum-told .given .1))
-    (λ c. simp (c .before .s .given .1))
-    (λ c. simp (c .before .s2 .given .1))
-    (λ c. simp (c .before .s3 .given .1))
-    (λ c. others Answer.Waited [] (c .before .args .s) .2 (c .match .keys5)))
+    (λ c. simp (c .enum-told2 .given .1))
+    (λ c. simp (c .enum-told3 .given .1))
+    (λ c. simp (c .enum-told4 .given .1))
+    (λ c. others _ _ _ _ Answer.Waited [] (c .before .args .c .stage) .2 (c .match .keys5)))

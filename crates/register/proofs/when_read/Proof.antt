@@ -7,6 +7,6 @@ use Rattle.register.proofs.when_read.Tie as tie
 pub when-read-spec : {M : Type 1} → statement M
 when-read-spec =
     tie.close
-    (tie.spec (search needs) (search needs)
-    (λ c. simp (c .before .reply .given .1))
-    (λ c. simp (c .before .reply2 .given .1)))
+    (tie.spec (search needs) (λ c κs. search needs) (search needs) (λ c κs. search needs)
+    (λ c. simp (c .at-stage .ensures, c .before .before .reply .given .1))
+    (λ c. simp (c .refused .ensures, c .before .before .reply2 .given .1)))
