@@ -3,6 +3,8 @@ mod push;
 
 pub use push::Push;
 pub use push::PushAt;
+pub use push::PushNumbers;
+pub use push::PushStage;
 pub use push::push_ask;
 pub use push::push_done;
 pub use push::push_outcome;

@@ -1,11 +1,13 @@
 // The push call: control, status and user address are read, the object is written to RAM, and control is written back as first
 // read with UINC.
 ghost use mathlib.Core.Path.{_≡_};
+ghost use mathlib.Core.List.{[]};
 ghost use Rattle.message.specs.Structs.{encodedAs};
-ghost use Rattle.spi.specs.Reply.{doneReply};
 ghost use Rattle.spi.specs.Talk.{onWord, onDone};
 ghost use Rattle.tx_fifo.specs.declared.push.PushAt.{PushAt};
-ghost use Rattle.tx_fifo.specs.Step.{encodingFor, firstAt, startOf, afterControl, afterStatus, afterAddress, nextAt, stepOf, askOf, outcomeOf, isDone};
+ghost use Rattle.tx_fifo.specs.declared.push.PushStage.{PushStage};
+ghost use Rattle.tx_fifo.specs.Step.{encodingFor, startOf, afterControl, afterStatus, afterAddress, askOf, outcomeOf, isDone};
+ghost use Rattle.tx_fifo.specs.Numbers.{stageAt, pushOf, PushMoves, PushSteps};
 use call::Outcome;
 use fifo::FifoControl;
 use fifo::FifoStatus;
@@ -45,6 +47,29 @@ pub struct Push {
     pub at: PushAt,
 }
 
+// What the call waits for, as the code has it: what was read stands beside it.
+pub enum PushStage {
+    Control,
+    Status,
+    Address,
+    Write,
+    Commit,
+    Done,
+    Refused,
+}
+
+// `size` is the payload's length and `len` the object's, `w` control as first read, `m` the RAM address, `why` what the call was
+// refused for. The object's bytes lie in a body beside them.
+pub struct PushNumbers {
+    pub stage: PushStage,
+    pub fifo: u8,
+    pub size: usize,
+    pub len: usize,
+    pub w: u32,
+    pub m: u16,
+    pub why: Refusal,
+}
+
 // 20 comes before what the message is refused for.
 fn encoded_for(fifo: u8, header: Header, seq: u32, payload: &[u8]) -> Encoded
     ensures { λ r. ⌜ r ≡ encodedAs (encodingFor fifo header seq (now (payload .entry))) ⌝ }
@@ -63,179 +88,205 @@ fn encoded_for(fifo: u8, header: Header, seq: u32, payload: &[u8]) -> Encoded
     }
 }
 
-fn first_at(d: Done) -> PushAt
-    ensures { λ r. ⌜ r ≡ firstAt d ⌝ }
+pub fn push_start(fifo: u8, header: Header, seq: u32, payload: &[u8], body: &mut [u8; 76]) -> PushNumbers
+    ensures { λ r. ⌜ pushOf r (now (body .exit)) ≡ startOf fifo header seq (now (payload .entry)) ⌝ }
 {
-    match d {
-        Done::Good => PushAt::Control,
-        Done::Bad(r) => PushAt::Refused(r),
-    }
-}
-
-pub fn push_start(fifo: u8, header: Header, seq: u32, payload: &[u8]) -> Push
-    ensures { λ r. ⌜ r ≡ startOf fifo header seq (now (payload .entry)) ⌝ }
-{
+    let size = payload.len();
     let e = encoded_for(fifo, header, seq, payload);
     let d = e.done;
     let o = e.object;
-    Push {
-        fifo: fifo,
-        size: payload.len(),
-        object: o,
-        at: first_at(d),
+    let b = o.bytes;
+    *body = b;
+    match d {
+        Done::Good => PushNumbers {
+            stage: PushStage::Control,
+            fifo: fifo,
+            size: size,
+            len: o.len,
+            w: 0,
+            m: 0,
+            why: Refusal::WrongAnswer,
+        },
+        Done::Bad(r) => PushNumbers {
+            stage: PushStage::Refused,
+            fifo: fifo,
+            size: size,
+            len: o.len,
+            w: 0,
+            m: 0,
+            why: r,
+        },
     }
 }
 
-fn after_control(size: usize, w: u32) -> PushAt
-    ensures { λ r. ⌜ r ≡ afterControl size w ⌝ }
+// The call at another stage.
+fn moved(c: PushNumbers, stage: PushStage, w: u32, m: u16) -> PushNumbers
+    ensures { λ r. ⌜ r ≡ record { stage = stage; fifo = c .fifo; size = c .size; len = c .len; w = w; m = m; why = c .why } ⌝ }
 {
-    if FifoControl(w).txen() {
-        if FifoControl(w).payload_size() < size {
-            PushAt::Refused(Refusal::FifoTooSmall)
-        } else {
-            PushAt::Status(w)
+    let why = c.why;
+    PushNumbers {
+        stage: stage,
+        fifo: c.fifo,
+        size: c.size,
+        len: c.len,
+        w: w,
+        m: m,
+        why: why,
+    }
+}
+
+fn refused(c: PushNumbers, why: Refusal) -> PushNumbers
+    ensures { λ r. ⌜ PushMoves c (PushAt.Refused why) r ⌝ }
+{
+    PushNumbers {
+        stage: PushStage::Refused,
+        fifo: c.fifo,
+        size: c.size,
+        len: c.len,
+        w: c.w,
+        m: c.m,
+        why: why,
+    }
+}
+
+fn on_control(c: PushNumbers, reply: OneWord) -> PushNumbers
+    ensures { λ r. ⌜ PushMoves c (onWord PushAt.Refused reply (afterControl (c .size))) r ⌝ }
+{
+    match reply {
+        OneWord::Word(w) => {
+            if FifoControl(w).txen() {
+                if FifoControl(w).payload_size() < c.size {
+                    refused(c, Refusal::FifoTooSmall)
+                } else {
+                    moved(c, PushStage::Status, w, 0)
+                }
+            } else {
+                refused(c, Refusal::FifoNotTx)
+            }
         }
-    } else {
-        PushAt::Refused(Refusal::FifoNotTx)
+        OneWord::Bad(r) => refused(c, r),
     }
 }
 
-fn after_status(w: u32, v: u32) -> PushAt
-    ensures { λ r. ⌜ r ≡ afterStatus w v ⌝ }
+fn on_status(c: PushNumbers, reply: OneWord) -> PushNumbers
+    ensures { λ r. ⌜ PushMoves c (onWord PushAt.Refused reply (afterStatus (c .w))) r ⌝ }
 {
-    if FifoStatus(v).tfnrfnif() {
-        PushAt::Address(w)
-    } else {
-        PushAt::Refused(Refusal::FifoFull)
+    match reply {
+        OneWord::Word(v) => {
+            if FifoStatus(v).tfnrfnif() {
+                moved(c, PushStage::Address, c.w, 0)
+            } else {
+                refused(c, Refusal::FifoFull)
+            }
+        }
+        OneWord::Bad(r) => refused(c, r),
     }
 }
 
 // Up to 0xFBFF the sum fits an address of 16 bits.
-fn after_address(len: usize, w: u32, u: u32) -> PushAt
-    ensures { λ r. ⌜ r ≡ afterAddress len w u ⌝ }
+fn after_address(c: PushNumbers, u: u32) -> PushNumbers
+    ensures { λ r. ⌜ PushMoves c (afterAddress (c .len) (c .w) u) r ⌝ }
 {
     if 0xFBFF < u {
-        return PushAt::Refused(Refusal::BadUserAddress);
+        return refused(c, Refusal::BadUserAddress);
     }
     let a = u + 0x400;
-    if in_range(a, len) {
-        PushAt::Write(w, a as u16)
+    if in_range(a, c.len) {
+        moved(c, PushStage::Write, c.w, a as u16)
     } else {
-        PushAt::Refused(Refusal::InvalidRamAddress(a))
+        refused(c, Refusal::InvalidRamAddress(a))
     }
 }
 
-fn on_control(size: usize, reply: OneWord) -> PushAt
-    ensures { λ r. ⌜ r ≡ onWord PushAt.Refused reply (afterControl size) ⌝ }
+fn on_address(c: PushNumbers, reply: OneWord) -> PushNumbers
+    ensures { λ r. ⌜ PushMoves c (onWord PushAt.Refused reply (afterAddress (c .len) (c .w))) r ⌝ }
 {
     match reply {
-        OneWord::Word(w) => after_control(size, w),
-        OneWord::Bad(r) => PushAt::Refused(r),
+        OneWord::Word(u) => after_address(c, u),
+        OneWord::Bad(r) => refused(c, r),
     }
 }
 
-fn on_status(w: u32, reply: OneWord) -> PushAt
-    ensures { λ r. ⌜ r ≡ onWord PushAt.Refused reply (afterStatus w) ⌝ }
+fn on_written(c: PushNumbers, reply: Done, next: PushStage) -> PushNumbers
+    ensures { λ r. ⌜ PushMoves c (onDone PushAt.Refused reply (stageAt next c)) r ⌝ }
 {
     match reply {
-        OneWord::Word(v) => after_status(w, v),
-        OneWord::Bad(r) => PushAt::Refused(r),
+        Done::Good => moved(c, next, c.w, c.m),
+        Done::Bad(r) => refused(c, r),
     }
 }
 
-fn on_address(len: usize, w: u32, reply: OneWord) -> PushAt
-    ensures { λ r. ⌜ r ≡ onWord PushAt.Refused reply (afterAddress len w) ⌝ }
+pub fn push_step(c: PushNumbers, answer: Answer, rx: &[u8]) -> PushNumbers
+    ensures { λ r. ⌜ PushSteps c answer (now (rx .entry)) r ⌝ }
 {
-    match reply {
-        OneWord::Word(u) => after_address(len, w, u),
-        OneWord::Bad(r) => PushAt::Refused(r),
+    let stage = c.stage;
+    match stage {
+        PushStage::Control => on_control(c, word_reply(Refusal::SpiRead, answer, rx)),
+        PushStage::Status => on_status(c, word_reply(Refusal::SpiRead, answer, rx)),
+        PushStage::Address => on_address(c, word_reply(Refusal::SpiRead, answer, rx)),
+        PushStage::Write => on_written(
+            c,
+            done_reply(Refusal::SpiWrite, answer, rx.len(), 0),
+            PushStage::Commit,
+        ),
+        PushStage::Commit => on_written(
+            c,
+            done_reply(Refusal::SpiRead, answer, rx.len(), 0),
+            PushStage::Done,
+        ),
+        PushStage::Done => refused(c, Refusal::WrongAnswer),
+        PushStage::Refused => refused(c, Refusal::WrongAnswer),
     }
 }
 
-fn on_written(failed: Refusal, answer: Answer, got: usize, next: PushAt) -> PushAt
-    ensures { λ r. ⌜ r ≡ onDone PushAt.Refused (doneReply failed answer got 0) next ⌝ }
+pub fn push_ask(c: PushNumbers) -> Ask
+    ensures { λ r. ⌜ r ≡ askOf (pushOf c []) ⌝ }
 {
-    match done_reply(failed, answer, got, 0) {
-        Done::Good => next,
-        Done::Bad(r) => PushAt::Refused(r),
-    }
-}
-
-fn next_at(size: usize, len: usize, at: PushAt, answer: Answer, rx: &[u8]) -> PushAt
-    ensures { λ r. ⌜ r ≡ nextAt size len at answer (now (rx .entry)) ⌝ }
-{
-    let got = rx.len();
-    let reply = word_reply(Refusal::SpiRead, answer, rx);
-    match at {
-        PushAt::Control => on_control(size, reply),
-        PushAt::Status(w) => on_status(w, reply),
-        PushAt::Address(w) => on_address(len, w, reply),
-        PushAt::Write(w, _) => on_written(Refusal::SpiWrite, answer, got, PushAt::Commit(w)),
-        PushAt::Commit(_) => on_written(Refusal::SpiRead, answer, got, PushAt::Done),
-        _ => PushAt::Refused(Refusal::WrongAnswer),
-    }
-}
-
-pub fn push_step(s: Push, answer: Answer, rx: &[u8]) -> Push
-    ensures { λ r. ⌜ r ≡ stepOf s answer (now (rx .entry)) ⌝ }
-{
-    let at = s.at;
-    let o = s.object;
-    let n = next_at(s.size, o.len, at, answer, rx);
-    Push {
-        fifo: s.fifo,
-        size: s.size,
-        object: o,
-        at: n,
-    }
-}
-
-pub fn push_ask(s: Push) -> Ask
-    ensures { λ r. ⌜ r ≡ askOf s ⌝ }
-{
-    let at = s.at;
-    match at {
-        PushAt::Control => Ask::Read {
-            address: FifoControl::address(s.fifo),
+    let stage = c.stage;
+    match stage {
+        PushStage::Control => Ask::Read {
+            address: FifoControl::address(c.fifo),
             count: 4,
         },
-        PushAt::Status(_) => Ask::Read {
-            address: FifoStatus::address(s.fifo),
+        PushStage::Status => Ask::Read {
+            address: FifoStatus::address(c.fifo),
             count: 4,
         },
-        PushAt::Address(_) => Ask::Read {
-            address: UserAddress::address(s.fifo),
+        PushStage::Address => Ask::Read {
+            address: UserAddress::address(c.fifo),
             count: 4,
         },
-        PushAt::Write(_, m) => Ask::Body {
-            address: m,
-            count: s.object.len,
+        PushStage::Write => Ask::Body {
+            address: c.m,
+            count: c.len,
         },
-        PushAt::Commit(w) => Ask::Word {
-            address: FifoControl::address(s.fifo),
-            word: FifoControl(w).with_uinc(true).0,
+        PushStage::Commit => Ask::Word {
+            address: FifoControl::address(c.fifo),
+            word: FifoControl(c.w).with_uinc(true).0,
         },
-        _ => Ask::Nothing,
+        PushStage::Done => Ask::Nothing,
+        PushStage::Refused => Ask::Nothing,
     }
 }
 
-pub fn push_outcome(s: Push) -> Outcome
-    ensures { λ r. ⌜ r ≡ outcomeOf s ⌝ }
+pub fn push_outcome(c: PushNumbers) -> Outcome
+    ensures { λ r. ⌜ r ≡ outcomeOf (pushOf c []) ⌝ }
 {
-    let at = s.at;
-    match at {
-        PushAt::Done => Outcome::Done,
-        PushAt::Refused(r) => Outcome::Refused(r),
+    let stage = c.stage;
+    let why = c.why;
+    match stage {
+        PushStage::Done => Outcome::Done,
+        PushStage::Refused => Outcome::Refused(why),
         _ => Outcome::Running,
     }
 }
 
-pub fn push_done(s: Push) -> bool
-    ensures { λ r. ⌜ r ≡ isDone s ⌝ }
+pub fn push_done(c: PushNumbers) -> bool
+    ensures { λ r. ⌜ r ≡ isDone (pushOf c []) ⌝ }
 {
-    let at = s.at;
-    match at {
-        PushAt::Done => true,
+    let stage = c.stage;
+    match stage {
+        PushStage::Done => true,
         _ => false,
     }
 }
