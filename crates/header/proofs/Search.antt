@@ -1,36 +1,58 @@
--- How a loop finds a length among a frame's lengths.
+-- Lengths and their DLCs, by the cases of a `match`.
 -- Assumes nothing.
-use mathlib.Core.Path.{_≡_, ap, _∙_}
-use mathlib.Core.List.{List, _∷_}
-use Prim.Native.Nat.{ℕ, _+_, _≤_, _<_}
+use mathlib.Core.Path.{_≡_, refl, sym, ap}
+use mathlib.Core.Bool.{Bool, true, false}
+use mathlib.Core.List.{List, [], _∷_}
+use Prim.Native.Nat.{ℕ, _≤_, _<_}
 use native.Mathlib.Omega.{arith}
-use native.Mathlib.Numerals.{add-one}
-use lib.ListN.{length, getD, take, drop}
-use lib.Seq.{drop-cons, drop-length, length-take-le, getD-take}
-use borrow.Author.Tests.{eq-eqb, ne-eqb}
-use Rattle.header.specs.Dlc.{lengths, seek}
+use lib.ListN.{getD}
+use lib.Dec.{eqb}
+use borrow.Author.Tests.{ne-eqb, eqb-true, lt-ltb}
+use Rattle.laws.proofs.Table.{every, at}
+use Rattle.header.specs.Dlc.{lengths, dlcs, lengthOf, seek, dlcOf}
 use Rattle.header.specs.declared.dlc.Dlc.{Dlc}
+use Rattle.header.specs.declared.dlc.Length.{Length}
+use Rattle.header.proofs.Dlcs.{dlc-back}
 
--- the first m lengths, from place d on
-abbrev pub from : ℕ → ℕ → List ℕ
-from m d = drop d (take m lengths)
+-- DLC 0 to 8 mean themselves
+same : ℕ → Bool
+same d = eqb d (getD lengths d 0)
 
-module _ (m d : ℕ) (few : m ≤ 16) (h : d < m) where
-  long : length (take m lengths) ≡ m
-  long = length-take-le m lengths few
+all-same : every same 9 ≡ true
+unfolding same
+all-same = refl
 
-  first : from m d ≡ getD lengths d 0 ∷ from m (d + 1)
-  first =
-      let b : d < length (take m lengths) = omega (arith, long) in
-      drop-cons (take m lengths) d 0 b ∙ rw (getD-take m lengths d 0 h, add-one d)
+small : (d : ℕ) → d < 9 → d ≡ getD lengths d 0
+unfolding same
+small d h = eqb-true d _ (at same 9 all-same d h)
 
-  pub here : (n : ℕ) → getD lengths d 0 ≡ n → seek (from m d) d n ≡ Dlc.Is d
-  here n e = ap (λ (l : List ℕ). seek l d n) first ∙ simp (eq-eqb _ _ e)
+nine-le : (fdf : Bool) → 9 ≤ dlcs fdf
+nine-le true = omega arith
+nine-le false = omega arith
 
-  pub further : (n : ℕ) → (getD lengths d 0 ≡ n → ⊥) → seek (from m d) d n ≡ seek (from m (d + 1)) (d + 1) n
-  further n e = ap (λ (l : List ℕ). seek l d n) first ∙ simp (ne-eqb _ _ e)
+pub early : (fdf : Bool) (n : ℕ) → n ≤ 8 → Dlc.Is n ≡ dlcOf fdf n
+unfolding lengthOf
+early fdf n h =
+    let l : n < dlcs fdf = omega (arith, nine-le fdf) in
+    sym (dlc-back fdf n n (rw (lt-ltb n (dlcs fdf) l) (ap Length.Is (sym (small n (omega arith))))))
 
-pub nowhere : (m d n : ℕ) → m ≤ 16 → d ≤ m → m ≤ d → seek (from m d) d n ≡ Dlc.Bad
-nowhere m d n few h k =
-    let e : d ≡ length (take m lengths) = omega (arith, length-take-le m lengths few) in
-    ap (λ (l : List ℕ). seek l d n) (ap (λ (i : ℕ). drop i (take m lengths)) e ∙ drop-length (take m lengths))
+-- what is longer stands behind them, if anywhere
+module _ (n : ℕ) where
+  pub off : (x : ℕ) → (n ≡ x → ⊥) → eqb x n ≡ false
+  off x f = ne-eqb x n (λ e. f (sym e))
+
+  module _ (h : 8 < n) where
+    low : (x : ℕ) → x ≤ 8 → eqb x n ≡ false
+    low x l = off x (λ e. omega arith)
+
+    past : (xs : List ℕ) → seek (0 ∷ 1 ∷ 2 ∷ 3 ∷ 4 ∷ 5 ∷ 6 ∷ 7 ∷ 8 ∷ xs) 0 n ≡ seek xs 9 n
+    past xs =
+        simp (low 0 (omega arith), low 1 (omega arith), low 2 (omega arith), low 3 (omega arith), low 4 (omega arith), low 5 (omega arith), low 6 (omega arith), low 7 (omega arith), low 8 (omega arith))
+
+    pub classic : Dlc.Bad ≡ dlcOf false n
+    unfolding dlcOf
+    classic = sym (past [])
+
+    pub fd : dlcOf true n ≡ seek (12 ∷ 16 ∷ 20 ∷ 24 ∷ 32 ∷ 48 ∷ 64 ∷ []) 9 n
+    unfolding dlcOf
+    fd = past (12 ∷ 16 ∷ 20 ∷ 24 ∷ 32 ∷ 48 ∷ 64 ∷ [])

@@ -1,6 +1,7 @@
 // Data length codes and the payload lengths that they mean.
 ghost use mathlib.Core.Path.{_≡_};
-ghost use Prim.Native.Nat.{_≤_};
+ghost use mathlib.Core.Bool.{true};
+ghost use Prim.Native.Nat.{_≤_, _<_};
 ghost use Rattle.header.specs.Dlc.{dlcs, lengthOf, dlcOf};
 
 // What DLC 0 to 15 mean, in bytes.
@@ -33,16 +34,31 @@ pub fn len_for_dlc(dlc: usize, fdf: bool) -> Length
     }
 }
 
+// The DLC of a payload of more than 8 bytes.
+fn longer(len: usize) -> Dlc
+    requires { ⌜ 8 < len ⌝ }
+    ensures { λ r. ⌜ r ≡ dlcOf true len ⌝ }
+{
+    match len {
+        12 => Dlc::Is(9),
+        16 => Dlc::Is(10),
+        20 => Dlc::Is(11),
+        24 => Dlc::Is(12),
+        32 => Dlc::Is(13),
+        48 => Dlc::Is(14),
+        64 => Dlc::Is(15),
+        _ => Dlc::Bad,
+    }
+}
+
 pub fn dlc_for_len(len: usize, fdf: bool) -> Dlc
     ensures { λ r. ⌜ r ≡ dlcOf fdf len ⌝ }
 {
-    let most = count(fdf);
-    let mut d = 0;
-    while d < most {
-        if LENGTHS[d] == len {
-            return Dlc::Is(d);
-        }
-        d += 1;
+    if len <= 8 {
+        return Dlc::Is(len);
+    }
+    if fdf {
+        return longer(len);
     }
     Dlc::Bad
 }

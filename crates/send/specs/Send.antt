@@ -8,8 +8,9 @@ use lib.Dec.{leb}
 use Rattle.laws.specs.If.{if_then_else_}
 use Rattle.parts.specs.Parts.{put}
 use Rattle.spi.specs.declared.ask.Ask.{Ask}
-use Rattle.spi.specs.Ask.{headOf, bodyOf as bodyCount, sent}
+use Rattle.spi.specs.Ask.{headOf, bodyOf as bodyCount, wanted, sent}
 use Rattle.send.specs.declared.Sent.{Sent}
+use Rattle.send.specs.declared.next.Next.{Next}
 
 -- the body has the bytes that are asked for, and the buffer room for all that are sent
 abbrev pub whole : Ask → (body tx : List ℕ) → Bool
@@ -21,3 +22,24 @@ sentAs q body tx = if whole q body tx then Sent.Bytes (length (headOf q) + bodyC
 
 unfoldable pub putInto : Ask → (body tx : List ℕ) → List ℕ
 putInto q body tx = if whole q body tx then put tx 0 (sent q body) else tx
+
+-- ---- what the caller's loop does now
+
+-- so many bytes were put, and so many are wanted
+abbrev pub sentNext : Sent → ℕ → Next
+sentNext (Sent.Bytes n) want = Next.Transfer n want
+sentNext Sent.Short want = Next.Short
+
+-- the exchange of an ask
+abbrev pub transferOf : Ask → (body tx : List ℕ) → Next
+transferOf q body tx = sentNext (sentAs q body tx) (wanted q)
+
+-- what is to be done for an ask
+abbrev pub nextOf : Ask → (body tx : List ℕ) → Next
+nextOf (Ask.Read address count) body tx = transferOf (Ask.Read address count) body tx
+nextOf (Ask.Checked address) body tx = transferOf (Ask.Checked address) body tx
+nextOf (Ask.Word address word) body tx = transferOf (Ask.Word address word) body tx
+nextOf (Ask.Body address count) body tx = transferOf (Ask.Body address count) body tx
+nextOf Ask.Reset body tx = transferOf Ask.Reset body tx
+nextOf Ask.Wait body tx = Next.Wait
+nextOf Ask.Nothing body tx = Next.Over

@@ -1,13 +1,20 @@
 // The bytes of an ask, put together in a lent buffer: its head, and the first bytes of the call's body.
 ghost use mathlib.Core.Path.{_≡_};
 ghost use mathlib.Core.Bool.{_&&_};
-ghost use mathlib.Core.List.{_++_};
-ghost use Prim.Native.Nat.{_+_, _≤_};
-ghost use lib.ListN.{length, take};
+ghost use Prim.Native.Nat.{_+_};
+ghost use lib.ListN.{length};
 ghost use lib.Dec.{leb};
+ghost use Rattle.laws.specs.If.{if_then_else_};
 ghost use Rattle.parts.specs.Parts.{put};
-ghost use Rattle.send.specs.Send.{sentAs, putInto};
+ghost use Rattle.spi.specs.declared.ask.Ask.{Ask};
+ghost use Rattle.send.specs.declared.next.Next.the-variants.{Transfer, Short};
+ghost use Rattle.send.specs.Send.{sentAs, putInto, transferOf, nextOf};
 use spi::Ask;
+use spi::OpCode;
+
+mod next;
+
+pub use next::Next;
 
 // How many bytes were put at the front of the buffer, or that it, or what was lent, is too short: then no byte was put.
 pub enum Sent {
@@ -15,13 +22,17 @@ pub enum Sent {
     Short,
 }
 
-// The first bytes of a head, and behind them the first bytes of a body.
-fn put_both(head: [u8; 6], send: usize, body: &[u8], n: usize, tx: &mut [u8])
-    requires { ⌜ (send ≤ 6) × (n ≤ length (now body)) × (send + n ≤ length (now tx)) ⌝ }
-    ensures { λ _. ⌜ now (tx .exit) ≡ put (now (tx .entry)) 0 (take send head ++ take n (now (body .entry))) ⌝ }
+// A head that no body follows; `want` bytes are received.
+fn put_head(head: &[u8], want: usize, tx: &mut [u8]) -> Next
+    ensures answered { λ r. ⌜ r ≡ (if leb (length (now (head .entry))) (length (now (tx .entry))) then Transfer (length (now (head .entry))) want else Short) ⌝ }
+    ensures filled { λ r. ⌜ now (tx .exit) ≡ (if leb (length (now (head .entry))) (length (now (tx .entry))) then put (now (tx .entry)) 0 (now (head .entry)) else now (tx .entry)) ⌝ }
 {
-    parts::put_at(tx, 0, &head[..send]);
-    parts::put_at(tx, send, &body[..n]);
+    let n = head.len();
+    if tx.len() < n {
+        return Next::Short;
+    }
+    parts::put_at(tx, 0, head);
+    Next::Transfer { n: n, want: want }
 }
 
 // Whether the body has `n` bytes, and the buffer room for these and the head's; the sum of the two could wrap.
@@ -40,17 +51,43 @@ fn is_whole(send: usize, n: usize, have: usize, room: usize) -> bool
     true
 }
 
+// A command, and the first bytes of the body behind it.
+fn put_body(address: u16, n: usize, body: &[u8], tx: &mut [u8]) -> Next
+    ensures { λ r. ⌜ (r ≡ transferOf (Ask.Body address n) (now (body .entry)) (now (tx .entry))) × (now (tx .exit) ≡ putInto (Ask.Body address n) (now (body .entry)) (now (tx .entry))) ⌝ }
+{
+    if is_whole(2, n, body.len(), tx.len()) {
+        let head = spi::command(OpCode::Write, address);
+        parts::put_at(tx, 0, &head);
+        parts::put_at(tx, 2, &body[..n]);
+        Next::Transfer { n: 2 + n, want: 0 }
+    } else {
+        Next::Short
+    }
+}
+
+// What is to be done for an ask, its bytes put at the front of the buffer.
+pub fn put_next(q: Ask, body: &[u8], tx: &mut [u8]) -> Next
+    ensures { λ r. ⌜ (r ≡ nextOf q (now (body .entry)) (now (tx .entry))) × (now (tx .exit) ≡ putInto q (now (body .entry)) (now (tx .entry))) ⌝ }
+{
+    match q {
+        Ask::Read { address, count } => put_head(&spi::command(OpCode::Read, address), count, tx),
+        Ask::Checked { address } => put_head(&spi::checked_read(address), 6, tx),
+        Ask::Word { address, word } => put_head(&spi::write_word(address, word), 0, tx),
+        Ask::Body { address, count } => put_body(address, count, body, tx),
+        Ask::Reset => put_head(&spi::command(OpCode::Reset, 0), 0, tx),
+        Ask::Wait => Next::Wait,
+        Ask::Nothing => Next::Over,
+    }
+}
+
+// The same as a number of bytes: none where nothing is sent.
 pub fn send_with(q: Ask, body: &[u8], tx: &mut [u8]) -> Sent
     ensures { λ r. ⌜ (r ≡ sentAs q (now (body .entry)) (now (tx .entry))) × (now (tx .exit) ≡ putInto q (now (body .entry)) (now (tx .entry))) ⌝ }
 {
-    let x = spi::exchange_of(q);
-    let head = x.head;
-    let send = x.send;
-    let n = x.body;
-    if is_whole(send, n, body.len(), tx.len()) {
-        put_both(head, send, body, n, tx);
-        Sent::Bytes(send + n)
-    } else {
-        Sent::Short
+    let next = put_next(q, body, tx);
+    match next {
+        Next::Transfer { n, want: _ } => Sent::Bytes(n),
+        Next::Short => Sent::Short,
+        _ => Sent::Bytes(0),
     }
 }
