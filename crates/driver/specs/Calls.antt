@@ -80,6 +80,10 @@ prepared (Filter f c) = configureFilter f c
 prepared (FilterOff f) = disableFilter f
 prepared (Configure s) = configureAll s
 
+-- a FIFO's number where a call keeps it: one that fits no byte is no FIFO's, like 0
+abbrev pub fifoNumber : ℕ → ℕ
+fifoNumber n = if ltb n 256 then n else 0
+
 abbrev pub started : Start → Call
 started Reset = ofRegister RegisterCall.Reset
 started OpMode = ofRegister RegisterCall.Mode
@@ -90,12 +94,12 @@ started (Write address word) = ofRegister (register.writeStart address word)
 started (ReadRam address room place count) = ofRam (ram.readStart address room place count)
 started (WriteRam address count) = ofRam (ram.writeStart address count)
 started (Planned x) = ofPlan (planFor (prepared x))
-started (Push n header seq payload) = ofPush (startOf n header seq payload)
-started (Transmit n header seq payload) = ofTransmit (transmitStart n header seq payload)
+started (Push n header seq payload) = ofPush (startOf (fifoNumber n) header seq payload)
+started (Transmit n header seq payload) = ofTransmit (transmitStart (fifoNumber n) header seq payload)
 started (Request n) = ofPlan (requestStart n)
-started (HasNext n) = ofFetch (hasNextStart n)
-started (Peek n room) = ofFetch (peekStart n room)
-started (Get n room) = ofFetch (getStart n room)
+started (HasNext n) = ofFetch (hasNextStart (fifoNumber n))
+started (Peek n room) = ofFetch (peekStart (fifoNumber n) room)
+started (Get n room) = ofFetch (getStart (fifoNumber n) room)
 
 abbrev pub wholeTalk : Start → Talk Outcome
 wholeTalk Reset = resetTalk

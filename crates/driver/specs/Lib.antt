@@ -2,6 +2,8 @@ pub mod Call
 pub mod CallAt
 pub mod Calls
 pub mod Demand1
+pub mod Finish
+pub mod Numbers
 pub mod Send
 pub mod Start
 pub mod Step

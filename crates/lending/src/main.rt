@@ -1,17 +1,23 @@
 // What no script can show, by the numbers of docs/TRACE.md: buffers that are lent too small, the bytes of a lent buffer that stay, answers
 // of another kind than asked or after the end, and what a register's reader says.
-use call::Outcome;
+use driver::Answer;
+use driver::Call;
+use driver::Outcome;
+use driver::Refusal;
 use fifo::FifoControl;
-use ram::RamCall;
-use rx_fifo::Fetch;
-use spi::Answer;
 use spi::Done;
-use spi::Refusal;
 
 fn tell_refusal(r: Refusal) {
     output::write(b"refused ");
-    output::number(numbers::number(r) as u64);
+    output::number(driver::number(r) as u64);
     output::write(b"\n");
+}
+
+// How a call that was started ended, with no buffer lent: it is refused, or has still to ask.
+fn begun(call: Call) -> Outcome {
+    let mut none = [0u8; 1];
+    let start = 0;
+    driver::finish(call, &none[start..start], &mut none)
 }
 
 fn tell(what: &[u8], o: Outcome) {
@@ -33,7 +39,7 @@ fn show(what: &[u8], s: &[u8]) {
 fn part(what: &[u8], address: u32, place: usize, count: usize) {
     tell(
         what,
-        ram::ram_outcome(ram::read_ram_start(address, 8, place, count)),
+        begun(driver::read_ram(address, 8, place, count)),
     );
 }
 
@@ -47,32 +53,31 @@ fn parts() {
 fn rooms() {
     tell(
         b"S28 peek 2 with a buffer of 64: ",
-        rx_fifo::fetch_outcome(rx_fifo::peek_start(2, 64)),
+        begun(driver::peek(2, 64)),
     );
     tell(
         b"S28 peek 2 with a buffer of 63: ",
-        rx_fifo::fetch_outcome(rx_fifo::peek_start(2, 63)),
+        begun(driver::peek(2, 63)),
     );
     tell(
         b"S28 get 2 with a buffer of 63: ",
-        rx_fifo::fetch_outcome(rx_fifo::get_start(2, 63)),
+        begun(driver::get(2, 63)),
     );
     tell(
         b"S32 get 0 with a buffer of 63: ",
-        rx_fifo::fetch_outcome(rx_fifo::get_start(0, 63)),
+        begun(driver::get(0, 63)),
     );
 }
 
 // A read of 4 bytes into the middle of 8, answered so.
-fn read_of(answer: Answer, rx: &[u8]) -> RamCall {
-    ram::ram_step(ram::read_ram_start(0x400, 8, 2, 4), answer, rx)
+fn read_of(answer: Answer, rx: &[u8]) -> Call {
+    driver::answer(driver::read_ram(0x400, 8, 2, 4), answer, rx)
 }
 
 // How the read ended, and what it leaves of a buffer of aa.
-fn left(what: &[u8], call: RamCall, rx: &[u8]) {
+fn left(what: &[u8], call: Call, rx: &[u8]) {
     let mut buf = [0xAAu8; 8];
-    ram::ram_fill(call, rx, &mut buf);
-    tell(what, ram::ram_outcome(call));
+    tell(what, driver::finish(call, rx, &mut buf));
     show(b"  buffer ", &buf);
 }
 
@@ -98,7 +103,7 @@ fn reads() {
     let over = read_of(Answer::Exchanged, &rx);
     left(
         b"S26 the same, answered again after its end: ",
-        ram::ram_step(over, Answer::Exchanged, &rx),
+        driver::answer(over, Answer::Exchanged, &rx),
         &rx,
     );
 }
@@ -122,23 +127,23 @@ fn waits() {
 }
 
 // A classic frame of 3 bytes, identifier 0x123, up to the payload's answer.
-fn peeked(payload: &[u8]) -> Fetch {
+fn peeked(payload: &[u8]) -> Call {
     let control = [0u8, 0, 0, 0];
     let not_empty = [1u8, 0, 0, 0];
     let header = [0x23u8, 1, 0, 0, 3, 0, 0, 0];
-    let mut call = rx_fifo::peek_start(2, 70);
-    call = rx_fifo::fetch_step(call, Answer::Exchanged, &control);
-    call = rx_fifo::fetch_step(call, Answer::Exchanged, &not_empty);
-    call = rx_fifo::fetch_step(call, Answer::Exchanged, &control);
-    call = rx_fifo::fetch_step(call, Answer::Exchanged, &header);
-    call = rx_fifo::fetch_step(call, Answer::Exchanged, &control);
-    rx_fifo::fetch_step(call, Answer::Exchanged, payload)
+    let mut call = driver::peek(2, 70);
+    call = driver::answer(call, Answer::Exchanged, &control);
+    call = driver::answer(call, Answer::Exchanged, &not_empty);
+    call = driver::answer(call, Answer::Exchanged, &control);
+    call = driver::answer(call, Answer::Exchanged, &header);
+    call = driver::answer(call, Answer::Exchanged, &control);
+    driver::answer(call, Answer::Exchanged, payload)
 }
 
-fn taken(what: &[u8], call: Fetch) {
+fn taken(what: &[u8], call: Call) {
     let mut buf = [0xAAu8; 70];
-    rx_fifo::fetch_fill(call, &mut buf);
-    tell(what, rx_fifo::fetch_outcome(call));
+    let start = 0;
+    tell(what, driver::finish(call, &[0u8; 1][start..start], &mut buf));
     show(b"  buffer ", &buf);
 }
 

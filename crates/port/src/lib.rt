@@ -1,19 +1,10 @@
 // The port's side: what a call does now, as a transcript's line, and where an answer takes it.
-use call::Outcome;
+use driver::Answer;
 use driver::Call;
+use driver::Next;
+use driver::Outcome;
 use items::Item;
-use send::Sent;
-use spi::Answer;
-use spi::Ask;
 use spoken::Line;
-
-// All bytes that the call sends now, put at the front of `tx`: how many. `lent` is what a RAM write sends.
-pub fn sent_bytes(call: Call, lent: &[u8], tx: &mut [u8]) -> usize {
-    match driver::send(call, lent, tx) {
-        Sent::Bytes(n) => n,
-        Sent::Short => 0,
-    }
-}
 
 // A RAM read of so many bytes ends with them.
 fn ended(o: Outcome, read: usize, buf: &[u8], out: &mut [u8]) -> usize {
@@ -24,14 +15,6 @@ fn ended(o: Outcome, read: usize, buf: &[u8], out: &mut [u8]) -> usize {
         }
     }
     lines::result(out, a, o, buf)
-}
-
-fn shown(q: Ask, tx: &[u8], o: Outcome, read: usize, buf: &[u8], out: &mut [u8]) -> usize {
-    match q {
-        Ask::Wait => lines::put(out, 0, b"wait 500"),
-        Ask::Nothing => ended(o, read, buf, out),
-        _ => lines::exchange(out, 0, tx, spi::exchange_of(q).want),
-    }
 }
 
 // What the call does now, if it is wanted. The first `sent` bytes of `lent` are what a RAM write sends, the first `got` of `rx` what
@@ -51,16 +34,15 @@ pub fn line(
     }
     let mut tx = [0u8; 4200];
     let mut buf = [0u8; 2048];
-    let n = sent_bytes(call, text::front(lent, sent), &mut tx);
-    driver::fill(call, text::front(rx, got), &mut buf);
-    shown(
-        driver::ask(call),
-        text::front(&tx, n),
-        driver::outcome(call),
-        read,
-        &buf,
-        out,
-    )
+    match driver::next(call, text::front(lent, sent), &mut tx) {
+        Next::Transfer { n, want } => lines::exchange(out, 0, text::front(&tx, n), want),
+        Next::Wait => lines::put(out, 0, b"wait 500"),
+        Next::Over => {
+            let o = driver::finish(call, text::front(rx, got), &mut buf);
+            ended(o, read, &buf, out)
+        }
+        Next::Short => lines::put(out, 0, b"short"),
+    }
 }
 
 // What a line of the transcript means to the call.
@@ -103,6 +85,6 @@ pub fn moved(
     match step {
         Step::Stay => call,
         Step::Begin(row) => starts::start(row, a, text::front(lent, sent)),
-        Step::Answer(answer) => driver::step(call, answer, text::front(rx, beside(answer, got))),
+        Step::Answer(answer) => driver::answer(call, answer, text::front(rx, beside(answer, got))),
     }
 }

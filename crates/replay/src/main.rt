@@ -26,7 +26,7 @@ fn run(
     let mut r = reading::begin();
     let mut s = judge::begin();
     let mut seen = classes::called(0, numbers);
-    let mut call = driver::of_register(register::reset_start());
+    let mut call = driver::reset();
     let mut turns = u64::MAX;
     loop {
         r = reading::next_line(r, piece, buf);

@@ -1,9 +1,9 @@
 // A call, run against the modelled chip as its @ lines say.
+use driver::Answer;
 use driver::Call;
+use driver::Next;
 use model::Exchanged;
 use model::Heard;
-use spi::Answer;
-use spi::Ask;
 use spoken::Line;
 use spoken::Spoken;
 use state::Model;
@@ -112,22 +112,6 @@ fn begun(m: Model) -> Turn {
     }
 }
 
-fn is_over(q: Ask) -> bool {
-    match q {
-        Ask::Nothing => true,
-        _ => false,
-    }
-}
-
-// Whether it is no exchange.
-fn is_quiet(q: Ask) -> bool {
-    match q {
-        Ask::Nothing => true,
-        Ask::Wait => true,
-        _ => false,
-    }
-}
-
 fn is_failed(heard: Heard) -> bool {
     match heard {
         Heard::Failed => true,
@@ -217,7 +201,7 @@ fn exchange(
     exchanged(told, made, sent, want, rx, out)
 }
 
-fn waited(t: Turn, q: Ask, line: &[u8]) -> Turn {
+fn waited(t: Turn, over: bool, line: &[u8]) -> Turn {
     let m = t.model;
     output::write_line(line);
     Turn {
@@ -226,23 +210,25 @@ fn waited(t: Turn, q: Ask, line: &[u8]) -> Turn {
         got: t.got,
         answer: Answer::Waited,
         heard: 0,
-        over: is_over(q),
+        over: over,
     }
 }
 
+// The first n bytes of `out` are the line of what the call does now, the bytes that it sends are at the front of `tx`.
 fn turned(
     t: Turn,
-    q: Ask,
-    sent: &[u8],
+    q: Next,
+    tx: &[u8],
     notes: &[u8],
     n: usize,
     rx: &mut [u8],
     out: &mut [u8],
 ) -> Turn {
-    if is_quiet(q) {
-        return waited(t, q, text::front(out, n));
+    match q {
+        Next::Transfer { n: k, want } => exchange(t, want, text::front(tx, k), notes, n, rx, out),
+        Next::Wait => waited(t, false, text::front(out, n)),
+        _ => waited(t, true, text::front(out, n)),
     }
-    exchange(t, spi::exchange_of(q).want, sent, notes, n, rx, out)
 }
 
 // `read` as in `port`.
@@ -262,9 +248,8 @@ fn done(
 ) -> Turn {
     let mut tx = [0u8; 4200];
     let n = port::line(call, true, read, lent, lent.len(), rx, t.got, out);
-    let q = driver::ask(call);
-    let k = port::sent_bytes(call, lent, &mut tx);
-    turned(t, q, text::front(&tx, k), notes, n, rx, out)
+    let q = driver::next(call, lent, &mut tx);
+    turned(t, q, &tx, notes, n, rx, out)
 }
 
 // A call, to its end. No call asks so often that the turns run out.
@@ -288,7 +273,7 @@ fn through(
         }
         t = done(t, call, read, lent, notes, rx, out);
         let answer = t.answer;
-        call = driver::step(call, answer, text::front(rx, t.heard));
+        call = driver::answer(call, answer, text::front(rx, t.heard));
     }
     t.model
 }

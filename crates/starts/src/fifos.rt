@@ -1,13 +1,10 @@
 // The calls on FIFOs.
 use crate::setup::identifier;
 use crate::setup::is_extended;
-use crate::simple::byte;
 use crate::simple::number;
 use crate::simple::word;
-use header::Header;
-use rx_fifo::Fetch;
-use transmit::Transmit;
-use tx_fifo::Push;
+use driver::Call;
+use driver::Header;
 
 // Whether a flag's bit is in the number of the flags.
 fn has(flags: u64, n: u64) -> bool {
@@ -28,18 +25,13 @@ pub fn header_of(a: &[u64]) -> Header {
     }
 }
 
-pub fn push(a: &[u64], payload: &[u8]) -> Push {
-    tx_fifo::push_start(byte(a, 0), header_of(a), word(a, 3), payload)
-}
-
-pub fn transmit(a: &[u64], payload: &[u8]) -> Transmit {
-    transmit::transmit_start(byte(a, 0), header_of(a), word(a, 3), payload)
-}
-
-pub fn fetch(row: usize, a: &[u64]) -> Fetch {
+// The row's call: push, transmit, has_next, peek, get.
+pub fn fifo_call(row: usize, a: &[u64], payload: &[u8]) -> Call {
     match row {
-        22 => rx_fifo::has_next_start(byte(a, 0)),
-        23 => rx_fifo::peek_start(byte(a, 0), crate::ROOM),
-        _ => rx_fifo::get_start(byte(a, 0), crate::ROOM),
+        20 => driver::push(word(a, 0), header_of(a), word(a, 3), payload),
+        21 => driver::transmit(word(a, 0), header_of(a), word(a, 3), payload),
+        22 => driver::has_next(word(a, 0)),
+        23 => driver::peek(word(a, 0), crate::ROOM),
+        _ => driver::get(word(a, 0), crate::ROOM),
     }
 }

@@ -7,7 +7,6 @@ mod simple;
 
 use driver::Call;
 pub use fifos::header_of;
-pub use simple::byte;
 pub use simple::number;
 pub use simple::word;
 
@@ -17,19 +16,13 @@ pub const ROOM: usize = 2048;
 // The call of a row, `lent` being the bytes of its last argument.
 pub fn start(row: usize, a: &[u64], lent: &[u8]) -> Call {
     if row < 5 {
-        return driver::of_register(simple::register(row, a));
+        return simple::register(row, a);
     }
     if row < 8 {
-        return driver::of_ram(simple::ram(row, a, lent.len()));
+        return simple::ram(row, a, lent.len());
     }
     if row < 20 {
-        return driver::of_plan(plans::plan(row, a));
+        return plans::plan(row, a);
     }
-    if row == 20 {
-        return driver::of_push(fifos::push(a, lent));
-    }
-    if row == 21 {
-        return driver::of_transmit(fifos::transmit(a, lent));
-    }
-    driver::of_fetch(fifos::fetch(row, a))
+    fifos::fifo_call(row, a, lent)
 }

@@ -4,25 +4,23 @@ ghost use mathlib.Core.Path.{_≡_};
 ghost use Prim.Native.Nat.{_≤_, _<_};
 ghost use lib.Dec.{ltb};
 ghost use Rattle.bit_timing.specs.Signed.{isSmall, sevenOf};
-use crate::simple::byte;
 use crate::simple::number;
 use crate::simple::word;
 use bit_timing::signed;
-use configure::BitTimeConfiguration;
-use configure::DataBitTime;
-use configure::FifoConfiguration;
-use configure::FifoMode;
-use configure::FilterConfiguration;
-use configure::FilterMode;
-use configure::Identifier;
-use configure::IoConfiguration;
-use configure::NominalBitTime;
-use configure::OscillatorConfiguration;
-use configure::RxFifo;
-use configure::Settings;
-use configure::TxFifo;
-use plan::Plan;
-use spi::Refusal;
+use driver::BitTimeConfiguration;
+use driver::Call;
+use driver::DataBitTime;
+use driver::FifoConfiguration;
+use driver::FifoMode;
+use driver::FilterConfiguration;
+use driver::FilterMode;
+use driver::Identifier;
+use driver::IoConfiguration;
+use driver::NominalBitTime;
+use driver::OscillatorConfiguration;
+use driver::RxFifo;
+use driver::Settings;
+use driver::TxFifo;
 
 fn is_on(a: &[u64], k: usize) -> bool {
     number(a, k) == 1
@@ -42,6 +40,11 @@ fn are_flags(a: &[u64], from: usize, to: usize) -> bool
     true
 }
 
+// A call that is refused 24: there is no mode 8.
+fn unsettable() -> Call {
+    driver::set_op_mode(8)
+}
+
 fn oscillator(a: &[u64]) -> OscillatorConfiguration {
     OscillatorConfiguration {
         pll: is_on(a, 0),
@@ -49,11 +52,11 @@ fn oscillator(a: &[u64]) -> OscillatorConfiguration {
     }
 }
 
-pub fn oscillator_call(a: &[u64]) -> Plan {
+pub fn oscillator_call(a: &[u64]) -> Call {
     if are_flags(a, 0, 2) {
-        return configure::configure_osc(oscillator(a));
+        return driver::configure_osc(oscillator(a));
     }
-    plan::refused_plan(Refusal::BadSetting)
+    unsettable()
 }
 
 // Four arguments from k on.
@@ -68,11 +71,11 @@ fn io(a: &[u64], k: usize) -> IoConfiguration
     }
 }
 
-pub fn io_call(a: &[u64]) -> Plan {
+pub fn io_call(a: &[u64]) -> Call {
     if are_flags(a, 0, 4) {
-        return configure::configure_io(io(a, 0));
+        return driver::configure_io(io(a, 0));
     }
-    plan::refused_plan(Refusal::BadSetting)
+    unsettable()
 }
 
 // TDCO stands on a line by its seven bits, 127 for -1. What is wider becomes a number that the call refuses (24).
@@ -115,7 +118,7 @@ fn configure_flags(a: &[u64]) -> bool {
     false
 }
 
-pub fn configure_call(a: &[u64]) -> Plan {
+pub fn configure_call(a: &[u64]) -> Call {
     let s = Settings {
         oscillator: oscillator(a),
         io: io(a, 2),
@@ -127,9 +130,9 @@ pub fn configure_call(a: &[u64]) -> Plan {
         eccerror: is_on(a, 19),
     };
     if configure_flags(a) {
-        return configure::configure_all(s);
+        return driver::configure(s);
     }
-    plan::refused_plan(Refusal::BadSetting)
+    unsettable()
 }
 
 // A number that no field holds, where a yes or no was neither.
@@ -138,16 +141,16 @@ fn spoilt(good: bool, n: u32) -> u32 {
 }
 
 // Size, payload size and mode; `good` is whether every yes or no of the mode is one.
-fn fifo_call(a: &[u64], good: bool, mode: FifoMode) -> Plan {
+fn fifo_call(a: &[u64], good: bool, mode: FifoMode) -> Call {
     let c = FifoConfiguration {
         size: word(a, 1),
         plsize: spoilt(good, word(a, 2)),
         mode: mode,
     };
-    configure::configure_fifo(byte(a, 0), c)
+    driver::configure_fifo(word(a, 0), c)
 }
 
-pub fn tx_call(a: &[u64]) -> Plan {
+pub fn tx_call(a: &[u64]) -> Call {
     let t = TxFifo {
         txpri: word(a, 4),
         txat: word(a, 5),
@@ -160,7 +163,7 @@ pub fn tx_call(a: &[u64]) -> Plan {
     fifo_call(a, are_flags(a, 6, 11), FifoMode::Transmit(t))
 }
 
-pub fn rx_call(a: &[u64]) -> Plan {
+pub fn rx_call(a: &[u64]) -> Call {
     let r = RxFifo {
         rxtsen: is_on(a, 4),
         rxovie: is_on(a, 5),
@@ -195,12 +198,12 @@ fn filter_identifier(n: u64) -> Identifier {
     }
 }
 
-pub fn filter_call(a: &[u64]) -> Plan {
+pub fn filter_call(a: &[u64]) -> Call {
     let c = FilterConfiguration {
-        fifo: byte(a, 1),
+        fifo: word(a, 1),
         mode: filter_mode(number(a, 2)),
         object: filter_identifier(number(a, 3)),
         mask: filter_identifier(number(a, 4)),
     };
-    configure::configure_filter(byte(a, 0), c)
+    driver::configure_filter(word(a, 0), c)
 }

@@ -1,20 +1,9 @@
 // The calls on registers and on RAM, and what all rows share: an argument cut to its parameter's type.
-use ram::RamCall;
-use register::RegisterCall;
+use driver::Call;
 
 // Argument k, 0 where there is none.
 pub fn number(a: &[u64], k: usize) -> u64 {
     if k < a.len() { a[k] } else { 0 }
-}
-
-pub fn byte(a: &[u64], k: usize) -> u8 {
-    let n = number(a, k);
-    if n < 256 { n as u8 } else { 255 }
-}
-
-pub fn address(a: &[u64], k: usize) -> u16 {
-    let n = number(a, k);
-    if n < 0x1_0000 { n as u16 } else { 0xFFFF }
 }
 
 pub fn word(a: &[u64], k: usize) -> u32 {
@@ -26,13 +15,13 @@ pub fn word(a: &[u64], k: usize) -> u32 {
     }
 }
 
-pub fn register(row: usize, a: &[u64]) -> RegisterCall {
+pub fn register(row: usize, a: &[u64]) -> Call {
     match row {
-        0 => register::reset_start(),
-        1 => register::get_op_mode_start(),
-        2 => register::read_start(address(a, 0)),
-        3 => register::checked_start(address(a, 0)),
-        _ => register::write_start(address(a, 0), word(a, 1)),
+        0 => driver::reset(),
+        1 => driver::get_op_mode(),
+        2 => driver::read_register(word(a, 0)),
+        3 => driver::checked_read(word(a, 0)),
+        _ => driver::write_register(word(a, 0), word(a, 1)),
     }
 }
 
@@ -41,13 +30,13 @@ fn room(n: usize) -> usize {
     if n < crate::ROOM { crate::ROOM } else { n }
 }
 
-pub fn ram(row: usize, a: &[u64], count: usize) -> RamCall {
+pub fn ram(row: usize, a: &[u64], count: usize) -> Call {
     match row {
-        5 => ram::verify_long_start(),
+        5 => driver::verify_long(),
         6 => {
             let n = number(a, 1) as usize;
-            ram::read_ram_start(word(a, 0), room(n), 0, n)
+            driver::read_ram(word(a, 0), room(n), 0, n)
         }
-        _ => ram::write_ram_start(word(a, 0), count),
+        _ => driver::write_ram(word(a, 0), count),
     }
 }

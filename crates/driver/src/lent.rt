@@ -1,0 +1,118 @@
+// A call whose bytes lie in memory of the caller's: numbers by value, the body lent. For boards on which a copy of 76 bytes at each
+// exchange is too dear. What the body holds is the call's own: nobody else changes it between two of these functions.
+ghost use mathlib.Core.Path.{_≡_};
+ghost use mathlib.Core.List.{[]};
+ghost use lib.ListN.{length};
+ghost use Rattle.send.specs.Send.{nextOf, putInto};
+ghost use Rattle.driver.specs.Step.{askOf, stepOf, outcomeOf, filledBy};
+ghost use Rattle.driver.specs.Send.{bodyOf};
+ghost use Rattle.driver.specs.Finish.{finishedAs};
+ghost use Rattle.driver.specs.Numbers.{modelOf};
+use crate::Family;
+use crate::Numbers;
+use crate::parts_of::fetch_part;
+use crate::parts_of::plan_part;
+use crate::parts_of::push_part;
+use crate::parts_of::ram_part;
+use crate::parts_of::register_part;
+use crate::parts_of::transmit_part;
+use crate::parts_of::with_fetch;
+use crate::parts_of::with_plan;
+use crate::parts_of::with_push;
+use crate::parts_of::with_ram;
+use crate::parts_of::with_register;
+use crate::parts_of::with_transmit;
+use call::Outcome;
+use ram::RamStage;
+use send::Next;
+use spi::Answer;
+use spi::Ask;
+
+// What is asked does not look at the body.
+fn ask(c: Numbers) -> Ask
+    ensures { λ r. ⌜ r ≡ askOf (modelOf c []) ⌝ }
+{
+    let family = c.family;
+    match family {
+        Family::Register => register::register_ask(register_part(c)),
+        Family::Ram => ram::ram_ask(ram_part(c)),
+        Family::Plan => configure::plan_ask(plan_part(c)),
+        Family::Push => tx_fifo::push_ask(push_part(c)),
+        Family::Transmit => transmit::transmit_ask(transmit_part(c)),
+        Family::Fetch => rx_fifo::fetch_ask(fetch_part(c)),
+    }
+}
+
+// Whether the call sends the pattern of the long echo test now.
+fn is_echo(c: Numbers) -> bool {
+    let family = c.family;
+    match family {
+        Family::Ram => {
+            let stage = c.ram;
+            match stage {
+                RamStage::EchoWrite => true,
+                _ => false,
+            }
+        }
+        _ => false,
+    }
+}
+
+fn next_echo(q: Ask, tx: &mut [u8]) -> Next {
+    let p = ram::echo_pattern();
+    send::put_next(q, &p, tx)
+}
+
+// The bytes that the call's RAM write sends: a push's and a transmit's object, otherwise what was lent.
+fn body_in<'a>(c: Numbers, body: &'a [u8], lent: &'a [u8]) -> &'a [u8] {
+    let family = c.family;
+    match family {
+        Family::Push => body,
+        Family::Transmit => body,
+        _ => lent,
+    }
+}
+
+// What the call asks for now, its bytes put at the front of `tx`. `lent` is what a RAM write was started with.
+pub fn next_lent(c: Numbers, body: &[u8; 76], lent: &[u8], tx: &mut [u8]) -> Next
+    ensures { λ r. ⌜ (r ≡ nextOf (askOf (modelOf c (now (body .entry)))) (bodyOf (modelOf c (now (body .entry))) (now (lent .entry))) (now (tx .entry))) × (now (tx .exit) ≡ putInto (askOf (modelOf c (now (body .entry)))) (bodyOf (modelOf c (now (body .entry))) (now (lent .entry))) (now (tx .entry))) ⌝ }
+{
+    let q = ask(c);
+    if is_echo(c) {
+        next_echo(q, tx)
+    } else {
+        let b = &body[..];
+        send::put_next(q, body_in(c, b, lent), tx)
+    }
+}
+
+// Where an answer takes the call. `rx` is what the exchange received.
+pub fn answer_lent(c: Numbers, answer: Answer, rx: &[u8], body: &mut [u8; 76]) -> Numbers
+    ensures { λ r. ⌜ modelOf r (now (body .exit)) ≡ stepOf (modelOf c (now (body .entry))) answer (now (rx .entry)) ⌝ }
+{
+    let family = c.family;
+    match family {
+        Family::Register => with_register(c, register::register_step(register_part(c), answer, rx)),
+        Family::Ram => with_ram(c, ram::ram_step(ram_part(c), answer, rx)),
+        Family::Plan => with_plan(c, configure::plan_step(plan_part(c), answer, rx, body)),
+        Family::Push => with_push(c, tx_fifo::push_step(push_part(c), answer, rx)),
+        Family::Transmit => with_transmit(c, transmit::transmit_step(transmit_part(c), answer, rx)),
+        Family::Fetch => with_fetch(c, rx_fifo::fetch_step(fetch_part(c), answer, rx, body)),
+    }
+}
+
+// How the call ended. What it received goes to its part of `buf`: a payload to the front, a RAM read to the part that it was started
+// with. `rx` is what the last exchange received.
+pub fn finish_lent(c: Numbers, body: &[u8; 76], rx: &[u8], buf: &mut [u8]) -> Outcome
+    ensures { λ r. ⌜ (r ≡ finishedAs (modelOf c (now (body .entry))) (length (now (rx .entry))) (length (now (buf .entry)))) × (now (buf .exit) ≡ filledBy (modelOf c (now (body .entry))) (now (rx .entry)) (now (buf .entry))) ⌝ }
+{
+    let family = c.family;
+    match family {
+        Family::Register => register::register_outcome(register_part(c)),
+        Family::Ram => ram::ram_finish(ram_part(c), rx, buf),
+        Family::Plan => configure::plan_outcome(plan_part(c)),
+        Family::Push => tx_fifo::push_outcome(push_part(c)),
+        Family::Transmit => transmit::transmit_outcome(transmit_part(c)),
+        Family::Fetch => rx_fifo::fetch_finish(fetch_part(c), body, buf),
+    }
+}

@@ -1,0 +1,268 @@
+// The calls: one function for each, which starts it. Any number may be given: what is refused is refused before any exchange, and the
+// call is then over.
+ghost use mathlib.Core.Path.{_≡_};
+ghost use lib.ListN.{length};
+ghost use Rattle.driver.specs.Calls.{Modify, Verify, SetOpMode, Osc, Io, BitTiming, Fifo, Filter, FilterOff, Configure, Reset, OpMode, VerifyLong, Read, Checked, Write, ReadRam, WriteRam, Planned, Push, Transmit, Request, HasNext, Peek, Get, fifoNumber, started};
+ghost use Rattle.register.specs.Numbers.{registerOf};
+ghost use Rattle.ram.specs.Numbers.{ramOf};
+ghost use Rattle.configure.specs.Numbers.{planIn};
+ghost use Rattle.rx_fifo.specs.Numbers.{fetchOf};
+ghost use Rattle.driver.specs.Start.{ofRegister, ofRam, ofPlan, ofFetch};
+ghost use Rattle.driver.specs.Numbers.{callOf};
+use crate::Call;
+use crate::Family;
+use crate::parts_of::idle;
+use crate::parts_of::with_fetch;
+use crate::parts_of::with_plan;
+use crate::parts_of::with_push;
+use crate::parts_of::with_ram;
+use crate::parts_of::with_register;
+use crate::parts_of::with_transmit;
+use areas::FifoConfiguration;
+use areas::FilterConfiguration;
+use changes::BitTimeConfiguration;
+use changes::IoConfiguration;
+use changes::OscillatorConfiguration;
+use changes::Settings;
+use configure::PlanNumbers;
+use fetch::FetchNumbers;
+use header::Header;
+use ram::RamNumbers;
+use register::RegisterNumbers;
+
+fn fifo_number(n: u32) -> u8
+    ensures { λ r. ⌜ r ≡ fifoNumber n ⌝ }
+{
+    if n < 256 { n as u8 } else { 0 }
+}
+
+fn of_register(p: RegisterNumbers) -> Call
+    ensures { λ r. ⌜ callOf r ≡ ofRegister (registerOf p) ⌝ }
+{
+    Call {
+        numbers: with_register(idle(Family::Register), p),
+        body: [0u8; 76],
+    }
+}
+
+fn of_ram(p: RamNumbers) -> Call
+    ensures { λ r. ⌜ callOf r ≡ ofRam (ramOf p) ⌝ }
+{
+    Call {
+        numbers: with_ram(idle(Family::Ram), p),
+        body: [0u8; 76],
+    }
+}
+
+fn of_plan(p: PlanNumbers, body: [u8; 76]) -> Call
+    ensures { λ r. ⌜ callOf r ≡ ofPlan (planIn p body) ⌝ }
+{
+    Call {
+        numbers: with_plan(idle(Family::Plan), p),
+        body: body,
+    }
+}
+
+fn of_fetch(p: FetchNumbers, body: [u8; 76]) -> Call
+    ensures { λ r. ⌜ callOf r ≡ ofFetch (fetchOf p body) ⌝ }
+{
+    Call {
+        numbers: with_fetch(idle(Family::Fetch), p),
+        body: body,
+    }
+}
+
+// The chip is reset.
+pub fn reset() -> Call
+    ensures { λ r. ⌜ callOf r ≡ started Reset ⌝ }
+{
+    of_register(register::reset_start())
+}
+
+// The word of a register.
+pub fn read_register(address: u32) -> Call
+    ensures { λ r. ⌜ callOf r ≡ started (Read address) ⌝ }
+{
+    of_register(register::read_start(address))
+}
+
+pub fn write_register(address: u32, word: u32) -> Call
+    ensures { λ r. ⌜ callOf r ≡ started (Write address word) ⌝ }
+{
+    of_register(register::write_start(address, word))
+}
+
+// The word of a register, in at most three checked reads.
+pub fn checked_read(address: u32) -> Call
+    ensures { λ r. ⌜ callOf r ≡ started (Checked address) ⌝ }
+{
+    of_register(register::checked_start(address))
+}
+
+// The mode that CiCON shows.
+pub fn get_op_mode() -> Call
+    ensures { λ r. ⌜ callOf r ≡ started OpMode ⌝ }
+{
+    of_register(register::get_op_mode_start())
+}
+
+// `room` is the length of the buffer that will be lent to `finish`; `count` bytes go to its part from `place` on.
+pub fn read_ram(address: u32, room: usize, place: usize, count: usize) -> Call
+    ensures { λ r. ⌜ callOf r ≡ started (ReadRam address room place count) ⌝ }
+{
+    of_ram(ram::read_ram_start(address, room, place, count))
+}
+
+// `count` is how many bytes will be lent to `next`.
+pub fn write_ram(address: u32, count: usize) -> Call
+    ensures { λ r. ⌜ callOf r ≡ started (WriteRam address count) ⌝ }
+{
+    of_ram(ram::write_ram_start(address, count))
+}
+
+// The long echo test: 32 words through RAM at once.
+pub fn verify_long() -> Call
+    ensures { λ r. ⌜ callOf r ≡ started VerifyLong ⌝ }
+{
+    of_ram(ram::verify_long_start())
+}
+
+// The word read, without the bits of `clear`, with those of `set`, is written back.
+pub fn modify_register(address: u32, clear: u32, set: u32) -> Call
+    ensures { λ r. ⌜ callOf r ≡ started (Planned (Modify address clear set)) ⌝ }
+{
+    let body = [0u8; 76];
+    let p = configure::modify(address, clear, set);
+    of_plan(p, body)
+}
+
+// The short echo test: each bit by itself through the RAM's first word.
+pub fn verify() -> Call
+    ensures { λ r. ⌜ callOf r ≡ started (Planned Verify) ⌝ }
+{
+    let body = [0u8; 76];
+    let p = configure::verify();
+    of_plan(p, body)
+}
+
+pub fn set_op_mode(mode: u32) -> Call
+    ensures { λ r. ⌜ callOf r ≡ started (Planned (SetOpMode mode)) ⌝ }
+{
+    let mut body = [0u8; 76];
+    let p = configure::set_op_mode(mode, &mut body);
+    of_plan(p, body)
+}
+
+pub fn configure_osc(c: OscillatorConfiguration) -> Call
+    ensures { λ r. ⌜ callOf r ≡ started (Planned (Osc c)) ⌝ }
+{
+    let mut body = [0u8; 76];
+    let p = configure::configure_osc(c, &mut body);
+    of_plan(p, body)
+}
+
+pub fn configure_io(c: IoConfiguration) -> Call
+    ensures { λ r. ⌜ callOf r ≡ started (Planned (Io c)) ⌝ }
+{
+    let body = [0u8; 76];
+    let p = configure::configure_io(c);
+    of_plan(p, body)
+}
+
+pub fn configure_bit_timing(c: BitTimeConfiguration) -> Call
+    ensures { λ r. ⌜ callOf r ≡ started (Planned (BitTiming c)) ⌝ }
+{
+    let mut body = [0u8; 76];
+    let p = configure::configure_bit_timing(c, &mut body);
+    of_plan(p, body)
+}
+
+pub fn configure_fifo(fifo: u32, c: FifoConfiguration) -> Call
+    ensures { λ r. ⌜ callOf r ≡ started (Planned (Fifo fifo c)) ⌝ }
+{
+    let body = [0u8; 76];
+    let p = configure::configure_fifo(fifo, c);
+    of_plan(p, body)
+}
+
+pub fn configure_filter(filter: u32, c: FilterConfiguration) -> Call
+    ensures { λ r. ⌜ callOf r ≡ started (Planned (Filter filter c)) ⌝ }
+{
+    let mut body = [0u8; 76];
+    let p = configure::configure_filter(filter, c, &mut body);
+    of_plan(p, body)
+}
+
+pub fn disable_filter(filter: u32) -> Call
+    ensures { λ r. ⌜ callOf r ≡ started (Planned (FilterOff filter)) ⌝ }
+{
+    let body = [0u8; 76];
+    let p = configure::disable_filter(filter);
+    of_plan(p, body)
+}
+
+// All but FIFOs and filters.
+pub fn configure(s: Settings) -> Call
+    ensures { λ r. ⌜ callOf r ≡ started (Planned (Configure s)) ⌝ }
+{
+    let mut body = [0u8; 76];
+    let p = configure::configure_all(s, &mut body);
+    of_plan(p, body)
+}
+
+pub fn request(fifo: u32) -> Call
+    ensures { λ r. ⌜ callOf r ≡ started (Request fifo) ⌝ }
+{
+    let body = [0u8; 76];
+    let p = configure::request(fifo);
+    of_plan(p, body)
+}
+
+pub fn push(fifo: u32, header: Header, seq: u32, payload: &[u8]) -> Call
+    ensures { λ r. ⌜ callOf r ≡ started (Push fifo header seq (now (payload .entry))) ⌝ }
+{
+    let mut body = [0u8; 76];
+    let p = tx_fifo::push_start(fifo_number(fifo), header, seq, payload, &mut body);
+    Call {
+        numbers: with_push(idle(Family::Push), p),
+        body: body,
+    }
+}
+
+// A push, and where it is done a request.
+pub fn transmit(fifo: u32, header: Header, seq: u32, payload: &[u8]) -> Call
+    ensures { λ r. ⌜ callOf r ≡ started (Transmit fifo header seq (now (payload .entry))) ⌝ }
+{
+    let mut body = [0u8; 76];
+    let p = transmit::transmit_start(fifo_number(fifo), header, seq, payload, &mut body);
+    Call {
+        numbers: with_transmit(idle(Family::Transmit), p),
+        body: body,
+    }
+}
+
+pub fn has_next(fifo: u32) -> Call
+    ensures { λ r. ⌜ callOf r ≡ started (HasNext fifo) ⌝ }
+{
+    let mut body = [0u8; 76];
+    let p = rx_fifo::has_next_start(fifo_number(fifo), &mut body);
+    of_fetch(p, body)
+}
+
+// `room` is the length of the buffer that will be lent to `finish` for the payload: 64 or more.
+pub fn peek(fifo: u32, room: usize) -> Call
+    ensures { λ r. ⌜ callOf r ≡ started (Peek fifo room) ⌝ }
+{
+    let mut body = [0u8; 76];
+    let p = rx_fifo::peek_start(fifo_number(fifo), room, &mut body);
+    of_fetch(p, body)
+}
+
+// As a peek, and the message is taken from the FIFO.
+pub fn get(fifo: u32, room: usize) -> Call
+    ensures { λ r. ⌜ callOf r ≡ started (Get fifo room) ⌝ }
+{
+    let mut body = [0u8; 76];
+    let p = rx_fifo::get_start(fifo_number(fifo), room, &mut body);
+    of_fetch(p, body)
+}
