@@ -1,2 +1,4 @@
 pub mod Whole
+pub mod Numbers
+pub mod Moves
 pub mod Laws

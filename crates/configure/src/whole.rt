@@ -3,64 +3,50 @@ ghost use mathlib.Core.Path.{_≡_};
 ghost use mathlib.Core.Bool.{true};
 ghost use Prim.Native.Nat.{_<_};
 ghost use Rattle.plan.specs.Prepared.{planFor};
-ghost use Rattle.plan.specs.Step.{filled};
+ghost use Rattle.plan.specs.Step.{planOf};
 ghost use Rattle.changes.specs.Changes.{timingFits};
+ghost use Rattle.adjust.specs.Calls.{failed};
 ghost use Rattle.configure.specs.Whole.{configureItems, configureAll};
+ghost use Rattle.configure.specs.Numbers.{planIn};
+use crate::PlanKind;
+use crate::PlanNumbers;
+use crate::calls::plan_with;
+use crate::calls::refused_plan;
+use crate::items::put_word;
+use crate::items::put_words;
 use changes::Settings;
-use plan::Item;
-use plan::Plan;
-use plan::Poll;
-use plan::Slot;
-use plan::plan_of;
-use plan::refused_plan;
 use spi::Refusal;
 
-// All fifteen items.
-fn whole(s: Settings) -> [Slot; 15]
+// The words of all fifteen items.
+fn whole(s: Settings, body: &mut [u8; 76]) -> PlanNumbers
     requires { ⌜ (timingFits (s .bittime) ≡ true) × (s .dncnt < 32) ⌝ }
-    ensures { λ r. ⌜ r ≡ filled (configureItems s) ⌝ }
+    ensures { λ r. ⌜ planIn r (now (body .exit)) ≡ planOf failed (configureItems s) ⌝ }
 {
-    let late = Refusal::ConfigurationModeTimeout;
-    let oscillator = s.oscillator;
+    let o = s.oscillator;
+    let io = s.io;
     let b = s.bittime;
-    let a = changes::mode_change(4);
-    let c = Item::Poll(Poll::Mode(4, late), 4);
-    let f = changes::oscillator_change(oscillator);
-    let g = changes::pll_poll(oscillator.pll);
-    let h = changes::io_change(s.io);
-    let j = changes::nominal_change(b.nominal);
-    let k = changes::data_change(b.data);
-    let l = changes::delay_change(b.data);
-    let m = changes::stef_change();
-    let o = changes::txqen_change();
-    let p = changes::counter_change(s.counter);
-    let q = changes::dncnt_change(s.dncnt);
-    let r = changes::rtxat_change();
-    let t = changes::interrupt_change(s);
-    [
-        Slot { item: a },
-        Slot { item: c },
-        Slot { item: Item::Echo },
-        Slot { item: f },
-        Slot { item: g },
-        Slot { item: h },
-        Slot { item: j },
-        Slot { item: k },
-        Slot { item: l },
-        Slot { item: m },
-        Slot { item: o },
-        Slot { item: p },
-        Slot { item: q },
-        Slot { item: r },
-        Slot { item: t },
-    ]
+    let n = b.nominal;
+    let d = b.data;
+    put_word(body, 0, changes::oscillator_bits(o));
+    put_word(body, 1, changes::io_bits(io));
+    put_words(
+        body,
+        2,
+        changes::nominal_bits(n),
+        changes::data_bits(d),
+        changes::delay_bits(d),
+    );
+    put_word(body, 5, changes::dncnt_bits(s.dncnt));
+    put_word(body, 6, changes::interrupt_bits(s));
+    let x = changes::mode_change(changes::mode_bits(4));
+    plan_with(PlanKind::Configure, 4, x)
 }
 
-pub fn configure_all(s: Settings) -> Plan
-    ensures { λ r. ⌜ r ≡ planFor (configureAll s) ⌝ }
+pub fn configure_all(s: Settings, body: &mut [u8; 76]) -> PlanNumbers
+    ensures { λ r. ⌜ planIn r (now (body .exit)) ≡ planFor (configureAll s) ⌝ }
 {
     if changes::settings_fit(s) {
-        plan_of(Refusal::ConfigurationModeTimeout, whole(s))
+        whole(s, body)
     } else {
         refused_plan(Refusal::BadSetting)
     }
