@@ -3,11 +3,10 @@
 ghost use mathlib.Core.Path.{_≡_};
 ghost use mathlib.Core.List.{[]};
 ghost use Rattle.message.specs.Structs.{encodedAs};
-ghost use Rattle.spi.specs.Talk.{onWord, onDone};
+ghost use Rattle.spi.specs.Talk.{onWord};
 ghost use Rattle.tx_fifo.specs.declared.push.PushAt.{PushAt};
-ghost use Rattle.tx_fifo.specs.declared.push.PushStage.{PushStage};
 ghost use Rattle.tx_fifo.specs.Step.{encodingFor, startOf, afterControl, afterStatus, afterAddress, askOf, outcomeOf, isDone};
-ghost use Rattle.tx_fifo.specs.Numbers.{stageAt, pushOf, PushMoves, PushSteps};
+ghost use Rattle.tx_fifo.specs.Numbers.{pushOf, PushMoves, PushSteps};
 use call::Outcome;
 use fifo::FifoControl;
 use fifo::FifoStatus;
@@ -207,15 +206,6 @@ fn on_address(c: PushNumbers, reply: OneWord) -> PushNumbers
     }
 }
 
-fn on_written(c: PushNumbers, reply: Done, next: PushStage) -> PushNumbers
-    ensures { λ r. ⌜ PushMoves c (onDone PushAt.Refused reply (stageAt next c)) r ⌝ }
-{
-    match reply {
-        Done::Good => moved(c, next, c.w, c.m),
-        Done::Bad(r) => refused(c, r),
-    }
-}
-
 pub fn push_step(c: PushNumbers, answer: Answer, rx: &[u8]) -> PushNumbers
     ensures { λ r. ⌜ PushSteps c answer (now (rx .entry)) r ⌝ }
 {
@@ -224,16 +214,14 @@ pub fn push_step(c: PushNumbers, answer: Answer, rx: &[u8]) -> PushNumbers
         PushStage::Control => on_control(c, word_reply(Refusal::SpiRead, answer, rx)),
         PushStage::Status => on_status(c, word_reply(Refusal::SpiRead, answer, rx)),
         PushStage::Address => on_address(c, word_reply(Refusal::SpiRead, answer, rx)),
-        PushStage::Write => on_written(
-            c,
-            done_reply(Refusal::SpiWrite, answer, rx.len(), 0),
-            PushStage::Commit,
-        ),
-        PushStage::Commit => on_written(
-            c,
-            done_reply(Refusal::SpiRead, answer, rx.len(), 0),
-            PushStage::Done,
-        ),
+        PushStage::Write => match done_reply(Refusal::SpiWrite, answer, rx.len(), 0) {
+            Done::Good => moved(c, PushStage::Commit, c.w, 0),
+            Done::Bad(r) => refused(c, r),
+        },
+        PushStage::Commit => match done_reply(Refusal::SpiRead, answer, rx.len(), 0) {
+            Done::Good => moved(c, PushStage::Done, c.w, 0),
+            Done::Bad(r) => refused(c, r),
+        },
         PushStage::Done => refused(c, Refusal::WrongAnswer),
         PushStage::Refused => refused(c, Refusal::WrongAnswer),
     }
@@ -275,9 +263,13 @@ pub fn push_outcome(c: PushNumbers) -> Outcome
     let stage = c.stage;
     let why = c.why;
     match stage {
+        PushStage::Control => Outcome::Running,
+        PushStage::Status => Outcome::Running,
+        PushStage::Address => Outcome::Running,
+        PushStage::Write => Outcome::Running,
+        PushStage::Commit => Outcome::Running,
         PushStage::Done => Outcome::Done,
         PushStage::Refused => Outcome::Refused(why),
-        _ => Outcome::Running,
     }
 }
 
@@ -286,7 +278,12 @@ pub fn push_done(c: PushNumbers) -> bool
 {
     let stage = c.stage;
     match stage {
+        PushStage::Control => false,
+        PushStage::Status => false,
+        PushStage::Address => false,
+        PushStage::Write => false,
+        PushStage::Commit => false,
         PushStage::Done => true,
-        _ => false,
+        PushStage::Refused => false,
     }
 }

@@ -1,26 +1,16 @@
+-- `tx_fifo::push::encoded_for` meets its contract.
+-- Assumes nothing.
+use mathlib.Core.Path.{sym, _∙_}
 use borrow.Author.Needs.{needs}
+use Rattle.parts.specs.Parts.{zeroed}
+use Rattle.tx_fifo.specs.Step.{encodingFor}
 use Rattle.tx_fifo.proofs.push.encoded_for.Statement.{statement}
 use Rattle.tx_fifo.proofs.push.encoded_for.Tie as tie
-use Rattle.tx_fifo.proofs.push.encoded_for.Reads as reads
-use Rattle.tx_fifo.proofs.push.encoded_for.Lts as lts
-use Rattle.fifo.proofs.is_fifo.Reads as is-fifo-reads
-use Rattle.message.proofs.encode.Reads as encode-reads
-
--- src/push.rt:77:8
-is-fifo-requires : tie.Need-is-fifo-requires
-is-fifo-requires c κs = search needs
-
--- src/push.rt:78:9
-encode-requires : tie.Need-encode-requires
-encode-requires c κs = search needs
-
--- src/push.rt:74:1
-returns : tie.Need-returns
-returns c = ?
-
--- src/push.rt:74:1
-returns-2 : tie.Need-returns-2
-returns-2 c = ?
 
 pub encoded-for-spec : {M : Type 1} → statement M
-encoded-for-spec = tie.close (tie.spec is-fifo-requires encode-requires returns returns-2)
+unfolding encodingFor zeroed
+encoded-for-spec =
+    tie.close
+    (tie.spec (λ c κs. search needs) (λ c κs. search needs)
+    (λ c. simp (c .encode .ensures, sym (c .before .before .is-fifo .ensures) ∙ c .before .if1 .taken))
+    (λ c. simp (sym (c .before .is-fifo .ensures) ∙ c .if1 .left)))
