@@ -148,16 +148,16 @@ pub fn verify() -> Call
 pub fn set_op_mode(mode: u32) -> Call
     ensures { λ r. ⌜ callOf r ≡ started (Planned (SetOpMode mode)) ⌝ }
 {
-    let mut body = [0u8; 76];
-    let p = configure::set_op_mode(mode, &mut body);
+    let body = [0u8; 76];
+    let p = configure::set_op_mode(mode);
     of_plan(p, body)
 }
 
 pub fn configure_osc(c: OscillatorConfiguration) -> Call
     ensures { λ r. ⌜ callOf r ≡ started (Planned (Osc c)) ⌝ }
 {
-    let mut body = [0u8; 76];
-    let p = configure::configure_osc(c, &mut body);
+    let body = [0u8; 76];
+    let p = configure::configure_osc(c);
     of_plan(p, body)
 }
 
