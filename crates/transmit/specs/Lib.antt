@@ -1,1 +1,2 @@
 pub mod Transmit
+pub mod Numbers

@@ -1,8 +1,10 @@
-// Two calls on a FIFO that sends: it is requested to send, and a push and a request as one call.
+// A push and a request as one call on a FIFO that sends.
 mod transmit;
 
+pub use transmit::RequestStage;
 pub use transmit::Transmit;
-pub use transmit::request_start;
+pub use transmit::TransmitNumbers;
+pub use transmit::accepted;
 pub use transmit::transmit_ask;
 pub use transmit::transmit_outcome;
 pub use transmit::transmit_start;
