@@ -180,10 +180,10 @@ pub fn fetch_finish(c: FetchNumbers, body: &[u8; 76], buf: &mut [u8]) -> Outcome
     held::fill(c, body, buf);
     match stage {
         FetchStage::Done => {
-            if room < 64 {
-                Outcome::Refused(Refusal::BufferTooSmall)
-            } else {
+            if 64 <= room {
                 fetch_outcome(c)
+            } else {
+                Outcome::Refused(Refusal::BufferTooSmall)
             }
         }
         _ => fetch_outcome(c),
