@@ -1,10 +1,11 @@
 // The payload between the exchange that reads it and the end of the call: at the front of the body.
 ghost use mathlib.Core.Path.{_≡_};
 ghost use Prim.Native.Nat.{_≤_, min};
-ghost use lib.ListN.{take, replicate};
+ghost use lib.ListN.{length, take, replicate};
 ghost use Rattle.fetch.specs.Numbers.{fetchAt};
 ghost use Rattle.rx_fifo.specs.Step.{heldAt};
-ghost use Rattle.rx_fifo.specs.Outcome.{sizeAt, filled};
+ghost use Rattle.rx_fifo.specs.Outcome.{sizeAt, filledBy};
+ghost use Rattle.rx_fifo.specs.Numbers.{fetchOf};
 use fetch::FetchNumbers;
 use fetch::FetchStage;
 
@@ -34,7 +35,7 @@ pub fn hold(c: FetchNumbers, rx: &[u8], body: &mut [u8; 76])
 }
 
 // How many bytes of payload a call is done with.
-pub fn size_of(c: FetchNumbers) -> usize
+fn size_of(c: FetchNumbers) -> usize
     ensures { λ r. ⌜ r ≡ sizeAt (fetchAt c) ⌝ }
 {
     let stage = c.stage;
@@ -46,13 +47,14 @@ pub fn size_of(c: FetchNumbers) -> usize
 }
 
 // Nothing goes to a buffer that is too small.
-pub fn pour(body: &[u8; 76], n: usize, buf: &mut [u8])
-    ensures { λ _. ⌜ now (buf .exit) ≡ filled (take 64 (now (body .entry))) n (now (buf .entry)) ⌝ }
+pub fn fill(c: FetchNumbers, body: &[u8], buf: &mut [u8])
+    requires { ⌜ 64 ≤ length (now body) ⌝ }
+    ensures { λ _. ⌜ now (buf .exit) ≡ filledBy (fetchOf c (now (body .entry))) (now (buf .entry)) ⌝ }
 {
+    let n = size_of(c);
     if 64 <= buf.len() {
         let start = 0;
         let end = at_most_64(n);
-        let b = &body[..];
-        parts::put_at(buf, 0, &b[start..end]);
+        parts::put_at(buf, 0, &body[start..end]);
     }
 }

@@ -168,8 +168,7 @@ pub fn fetch_outcome(c: FetchNumbers) -> Outcome
 pub fn fetch_fill(c: FetchNumbers, body: &[u8; 76], buf: &mut [u8])
     ensures { λ _. ⌜ now (buf .exit) ≡ filledBy (fetchOf c (now (body .entry))) (now (buf .entry)) ⌝ }
 {
-    let n = held::size_of(c);
-    held::pour(body, n, buf);
+    held::fill(c, body, buf);
 }
 
 // How the call ended, with the lent buffer filled; 28 where that is too small for a message.
@@ -178,13 +177,13 @@ pub fn fetch_finish(c: FetchNumbers, body: &[u8; 76], buf: &mut [u8]) -> Outcome
 {
     let room = buf.len();
     let stage = c.stage;
-    fetch_fill(c, body, buf);
+    held::fill(c, body, buf);
     match stage {
         FetchStage::Done => {
-            if room < 64 {
-                Outcome::Refused(Refusal::BufferTooSmall)
-            } else {
+            if 64 <= room {
                 fetch_outcome(c)
+            } else {
+                Outcome::Refused(Refusal::BufferTooSmall)
             }
         }
         _ => fetch_outcome(c),

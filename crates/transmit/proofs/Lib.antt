@@ -1,1 +1,2 @@
 pub mod Transmits
+mod Requests

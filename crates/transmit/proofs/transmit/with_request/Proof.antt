@@ -1,48 +1,18 @@
+-- `transmit::transmit::with_request` meets its contract.
+-- Assumes nothing.
+use mathlib.Core.Path.{sym, _∙_}
 use borrow.Author.Needs.{needs}
+use Rattle.transmit.specs.Transmit.{requestStart}
+use Rattle.transmit.proofs.Requests.{is-done}
+use Rattle.plan.specs.Step.{arrivedAt}
 use Rattle.transmit.proofs.transmit.with_request.Statement.{statement}
 use Rattle.transmit.proofs.transmit.with_request.Tie as tie
-use Rattle.transmit.proofs.transmit.with_request.Reads as reads
-use Rattle.transmit.proofs.transmit.with_request.Lts as lts
-use Rattle.fifo.proofs.is_fifo.Reads as is-fifo-reads
-use Rattle.transmit.proofs.transmit.requesting.Reads as requesting-reads
-use Rattle.tx_fifo.proofs.push_done.Reads as push-done-reads
-
--- src/transmit.rt:77:8
-push-done-requires : tie.Need-push-done-requires
-push-done-requires c κs = search needs
-
--- src/transmit.rt:78:20
-cast-is-fifo : tie.Need-cast-is-fifo
-cast-is-fifo c = search needs
-
--- src/transmit.rt:78:12
-is-fifo-requires : tie.Need-is-fifo-requires
-is-fifo-requires c κs = search needs
-
--- src/transmit.rt:84:13
-requesting-requires : tie.Need-requesting-requires
-requesting-requires c κs = search needs
-
--- src/transmit.rt:74:1
-returns : tie.Need-returns
-returns c = ?
-
--- src/transmit.rt:74:1
-returns-2 : tie.Need-returns-2
-returns-2 c = ?
-
--- src/transmit.rt:74:1
-returns-3 : tie.Need-returns-3
-returns-3 c = ?
 
 pub with-request-spec : {M : Type 1} → statement M
+unfolding requestStart arrivedAt
 with-request-spec =
     tie.close
-    (tie.spec
-    push-done-requires
-    cast-is-fifo
-    is-fifo-requires
-    requesting-requires
-    returns
-    returns-2
-    returns-3)
+    (tie.spec (λ c κs. search needs) (search needs) (λ c κs. search needs) (λ c κs. search needs)
+    (λ c body. let b = c .before .before .before in simp (sym (c .before .is-fifo .ensures) ∙ c .if2 .taken, sym (b .before .push-done .ensures) ∙ b .if1 .taken))
+    (λ c body. let b = c .before .before .before .before in simp (c .requesting .ensures, sym (c .before .before .is-fifo .ensures) ∙ c .before .if2 .left, is-done (b .before .before .args .p) (sym (b .before .push-done .ensures) ∙ b .if1 .taken)))
+    (λ c body. simp (sym (c .before .push-done .ensures) ∙ c .if1 .left)))
