@@ -1,3 +1,4 @@
+mod Arms
 mod Tests
 mod Pattern
 pub mod Laws

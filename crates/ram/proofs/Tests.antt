@@ -1,8 +1,8 @@
 -- What the tests of the code say.
 -- Assumes nothing.
 use Prim.Native.Nat.{ℕ, _+_, _-_, _≤_, _<_, _%_, _^_}
-use mathlib.Core.Path.{_≡_, refl, sym, _∙_}
-use mathlib.Core.Bool.{Bool, true, false}
+use mathlib.Core.Path.{_≡_, refl, sym}
+use mathlib.Core.Bool.{Bool, true, false, false≢true}
 use mathlib.Core.List.{List}
 use native.Mathlib.Omega.{arith}
 use lib.Dec.{leb, eqb}
@@ -12,7 +12,7 @@ use Rattle.spi.specs.declared.refusal.Refusal.{Refusal}
 use Rattle.spi.specs.declared.refusal.Done.{Done}
 use Rattle.spi.specs.Ram.{inRange, accessOf}
 use Rattle.spi.proofs.Laws.{range-told}
-use Rattle.ram.specs.Echo.{same}
+use Rattle.ram.specs.Echo.{echoBytes, same}
 use Rattle.ram.proofs.Laws.{same-law}
 
 -- two tests that are true together are the same
@@ -28,10 +28,9 @@ no-wrap place count room h =
     (λ e. le-leb (place + count) room (omega (arith, leb-true count (room - place) e)))
     (λ e. le-leb count (room - place) (omega (arith, leb-true (place + count) room e)))
 
--- a test that is true exactly if two lists are equal
-pub test-same : {r : Bool} {xs ys zs : List ℕ} → ys ≡ zs → (r ≡ true → xs ≡ ys) × (xs ≡ ys → r ≡ true) → r ≡ same xs zs
-test-same {r} {xs} {ys} {zs} e (f, g) =
-    agree r (same xs zs) (λ h. same-law xs zs .1 (f h ∙ e)) (λ h. g (same-law xs zs .0 h ∙ sym e))
+-- what is not the pattern is not the same
+pub no-echo : (rx : List ℕ) → (rx ≡ echoBytes → ⊥) → false ≡ same rx echoBytes
+no-echo rx h = agree false (same rx echoBytes) (λ e. absurd (false≢true e)) (λ e. absurd (h (same-law rx echoBytes .0 e)))
 
 -- an address in range has 16 bits
 good : (b c : Bool) (r s : Refusal) → (if b then if c then Done.Good else Done.Bad r else Done.Bad s) ≡ Done.Good → b ≡ true

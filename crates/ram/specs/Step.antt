@@ -87,18 +87,18 @@ filledBy RamCall.EchoRead rx buf = buf
 filledBy RamCall.Done rx buf = buf
 filledBy (RamCall.Refused r) rx buf = buf
 
--- how a read that is done ends, so many bytes being shown again and a buffer of so many lent again: 28, then 26
-unfoldable pub finishedPart : (place count got room : ℕ) → Outcome
-finishedPart place count got room =
-    if inside place count room then if eqb got count then Outcome.Done else Outcome.Refused Refusal.WrongAnswer
+-- how a read that is done ends, where got bytes stand beside it and lent are in the buffer: 28, then 26
+unfoldable pub finishedPart : (place count got lent : ℕ) → Outcome
+finishedPart place count got lent =
+    if inside place count lent then if eqb got count then Outcome.Done else Outcome.Refused Refusal.WrongAnswer
     else Outcome.Refused Refusal.BufferTooSmall
 
--- how the call ends with the lent buffer
-unfoldable pub finishedAs : RamCall → (got room : ℕ) → Outcome
-finishedAs (RamCall.Read address place count) got room = Outcome.Running
-finishedAs (RamCall.Received place count) got room = finishedPart place count got room
-finishedAs (RamCall.Write address count) got room = Outcome.Running
-finishedAs RamCall.EchoWrite got room = Outcome.Running
-finishedAs RamCall.EchoRead got room = Outcome.Running
-finishedAs RamCall.Done got room = Outcome.Done
-finishedAs (RamCall.Refused r) got room = Outcome.Refused r
+-- how the call ended, told with the lent buffer
+unfoldable pub finishedAs : RamCall → (got lent : ℕ) → Outcome
+finishedAs (RamCall.Read address place count) got lent = Outcome.Running
+finishedAs (RamCall.Received place count) got lent = finishedPart place count got lent
+finishedAs (RamCall.Write address count) got lent = Outcome.Running
+finishedAs RamCall.EchoWrite got lent = Outcome.Running
+finishedAs RamCall.EchoRead got lent = Outcome.Running
+finishedAs RamCall.Done got lent = Outcome.Done
+finishedAs (RamCall.Refused r) got lent = Outcome.Refused r

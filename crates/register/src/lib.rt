@@ -122,8 +122,14 @@ pub fn register_ask(c: RegisterNumbers) -> Ask
     let stage = c.stage;
     match stage {
         RegisterStage::Reset => Ask::Reset,
-        RegisterStage::Read => Ask::Read { address: c.m, count: 4 },
-        RegisterStage::Write => Ask::Word { address: c.m, word: c.w },
+        RegisterStage::Read => Ask::Read {
+            address: c.m,
+            count: 4,
+        },
+        RegisterStage::Write => Ask::Word {
+            address: c.m,
+            word: c.w,
+        },
         RegisterStage::Checked => Ask::Checked { address: c.m },
         RegisterStage::Mode => Ask::Read {
             address: CanControl::address(),

@@ -22,13 +22,13 @@ abbrev μ-loop : tie.MeasureT-loop
 pub echo-pattern-spec : {M : Type 1} → statement M
 echo-pattern-spec =
     tie.close
-    (tie.spec Inv-loop μ-loop (λ c. (search needs, no-words)) (search needs) (search needs) (λ c κs. search needs)
-    (λ c. let l = c .before .before .before .loop in sym (ap length (l .inv .1) ∙ length-pattern (l .i) (l .inv .0)))
+    (tie.spec Inv-loop μ-loop (λ c. (search needs, no-words)) (λ c κs. search needs) (λ c κs. search needs)
+    (λ c. let l = c .before .before .before .before .loop in sym (ap length (l .inv .1) ∙ length-pattern (l .i) (l .inv .0)))
     (search needs) (search needs)
     (λ c κs.
-    let l = c .before .before .before .before .loop in
+    let l = c .before .before .before .before .before .loop in
     omega (arith, ap length (l .inv .1) ∙ length-pattern (l .i) (l .inv .0), ap length (c .before .before .le-bytes .ensures) ∙ le-length _))
     (search needs) (search needs)
     (λ c. let b = c .before .before .before .before in
-    (search needs, next-word _ (b .before .loop-test .taken) (b .before .before .loop .inv .1) (b .le-bytes .ensures) (c .before .put-at .ensures)))
+    (search needs, next-word _ (b .before .before .before .loop .inv .1) (b .before .echo-word .ensures) (b .le-bytes .ensures) (c .before .put-at .ensures)))
     (λ c. let l = c .before .loop in l .inv .1 ∙ ap (λ (n : ℕ). zeroed 128 (bitWords n)) (le-antisymm (l .inv .0) (c .loop-test .left)) ∙ all-words))
