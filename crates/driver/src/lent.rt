@@ -63,13 +63,13 @@ fn next_echo(q: Ask, tx: &mut [u8]) -> Next {
     send::put_next(q, &p, tx)
 }
 
-// The bytes that the call's RAM write sends: a push's and a transmit's object, otherwise what was lent.
-fn body_in<'a>(c: Numbers, body: &'a [u8], lent: &'a [u8]) -> &'a [u8] {
+// Whether what the call writes to RAM is its own, the object of a push or a transmit, and not what was lent.
+fn is_own(c: Numbers) -> bool {
     let family = c.family;
     match family {
-        Family::Push => body,
-        Family::Transmit => body,
-        _ => lent,
+        Family::Push => true,
+        Family::Transmit => true,
+        _ => false,
     }
 }
 
@@ -78,11 +78,14 @@ pub fn next_lent(c: Numbers, body: &[u8; 76], lent: &[u8], tx: &mut [u8]) -> Nex
     ensures { λ r. ⌜ (r ≡ nextOf (askOf (modelOf c (now (body .entry)))) (bodyOf (modelOf c (now (body .entry))) (now (lent .entry))) (now (tx .entry))) × (now (tx .exit) ≡ putInto (askOf (modelOf c (now (body .entry)))) (bodyOf (modelOf c (now (body .entry))) (now (lent .entry))) (now (tx .entry))) ⌝ }
 {
     let q = ask(c);
-    if is_echo(c) {
-        next_echo(q, tx)
+    if is_own(c) {
+        send::put_next(q, body, tx)
     } else {
-        let b = &body[..];
-        send::put_next(q, body_in(c, b, lent), tx)
+        if is_echo(c) {
+            next_echo(q, tx)
+        } else {
+            send::put_next(q, lent, tx)
+        }
     }
 }
 

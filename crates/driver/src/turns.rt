@@ -72,9 +72,9 @@ pub fn turns_lent(c: Numbers, body: &[u8; 76]) -> u32
     match family {
         Family::Register => register_turns(stage, c.more),
         Family::Ram => ram_turns(ram),
-        Family::Plan => configure::plan_turns(parts_of::plan_part(c), body),
+        Family::Plan => 0,
         Family::Push => push_turns(push),
-        Family::Transmit => push_turns(push) + transmit::request_turns(parts_of::transmit_part(c)),
+        Family::Transmit => 0,
         Family::Fetch => fetch_turns(fetch),
     }
 }
