@@ -215,11 +215,10 @@ function ours() {
     p++
     if (token[p + 1] in taken) { p += 2; refused("a module with a name that is taken") }
 }
-# A path begins with a module of this file or a crate.
+# A path begins with a crate or a module of this file. No module has a crate's name; a function may.
 function from(w) {
-    if (w in here) return
-    if (!(w in dep)) refused("crates.txt does not say that " name " stands on it")
-    named[w] = 1
+    if (w in dep) { named[w] = 1; return }
+    if (!(w in here)) refused("crates.txt does not say that " name " stands on it")
 }
 
 function mod(    w) {

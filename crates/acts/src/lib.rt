@@ -38,7 +38,7 @@ fn answered(words: &[u8], answer: &[u8]) {
 }
 
 fn sent(m: Model, words: &[u8], numbers: &[u64]) -> Model {
-    let s = bus::send(m, starts::byte(numbers, 0));
+    let s = bus::send(m, starts::word(numbers, 0));
     let sending = s.sending;
     let f = s.frame;
     let mut out = [0u8; 256];
@@ -50,7 +50,7 @@ fn sent(m: Model, words: &[u8], numbers: &[u64]) -> Model {
 fn delivered(m: Model, words: &[u8], numbers: &[u64], payload: &[u8]) -> Model {
     let d = bus::deliver(
         m,
-        starts::byte(numbers, 0),
+        starts::word(numbers, 0),
         starts::header_of(numbers),
         starts::word(numbers, 3),
         payload,
@@ -122,7 +122,7 @@ fn put_item(reading: Reading, sending: bool, f: Frame, out: &mut [u8]) -> usize 
     }
 }
 
-fn item(m: Model, n: u8, k: u8) {
+fn item(m: Model, n: u32, k: u8) {
     let d = bus::held_at(m, n, k);
     let reading = d.reading;
     let f = d.frame;
@@ -131,7 +131,7 @@ fn item(m: Model, n: u8, k: u8) {
     write_line(text::front(&out, a));
 }
 
-fn items(m: Model, n: u8, count: u8) {
+fn items(m: Model, n: u32, count: u8) {
     let mut k: u8 = 0;
     while k < count {
         item(m, n, k);
@@ -139,15 +139,15 @@ fn items(m: Model, n: u8, count: u8) {
     }
 }
 
-fn put_held(m: Model, n: u8, out: &mut [u8]) -> usize {
-    if fifo::is_fifo(n as u32) {
+fn put_held(m: Model, n: u32, out: &mut [u8]) -> usize {
+    if fifo::is_fifo(n) {
         return lines::decimal(out, 0, bus::held_len(m, n) as u64);
     }
     lines::refusal(out, 0, Refusal::BadNumber)
 }
 
 // A FIFO that there is not holds nothing.
-fn held(m: Model, n: u8, words: &[u8]) {
+fn held(m: Model, n: u32, words: &[u8]) {
     let mut out = [0u8; 64];
     let k = put_held(m, n, &mut out);
     write(words);
@@ -172,7 +172,7 @@ pub fn between(m: Model, s: Spoken, words: &[u8], numbers: &[u64], lent: &[u8]) 
             s.count,
         ),
         script::HELD => {
-            held(m, starts::byte(numbers, 0), words);
+            held(m, starts::word(numbers, 0), words);
             m
         }
         _ => {

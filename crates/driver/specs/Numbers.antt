@@ -6,7 +6,7 @@ use Rattle.register.specs.declared.RegisterNumbers.{RegisterNumbers}
 use Rattle.register.specs.Numbers.{registerOf}
 use Rattle.ram.specs.declared.RamNumbers.{RamNumbers}
 use Rattle.ram.specs.Numbers.{ramOf}
-use Rattle.configure.specs.declared.numbers.PlanNumbers.{PlanNumbers}
+use Rattle.configure.specs.declared.planned.PlanNumbers.{PlanNumbers}
 use Rattle.configure.specs.Numbers.{planIn}
 use Rattle.tx_fifo.specs.declared.push.PushNumbers.{PushNumbers}
 use Rattle.tx_fifo.specs.Numbers.{pushOf}

@@ -15,9 +15,9 @@ fn tell_refusal(r: Refusal) {
 
 // How a call that was started ended, with no buffer lent: it is refused, or has still to ask.
 fn begun(call: Call) -> Outcome {
-    let mut none = [0u8; 1];
-    let start = 0;
-    driver::finish(call, &none[start..start], &mut none)
+    let none = [0u8; 1];
+    let mut buf = [0u8; 1];
+    driver::finish(call, text::front(&none, 0), &mut buf)
 }
 
 fn tell(what: &[u8], o: Outcome) {
@@ -142,8 +142,8 @@ fn peeked(payload: &[u8]) -> Call {
 
 fn taken(what: &[u8], call: Call) {
     let mut buf = [0xAAu8; 70];
-    let start = 0;
-    tell(what, driver::finish(call, &[0u8; 1][start..start], &mut buf));
+    let none = [0u8; 1];
+    tell(what, driver::finish(call, text::front(&none, 0), &mut buf));
     show(b"  buffer ", &buf);
 }
 

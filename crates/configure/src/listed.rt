@@ -11,7 +11,7 @@ ghost use Rattle.spi.specs.declared.refusal.Refusal.{Refusal};
 ghost use Rattle.plan.specs.declared.item.Poll.{Poll};
 ghost use Rattle.plan.specs.declared.item.Item.{Item};
 ghost use Rattle.changes.specs.Changes.{whenAsked, counterChange, dncntTo};
-ghost use Rattle.configure.specs.declared.numbers.PlanKind.{PlanKind};
+ghost use Rattle.configure.specs.declared.planned.PlanKind.{PlanKind};
 ghost use Rattle.configure.specs.Numbers.{word, pllFor, itemsFor, itemsIn, changeIn};
 ghost use Rattle.configure.specs.Moves.{Counts, Stored, StoredAll};
 use crate::PlanKind;
