@@ -1,13 +1,13 @@
 -- The laws of the bus steps and of the messages held.
 -- Assumes nothing.
-use Prim.Native.Nat.{ℕ, zero, suc, _+_, _-_, _≤_, _<_}
+use Prim.Native.Nat.{ℕ, zero, suc, _+_, _-_, _^_, _≤_, _<_}
 use mathlib.Core.Path.{_≡_, refl, sym, ap, _∙_}
 use mathlib.Core.Bool.{Bool, true, false, _&&_, not}
 use mathlib.Core.List.{List, [], _∷_}
 use native.Mathlib.Nat.{le-of-suc-le-suc, not-suc-le-zero}
 use native.Mathlib.Omega.{arith}
-use borrow.Author.Tests.{ltb-true, ltb-false}
-use lib.Dec.{ltb, eqb}
+use borrow.Author.Tests.{leb-true, ltb-true, ltb-false}
+use lib.Dec.{leb, ltb, eqb}
 use lib.ListN.{length, getD, List·getD-eq-default}
 use lib.Seq.{getD-set-same, ext-getD}
 use Rattle.laws.specs.If.{if_then_else_}
@@ -98,7 +98,17 @@ in-list m n h = go (ltb n (length (m .fifo))) refl
     go true e = ltb-true n (length (m .fifo)) e
     go false e = absurd (not-suc-le-zero (rw (List·getD-eq-default (m .fifo) blank {n = n} (ltb-false n (length (m .fifo)) e)) at h))
 
+-- a FIFO's number has 8 bits
+pub fifo-fits : (n : ℕ) → isFifo n ≡ true → n < 2 ^ 8
+unfolding isFifo
+fifo-fits n e = omega (arith, leb-true n 31 (both (leb 1 n) (leb n 31) e .1))
+
 -- ---- the messages held
+
+-- only a FIFO holds any
+pub held-fifo : (m : Model) (n k : ℕ) → k < length (held m n) → isFifo n ≡ true
+unfolding held
+held-fifo m n k = by-if (λ (l : List Decoding). k < length l → isFifo n ≡ true) (isFifo n) (λ e h. e) (λ e h. absurd (not-suc-le-zero h))
 
 -- a FIFO holds as many as it counts
 pub held-length : (m : Model) (n : ℕ) → isFifo n ≡ true → length (held m n) ≡ fifoAt m n .count

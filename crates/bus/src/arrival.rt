@@ -95,12 +95,13 @@ fn appended(m: Model, n: u8, len: usize, object: &[u8]) -> Delivered
     }
 }
 
-pub fn deliver(m: Model, n: u8, header: Header, time: u32, payload: &[u8]) -> Delivered
+pub fn deliver(m: Model, n: u32, header: Header, time: u32, payload: &[u8]) -> Delivered
     ensures { λ r. ⌜ r ≡ deliverOf m n header time (now (payload .entry)) ⌝ }
 {
-    if !fifo::is_fifo(n as u32) {
+    if !fifo::is_fifo(n) {
         return told(Delivery::Refused(Refusal::BadNumber), m);
     }
+    let n = n as u8;
     let e = message::encode(header, 0, stamp_of(m, n, time), payload);
     let done = e.done;
     match done {

@@ -70,12 +70,13 @@ fn taken(item: Decoded, m: Model) -> Sent
     }
 }
 
-pub fn send(m: Model, n: u8) -> Sent
+pub fn send(m: Model, n: u32) -> Sent
     ensures { λ r. ⌜ r ≡ sentAs (sendOutput m n) (sendModel m n) ⌝ }
 {
-    if !fifo::is_fifo(n as u32) {
+    if !fifo::is_fifo(n) {
         return answered(Sending::Refused(Refusal::BadNumber), no_frame(), m);
     }
+    let n = n as u8;
     if !sends(m, n) {
         return answered(Sending::Nothing, no_frame(), m);
     }

@@ -53,22 +53,23 @@ pub fn item_at(m: Model, n: u8, k: u8) -> Decoded
     )
 }
 
-pub fn held_len(m: Model, n: u8) -> u8
+pub fn held_len(m: Model, n: u32) -> u8
     ensures { λ r. ⌜ r ≡ length (held m n) ⌝ }
 {
-    let own = fifo_at(m, n);
-    if fifo::is_fifo(n as u32) {
-        return own.count;
+    if !fifo::is_fifo(n) {
+        return 0;
     }
-    0
+    let n = n as u8;
+    let own = fifo_at(m, n);
+    own.count
 }
 
 // The message k places behind the oldest; the reading is `Short` where none is held there.
-pub fn held_at(m: Model, n: u8, k: u8) -> Decoded
+pub fn held_at(m: Model, n: u32, k: u8) -> Decoded
     ensures { λ r. ⌜ r ≡ decodedAs (getD (held m n) k short) ⌝ }
 {
     if k < held_len(m, n) {
-        return item_at(m, n, k);
+        return item_at(m, n as u8, k);
     }
     let none = [0u8; 1];
     message::decode(false, false, &none)

@@ -5,6 +5,7 @@ use lib.Seq.{length-take-le}
 use borrow.Author.Needs.{needs}
 use borrow.Author.Tests.{not-true, not-false}
 use Rattle.bus.specs.Bus.{incoming, deliverOf}
+use Rattle.bus.proofs.Laws.{fifo-fits}
 use Rattle.bus.proofs.Answers.{made, not-made}
 use Rattle.bus.proofs.arrival.deliver.Statement.{statement}
 use Rattle.bus.proofs.arrival.deliver.Tie as tie
@@ -15,6 +16,7 @@ deliver-spec =
     tie.close
     (tie.spec (λ c κs. search needs) (λ c κs. search needs)
     (λ c. rw (c .told .ensures, sym (c .before .before .is-fifo .ensures) ∙ not-true _ (c .before .if1 .taken)))
+    (λ c. record { fits = fifo-fits _ (sym (c .before .is-fifo .ensures) ∙ not-false _ (c .if1 .left)) })
     (λ c κs. search needs) (λ c κs. search needs) (search needs)
     (λ c. made _ _ (rw (c .before .before .before .before .stamp-of .ensures) at (c .before .before .before .encode .ensures)) (c .before .enum-told .given .1) .fits)
     (λ c. sym (length-take-le _ _ (made _ _ (rw (c .before .before .before .before .before .stamp-of .ensures) at (c .before .before .before .before .encode .ensures)) (c .before .before .enum-told .given .1) .fits)))
