@@ -1,7 +1,5 @@
 // The bytes of an ask, put together in a lent buffer: its head, and the first bytes of the call's body.
 ghost use mathlib.Core.Path.{_≡_};
-ghost use mathlib.Core.Bool.{_&&_};
-ghost use Prim.Native.Nat.{_+_};
 ghost use lib.ListN.{length};
 ghost use lib.Dec.{leb};
 ghost use Rattle.laws.specs.If.{if_then_else_};
@@ -24,8 +22,7 @@ pub enum Sent {
 
 // A head that no body follows; `want` bytes are received.
 fn put_head(head: &[u8], want: usize, tx: &mut [u8]) -> Next
-    ensures answered { λ r. ⌜ r ≡ (if leb (length (now (head .entry))) (length (now (tx .entry))) then Transfer (length (now (head .entry))) want else Short) ⌝ }
-    ensures filled { λ r. ⌜ now (tx .exit) ≡ (if leb (length (now (head .entry))) (length (now (tx .entry))) then put (now (tx .entry)) 0 (now (head .entry)) else now (tx .entry)) ⌝ }
+    ensures { λ r. ⌜ (r ≡ (if leb (length (now (head .entry))) (length (now (tx .entry))) then Transfer (length (now (head .entry))) want else Short)) × (now (tx .exit) ≡ (if leb (length (now (head .entry))) (length (now (tx .entry))) then put (now (tx .entry)) 0 (now (head .entry)) else now (tx .entry))) ⌝ }
 {
     let n = head.len();
     if tx.len() < n {
@@ -35,34 +32,24 @@ fn put_head(head: &[u8], want: usize, tx: &mut [u8]) -> Next
     Next::Transfer { n: n, want: want }
 }
 
-// Whether the body has `n` bytes, and the buffer room for these and the head's; the sum of the two could wrap.
-fn is_whole(send: usize, n: usize, have: usize, room: usize) -> bool
-    ensures { λ r. ⌜ r ≡ (leb n have && leb (send + n) room) ⌝ }
-{
-    if have < n {
-        return false;
-    }
-    if room < n {
-        return false;
-    }
-    if room - n < send {
-        return false;
-    }
-    true
-}
-
-// A command, and the first bytes of the body behind it.
+// A command, and the first bytes of the body behind it. The sum of their lengths could wrap before it is known to be small.
 fn put_body(address: u16, n: usize, body: &[u8], tx: &mut [u8]) -> Next
     ensures { λ r. ⌜ (r ≡ transferOf (Ask.Body address n) (now (body .entry)) (now (tx .entry))) × (now (tx .exit) ≡ putInto (Ask.Body address n) (now (body .entry)) (now (tx .entry))) ⌝ }
 {
-    if is_whole(2, n, body.len(), tx.len()) {
-        let head = spi::command(OpCode::Write, address);
-        parts::put_at(tx, 0, &head);
-        parts::put_at(tx, 2, &body[..n]);
-        Next::Transfer { n: 2 + n, want: 0 }
-    } else {
-        Next::Short
+    let room = tx.len();
+    if body.len() < n {
+        return Next::Short;
     }
+    if room < 2 {
+        return Next::Short;
+    }
+    if room - 2 < n {
+        return Next::Short;
+    }
+    let head = spi::command(OpCode::Write, address);
+    parts::put_at(tx, 0, &head);
+    parts::put_at(tx, 2, &body[..n]);
+    Next::Transfer { n: 2 + n, want: 0 }
 }
 
 // What is to be done for an ask, its bytes put at the front of the buffer.
@@ -87,7 +74,8 @@ pub fn send_with(q: Ask, body: &[u8], tx: &mut [u8]) -> Sent
     let next = put_next(q, body, tx);
     match next {
         Next::Transfer { n, want: _ } => Sent::Bytes(n),
+        Next::Wait => Sent::Bytes(0),
+        Next::Over => Sent::Bytes(0),
         Next::Short => Sent::Short,
-        _ => Sent::Bytes(0),
     }
 }
