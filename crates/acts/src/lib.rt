@@ -122,12 +122,20 @@ fn put_item(reading: Reading, sending: bool, f: Frame, out: &mut [u8]) -> usize 
     }
 }
 
+fn is_sending(m: Model, n: u32) -> bool {
+    if n < 256 {
+        ring::sending(state::frozen_at(m, n as u8))
+    } else {
+        false
+    }
+}
+
 fn item(m: Model, n: u32, k: u8) {
     let d = bus::held_at(m, n, k);
     let reading = d.reading;
     let f = d.frame;
     let mut out = [0u8; 256];
-    let a = put_item(reading, ring::sending(state::frozen_at(m, n)), f, &mut out);
+    let a = put_item(reading, is_sending(m, n), f, &mut out);
     write_line(text::front(&out, a));
 }
 

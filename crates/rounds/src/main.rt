@@ -2,25 +2,19 @@
 // modelled chip. Standard input has the number of rounds, on a line. What is written is the number of exchanges, with those that set
 // the chip up, and of messages that came out as they went in.
 use bus::Sending;
-use call::Outcome;
 use driver::Call;
-use header::Header;
+use driver::Header;
+use driver::Outcome;
 use libc::STDIN_FILENO;
 use libc::STDOUT_FILENO;
+use looping::Line;
 use message::Frame;
-use model::Heard;
-use send::Sent;
-use spi::Answer;
-use spi::Ask;
-use spoken::Line;
 use state::Model;
 use text::Number;
 
-// The chip, the call, and how many exchanges there were and messages that came out as they went in.
+// The chip with its count of exchanges, and how many messages came out as they went in.
 struct Stand {
-    model: Model,
-    call: Call,
-    exchanges: u64,
+    line: Line,
     good: u64,
 }
 
@@ -33,82 +27,33 @@ fn count(n: u64, more: bool) -> u64 {
     n
 }
 
-fn is_wait(q: Ask) -> bool {
-    match q {
-        Ask::Wait => true,
-        _ => false,
-    }
+// The stand after a call.
+struct Done {
+    stand: Stand,
+    outcome: Outcome,
 }
 
-fn is_over(c: Call) -> bool {
-    match driver::ask(c) {
-        Ask::Nothing => true,
-        _ => false,
-    }
-}
-
-fn answer_of(wait: bool, heard: Heard) -> Answer {
-    if wait {
-        return Answer::Waited;
-    }
-    match heard {
-        Heard::Failed => Answer::Failed,
-        _ => Answer::Exchanged,
-    }
-}
-
-fn length(s: Sent) -> usize {
-    match s {
-        Sent::Bytes(n) => n,
-        Sent::Short => 0,
-    }
-}
-
-// What the call asks for now, and its answer. A wait sends nothing, and the chip takes it for no exchange.
-fn turned(r: Stand) -> Stand {
+fn run(r: Stand, call: Call, buf: &mut [u8]) -> Done {
     let none = [0u8; 1];
-    let mut tx = [0u8; 160];
-    let mut rx = [0u8; 160];
-    let c = r.call;
-    let m = r.model;
-    let q = driver::ask(c);
-    let wait = is_wait(q);
-    let want = spi::exchange_of(q).want;
-    let n = length(driver::send(c, text::front(&none, 0), &mut tx));
-    let x = model::exchange(m, text::front(&tx, n), want, &mut rx);
-    let next = x.model;
-    let heard = x.heard;
-    Stand {
-        model: next,
-        call: driver::step(c, answer_of(wait, heard), text::front(&rx, want)),
-        exchanges: count(r.exchanges, !wait),
+    let line = r.line;
+    let ran = looping::run(line, call, text::front(&none, 0), buf);
+    let after = ran.line;
+    let outcome = ran.outcome;
+    let stand = Stand {
+        line: after,
         good: r.good,
+    };
+    Done {
+        stand: stand,
+        outcome: outcome,
     }
 }
 
-fn begun(r: Stand, call: Call) -> Stand {
-    let m = r.model;
-    Stand {
-        model: m,
-        call: call,
-        exchanges: r.exchanges,
-        good: r.good,
-    }
-}
-
-// A call, run to its end: none has so many exchanges and waits that the turns run out.
-fn run(r: Stand, call: Call) -> Stand {
-    let mut now = begun(r, call);
-    let mut turns: u32 = 1000;
-    while 0 < turns {
-        turns -= 1;
-        let c = now.call;
-        if is_over(c) {
-            return now;
-        }
-        now = turned(now);
-    }
-    now
+// A call that fills no buffer.
+fn ran(r: Stand, call: Call) -> Stand {
+    let mut none = [0u8; 1];
+    let d = run(r, call, &mut none);
+    d.stand
 }
 
 // A call by its line in a script.
@@ -116,26 +61,28 @@ fn call_of(line: &[u8]) -> Call {
     let mut numbers = [0u64; 24];
     let mut lent = [0u8; 64];
     match spoken::understood(line, &mut numbers, &mut lent) {
-        Line::Row(s) => starts::start(s.row, &numbers, text::front(&lent, s.count)),
-        Line::Bad(_) => driver::of_register(register::reset_start()),
+        spoken::Line::Row(s) => starts::start(s.row, &numbers, text::front(&lent, s.count)),
+        spoken::Line::Bad(_) => driver::reset(),
     }
 }
 
 // A chip with FIFO 1 sending and FIFO 2 receiving with timestamps, each of 8 messages of up to 64 bytes.
 fn prepared() -> Stand {
-    let first = Stand {
+    let line = Line {
         model: state::reset([0u8; 2048]),
-        call: call_of(b"call reset"),
         exchanges: 0,
+    };
+    let first = Stand {
+        line: line,
         good: 0,
     };
-    let a = run(
+    let a = ran(
         first,
         call_of(b"call configure 0 0 0 0 0 0 0 62 15 15 0 14 3 3 0 0 0 0 0 0"),
     );
-    let b = run(a, call_of(b"call configure_fifo 1 8 7 tx 0 0 0 0 0 0 0"));
-    let c = run(b, call_of(b"call configure_fifo 2 8 7 rx 1 0 0 0 0"));
-    run(c, call_of(b"call set_op_mode 0"))
+    let b = ran(a, call_of(b"call configure_fifo 1 8 7 tx 0 0 0 0 0 0 0"));
+    let c = ran(b, call_of(b"call configure_fifo 2 8 7 rx 1 0 0 0 0"));
+    ran(c, call_of(b"call set_op_mode 0"))
 }
 
 // The message of a round.
@@ -165,11 +112,13 @@ fn is_ours(h: Header, payload: &[u8], i: u32) -> bool {
 
 // The chip after a bus step, and whether a message came out as it went in.
 fn moved(r: Stand, m: Model, good: bool) -> Stand {
-    let c = r.call;
-    Stand {
+    let l = r.line;
+    let line = Line {
         model: m,
-        call: c,
-        exchanges: r.exchanges,
+        exchanges: l.exchanges,
+    };
+    Stand {
+        line: line,
         good: count(r.good, good),
     }
 }
@@ -188,23 +137,19 @@ fn is_sent(sending: Sending, frame: Frame, i: u32) -> bool {
 // Pushed, requested, sent.
 fn outgoing(r: Stand, i: u32) -> Stand {
     let p = payload_of(i);
-    let push = tx_fifo::push_start(1, header_of(i), i % 0x80_0000, &p);
-    let a = run(r, driver::of_push(push));
-    let b = run(a, driver::of_plan(transmit::request_start(1)));
-    let m = b.model;
-    let s = bus::send(m, 1);
+    let a = ran(r, driver::push(1, header_of(i), i % 0x80_0000, &p));
+    let b = ran(a, driver::request(1));
+    let l = b.line;
+    let s = bus::send(l.model, 1);
     let next = s.model;
     let frame = s.frame;
     let sending = s.sending;
     moved(b, next, is_sent(sending, frame, i))
 }
 
-fn is_got(c: Call, i: u32) -> bool {
-    let none = [0u8; 1];
-    let mut buf = [0u8; 64];
-    driver::fill(c, &none, &mut buf);
-    match driver::outcome(c) {
-        Outcome::Message(f) => is_ours(f.header, text::front(&buf, f.len as usize), i),
+fn is_got(o: Outcome, buf: &[u8], i: u32) -> bool {
+    match o {
+        Outcome::Message(f) => is_ours(f.header, text::front(buf, f.len as usize), i),
         _ => false,
     }
 }
@@ -212,14 +157,15 @@ fn is_got(c: Call, i: u32) -> bool {
 // Delivered, got: a frame that was not delivered is not got either.
 fn incoming(r: Stand, i: u32) -> Stand {
     let p = payload_of(i);
-    let m = r.model;
-    let d = bus::deliver(m, 2, header_of(i), i, &p);
+    let mut buf = [0u8; 64];
+    let l = r.line;
+    let d = bus::deliver(l.model, 2, header_of(i), i, &p);
     let next = d.model;
-    let get = rx_fifo::get_start(2, 64);
-    let g = run(moved(r, next, false), driver::of_fetch(get));
-    let after = g.model;
-    let c = g.call;
-    moved(g, after, is_got(c, i))
+    let g = run(moved(r, next, false), driver::get(2, 64), &mut buf);
+    let s = g.stand;
+    let after = s.line;
+    let outcome = g.outcome;
+    moved(s, after.model, is_got(outcome, &buf, i))
 }
 
 fn tell(n: u64, what: &[u8]) {
@@ -235,7 +181,7 @@ fn play(n: u32) {
         i += 1;
     }
     tell(n as u64, b" rounds, ");
-    tell(r.exchanges, b" exchanges, ");
+    tell(r.line.exchanges, b" exchanges, ");
     tell(r.good, b" messages\n");
 }
 
