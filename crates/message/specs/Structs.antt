@@ -14,6 +14,7 @@ use Rattle.message.specs.declared.rx.Frame.{Frame}
 use Rattle.message.specs.declared.rx.Reading.{Reading}
 use Rattle.message.specs.declared.rx.Decoded.{Decoded}
 use Rattle.message.specs.declared.tx.Encoded.{Encoded}
+use Rattle.message.specs.declared.tx.Written.{Written}
 use Rattle.message.specs.Message.{Message, Encoding, refused, object, Decoding, holds, bad, short}
 
 -- bytes in an object's array
@@ -23,6 +24,10 @@ objectIn bs = record { bytes = zeroed 76 bs; len = length bs }
 abbrev pub encodedAs : Encoding → Encoded
 encodedAs (refused r) = record { done = Done.Bad r; object = objectIn [] }
 encodedAs (object bs) = record { done = Done.Good; object = objectIn bs }
+
+-- an object whose bytes are lent
+abbrev pub encodedIn : Written → List ℕ → Encoded
+encodedIn r bytes = record { done = r .done; object = record { bytes = bytes; len = r .len } }
 
 -- bytes in a payload's array
 abbrev pub payloadIn : List ℕ → Payload

@@ -5,10 +5,13 @@ mod tx;
 
 pub use object::Object;
 pub use object::Stamp;
+pub use object::clear;
 pub use rx::Decoded;
 pub use rx::Frame;
 pub use rx::Payload;
 pub use rx::Reading;
 pub use rx::decode;
 pub use tx::Encoded;
+pub use tx::Written;
 pub use tx::encode;
+pub use tx::encode_into;

@@ -2,7 +2,7 @@
 ghost use mathlib.Core.Path.{_≡_};
 ghost use Rattle.header.specs.Header.{topId};
 ghost use Rattle.message.specs.Message.{checkOf, encoding};
-ghost use Rattle.message.specs.Structs.{encodedAs};
+ghost use Rattle.message.specs.Structs.{encodedAs, encodedIn};
 use crate::Object;
 use crate::Stamp;
 use crate::object;
@@ -23,6 +23,12 @@ pub enum Checked {
 pub struct Encoded {
     pub done: Done,
     pub object: Object,
+}
+
+// The object's length where its bytes are lent, or why there is none.
+pub struct Written {
+    pub done: Done,
+    pub len: usize,
 }
 
 fn top_id(extended: bool) -> u32
@@ -65,6 +71,29 @@ pub fn encode(header: Header, seq: u32, stamp: Stamp, payload: &[u8]) -> Encoded
             Encoded {
                 done: Done::Bad(r),
                 object: o,
+            }
+        }
+    }
+}
+
+// The object into lent bytes.
+pub fn encode_into(header: Header, seq: u32, stamp: Stamp, payload: &[u8], body: &mut [u8; 76]) -> Written
+    ensures { λ r. ⌜ encodedIn r (now (body .exit)) ≡ encodedAs (encoding (record { header = header; seq = seq; stamp = stamp; payload = now (payload .entry) })) ⌝ }
+{
+    match check(header, seq, payload.len()) {
+        Checked::Dlc(d) => {
+            let a = first_word(header);
+            let b = second_word(header, seq, d as u32);
+            Written {
+                done: Done::Good,
+                len: object::put_object(a, b, stamp, payload, body),
+            }
+        }
+        Checked::Bad(r) => {
+            object::clear(body);
+            Written {
+                done: Done::Bad(r),
+                len: 0,
             }
         }
     }

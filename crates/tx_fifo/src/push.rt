@@ -2,7 +2,7 @@
 // read with UINC.
 ghost use mathlib.Core.Path.{_≡_};
 ghost use mathlib.Core.List.{[]};
-ghost use Rattle.message.specs.Structs.{encodedAs};
+ghost use Rattle.message.specs.Structs.{encodedAs, encodedIn};
 ghost use Rattle.spi.specs.Talk.{onWord};
 ghost use Rattle.tx_fifo.specs.declared.push.PushAt.{PushAt};
 ghost use Rattle.tx_fifo.specs.Step.{encodingFor, startOf, afterControl, afterStatus, afterAddress, askOf, outcomeOf, isDone};
@@ -13,10 +13,11 @@ use fifo::FifoStatus;
 use fifo::UserAddress;
 use fifo::is_fifo;
 use header::Header;
-use message::Encoded;
 use message::Object;
 use message::Stamp;
-use message::encode;
+use message::Written;
+use message::clear;
+use message::encode_into;
 use spi::Answer;
 use spi::Ask;
 use spi::Done;
@@ -69,20 +70,17 @@ pub struct PushNumbers {
     pub why: Refusal,
 }
 
-// 20 comes before what the message is refused for.
-fn encoded_for(fifo: u8, header: Header, seq: u32, payload: &[u8]) -> Encoded
-    ensures { λ r. ⌜ r ≡ encodedAs (encodingFor fifo header seq (now (payload .entry))) ⌝ }
+// The object into the body. 20 comes before what the message is refused for.
+fn encoded_for(fifo: u8, header: Header, seq: u32, payload: &[u8], body: &mut [u8; 76]) -> Written
+    ensures { λ r. ⌜ encodedIn r (now (body .exit)) ≡ encodedAs (encodingFor fifo header seq (now (payload .entry))) ⌝ }
 {
     if is_fifo(fifo as u32) {
-        encode(header, seq, Stamp::None, payload)
+        encode_into(header, seq, Stamp::None, payload, body)
     } else {
-        let o = Object {
-            bytes: [0u8; 76],
-            len: 0,
-        };
-        Encoded {
+        clear(body);
+        Written {
             done: Done::Bad(Refusal::BadNumber),
-            object: o,
+            len: 0,
         }
     }
 }
@@ -91,17 +89,14 @@ pub fn push_start(fifo: u8, header: Header, seq: u32, payload: &[u8], body: &mut
     ensures { λ r. ⌜ pushOf r (now (body .exit)) ≡ startOf fifo header seq (now (payload .entry)) ⌝ }
 {
     let size = payload.len();
-    let e = encoded_for(fifo, header, seq, payload);
+    let e = encoded_for(fifo, header, seq, payload, body);
     let d = e.done;
-    let o = e.object;
-    let b = o.bytes;
-    *body = b;
     match d {
         Done::Good => PushNumbers {
             stage: PushStage::Control,
             fifo: fifo,
             size: size,
-            len: o.len,
+            len: e.len,
             w: 0,
             m: 0,
             why: Refusal::WrongAnswer,
@@ -110,7 +105,7 @@ pub fn push_start(fifo: u8, header: Header, seq: u32, payload: &[u8], body: &mut
             stage: PushStage::Refused,
             fifo: fifo,
             size: size,
-            len: o.len,
+            len: e.len,
             w: 0,
             m: 0,
             why: r,

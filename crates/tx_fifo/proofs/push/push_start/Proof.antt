@@ -10,5 +10,5 @@ unfolding startOf
 push-start-spec =
     tie.close
     (tie.spec (λ c κs. search needs) (search needs) (search needs)
-    (λ c. rw (← c .before .before .before .before .encoded-for .ensures) (simp (c .enum-told .given .1)))
-    (λ c. rw (← c .before .before .before .before .before .encoded-for .ensures) (simp (c .before .d .given .1))))
+    (λ c. rw (← c .before .before .encoded-for .ensures) (simp (c .enum-told .given .1)))
+    (λ c. rw (← c .before .before .before .encoded-for .ensures) (simp (c .before .d .given .1))))
