@@ -66,6 +66,7 @@ fn refused(why: Refusal) -> RamNumbers
     }
 }
 
+// A call that is not refused: what `why` is says nothing.
 fn at_stage(stage: RamStage, m: u16, place: usize, count: usize) -> RamNumbers
     ensures { λ r. ⌜ ramOf r ≡ atStage stage m place count Refusal.WrongAnswer ⌝ }
 {

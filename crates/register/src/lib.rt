@@ -62,6 +62,7 @@ fn refused(why: Refusal) -> RegisterNumbers
     }
 }
 
+// A call that is not refused: what `why` is says nothing.
 fn at_stage(stage: RegisterStage, m: u16, w: u32, more: u8) -> RegisterNumbers
     ensures { λ r. ⌜ registerOf r ≡ atStage stage m w more Refusal.WrongAnswer ⌝ }
 {
