@@ -2,4 +2,5 @@ mod Arms
 pub mod Changes
 pub mod Places
 pub mod Runs
+pub mod Turns
 pub mod Laws
