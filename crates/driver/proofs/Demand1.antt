@@ -5,7 +5,7 @@ use Rattle.spi.specs.Talk.{asks}
 use Rattle.call.specs.Outcome.{ended}
 use Rattle.driver.specs.Demand1.{after, FollowsTalk, Demand1}
 use Rattle.driver.proofs.Runs.{follows, run-talk, outcome-talk}
-use Rattle.driver.proofs.Ends.{every-call-ends}
+use Rattle.driver.proofs.Ends.{turns-fall, over-at-none, every-call-ends}
 use Rattle.driver.proofs.Nodes.{over-agrees, wrong-answers}
 use Rattle.driver.proofs.Keeps.{refused-keeps}
 use Rattle.driver.proofs.Starts.{starts-as-talk, refuses-first}
@@ -17,6 +17,8 @@ follows-talk call xs =
 
 pub demand1 : Demand1
 demand1 = record {
+  turnsFall = turns-fall;
+  overAtNone = over-at-none;
   everyCallEnds = every-call-ends;
   overAgrees = over-agrees;
   refusedKeeps = refused-keeps;

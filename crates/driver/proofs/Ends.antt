@@ -1,203 +1,281 @@
--- Every value of the one type ends, one made by hand too: it asks no more often than `left` says, whatever is answered.
+-- Every value of the one type ends, one made by hand too: each answer uses up a turn, and at none left nothing is asked.
 -- Assumes nothing.
-use Prim.Native.Nat.{ℕ, zero, suc, _+_, _*_, _≤_}
-use native.Mathlib.Nat.{le-of-suc-le-suc, not-suc-le-zero}
+use Prim.Native.Nat.{ℕ, _+_, _-_, _≤_}
 use native.Mathlib.Omega.{arith}
-use mathlib.Core.Path.{_≡_, refl, _∙_, sym, subst}
-use mathlib.Core.Bool.{Bool}
+use mathlib.Core.Path.{_≡_, refl, sym, _∙_}
+use mathlib.Core.Bool.{Bool, true, false, true≢false, false≢true}
+use mathlib.Core.Logic.{_↔_}
 use mathlib.Core.List.{List, [], _∷_}
-use lib.ListN.{length, drop}
-use lib.Dec.{eqb}
-use Rattle.laws.specs.If.{if_then_else_}
-use Rattle.message.specs.Message.{Message}
+use lib.ListN.{length}
+use lib.Dec.{eqb, ltb}
+use borrow.Author.Tests.{eqb-false}
+use Rattle.laws.proofs.Choice.{by-if}
+use Rattle.field.specs.Field.{read, flag}
+use Rattle.fifo.specs.Control.{TXEN, RXTSEN, payloadOf}
+use Rattle.fifo.specs.Status.{TFNRFNIF}
+use Rattle.words.specs.Words.{roundUp}
+use Rattle.header.specs.declared.dlc.Length.{Length}
+use Rattle.header.specs.Dlc.{lengthOf}
+use Rattle.header.specs.Header.{DLC, FDF}
 use Rattle.spi.specs.declared.refusal.Refusal.{Refusal}
 use Rattle.spi.specs.declared.ask.Ask.{Ask}
 use Rattle.spi.specs.declared.ask.Answer.{Answer}
-use Rattle.spi.specs.Reply.{wordReply, doneReply}
-use Rattle.spi.specs.Talk.{Talk, done, refused, ask, answered, asks, run, Within}
-use Rattle.spi.proofs.Talks.{more, word-within, done-within, if-within, then-within}
-use Rattle.call.specs.declared.Outcome.{Outcome}
+use Rattle.spi.specs.Ram.{inRange}
+use Rattle.spi.specs.Reply.{wordReply, pairReply, doneReply, crcReply}
+use Rattle.spi.specs.Talk.{onWord, onDone, run}
+use Rattle.spi.proofs.Talks.{by-word, by-pair, by-done, by-checked, still-asks}
+use Rattle.call.specs.declared.Found.{Found}
 use Rattle.register.specs.declared.RegisterCall.{RegisterCall}
-use Rattle.register.specs.Talk as register-talks
-use Rattle.register.proofs.Runs as register
+use Rattle.register.specs.Step as register
 use Rattle.ram.specs.declared.RamCall.{RamCall}
 use Rattle.ram.specs.Echo.{same, echoBytes}
-use Rattle.ram.specs.Talk as ram-talks
-use Rattle.ram.proofs.Runs as ram
-use Rattle.plan.specs.declared.item.Item.{Item}
-use Rattle.plan.specs.declared.plan.PlanAt.{PlanAt}
-use Rattle.plan.specs.declared.plan.Plan.{Plan}
-use Rattle.plan.specs.Item.{echoWord}
-use Rattle.plan.specs.Talk as plan-talks
-use Rattle.plan.proofs.Runs as plan
-use Rattle.tx_fifo.specs.declared.push.Push.{Push}
+use Rattle.ram.specs.Step as ram
+use Rattle.plan.specs.Step as plan
+use Rattle.plan.specs.Talk.{planLeft}
+use Rattle.plan.proofs.Turns.{plan-falls, plan-over}
 use Rattle.tx_fifo.specs.declared.push.PushAt.{PushAt}
-use Rattle.tx_fifo.specs.Talk as push-talks
-use Rattle.tx_fifo.proofs.Runs as push
+use Rattle.tx_fifo.specs.Step as push
 use Rattle.transmit.specs.declared.transmit.Transmit.{Transmit}
-use Rattle.transmit.specs.Transmit.{transmitTalkOf}
+use Rattle.transmit.specs.Transmit.{transmitAsk, transmitStep}
 use Rattle.fetch.specs.declared.Want.{Want}
 use Rattle.fetch.specs.declared.FetchAt.{FetchAt}
-use Rattle.rx_fifo.specs.declared.Fetch.{Fetch}
-use Rattle.rx_fifo.specs.Outcome.{messageOf}
-use Rattle.rx_fifo.specs.Talk as fetch-talks
-use Rattle.rx_fifo.proofs.Bounds as fetch
+use Rattle.fetch.specs.Step as fetched
+use Rattle.rx_fifo.specs.Step as fetch
 use Rattle.driver.specs.CallAt.{CallAt}
 use Rattle.driver.specs.Call.{Call}
-use Rattle.driver.specs.Step.{askOf, stepOf, transmitOf}
-use Rattle.driver.specs.Talk.{talkAt, talkOf, fetchTalk}
-use Rattle.driver.specs.Demand1.{registerLeft, itemLeft, planLeft, leftAt, left, EveryCallEnds}
-use Rattle.driver.proofs.Runs.{follows}
+use Rattle.driver.specs.Step.{askAt, askOf, stepAt, stepOf, transmitOf}
+use Rattle.driver.specs.Demand1.{after, registerLeft, ramLeft, pushLeft, fetchLeft, leftAt, left, TurnsFall, OverAtNone, EveryCallEnds}
+
+-- one turn less than so many, at most
+abbrev Falls : {S : Type 0} → (S → ℕ) → ℕ → S → Type 0
+Falls turns m s = turns s ≤ m - 1
 
 -- ---- registers, RAM
 
-register-within : (r : RegisterCall) → Within (registerLeft r) (register-talks.talkOf r)
-register-within RegisterCall.Reset = register.reset-bound
-register-within (RegisterCall.Read address) = λ a rx. word-within 0 (wordReply Refusal.SpiRead a rx) (λ w. done (Outcome.Word w)) (λ w. tt)
-register-within (RegisterCall.Write address word) = λ a rx. done-within 0 (doneReply Refusal.SpiRead a (length rx) 0) (done Outcome.Done) tt
-register-within (RegisterCall.Checked address left) = register.tries address left
-register-within RegisterCall.Mode = register.get-op-mode-bound
-register-within RegisterCall.Done = tt
-register-within (RegisterCall.Word w) = tt
-register-within (RegisterCall.OpMode m) = tt
-register-within (RegisterCall.Refused r) = tt
+register-falls : (r : RegisterCall) (a : Answer) (rx : List ℕ) → Falls registerLeft (registerLeft r) (register.stepOf r a rx)
+unfolding register.stepOf register.afterMismatch
+register-falls RegisterCall.Reset a rx = by-done (Falls registerLeft 1) (λ r. omega arith) (doneReply Refusal.SpiWrite a (length rx) 0) (omega arith)
+register-falls (RegisterCall.Read address) a rx = by-word (Falls registerLeft 1) (λ r. omega arith) (wordReply Refusal.SpiRead a rx) (λ w. omega arith)
+register-falls (RegisterCall.Write address word) a rx =
+    by-done (Falls registerLeft 1) (λ r. omega arith) (doneReply Refusal.SpiRead a (length rx) 0) (omega arith)
+register-falls (RegisterCall.Checked address left) a rx =
+    let P = Falls registerLeft (registerLeft (RegisterCall.Checked address left)) in
+    by-checked P (λ r. omega arith) (crcReply Refusal.SpiRead address a rx)
+    (by-if P (eqb left 0) (λ e. omega arith) (λ e. omega (arith, eqb-false left 0 e))) (λ w. omega arith)
+register-falls RegisterCall.Mode a rx = by-word (Falls registerLeft 1) (λ r. omega arith) (wordReply Refusal.SpiRead a rx) (λ w. omega arith)
+register-falls RegisterCall.Done a rx = omega arith
+register-falls (RegisterCall.Word w) a rx = omega arith
+register-falls (RegisterCall.OpMode m) a rx = omega arith
+register-falls (RegisterCall.Refused r) a rx = omega arith
 
-ram-within : (r : RamCall) → Within 2 (ram-talks.talkOf r)
-ram-within (RamCall.Read address place count) = λ a rx. done-within 1 (doneReply Refusal.SpiRead a (length rx) count) (done Outcome.Done) tt
-ram-within (RamCall.Received place count) = tt
-ram-within (RamCall.Write address count) = λ a rx. done-within 1 (doneReply Refusal.SpiWrite a (length rx) 0) (done Outcome.Done) tt
-ram-within RamCall.EchoWrite = ram.verify-long-bound
-ram-within RamCall.EchoRead = λ a rx.
-    done-within 1 (doneReply Refusal.ConfigurationModeTimeout a (length rx) 128) (ram-talks.echoed rx)
-    (if-within 1 (same rx echoBytes) (done Outcome.Done) (refused Refusal.SpiFailedRamEcho) tt tt)
-ram-within RamCall.Done = tt
-ram-within (RamCall.Refused r) = tt
+register-over : (r : RegisterCall) → (registerLeft r ≡ 0) ↔ (register.askOf r ≡ Ask.Nothing)
+unfolding register.askOf
+register-over RegisterCall.Reset = still-asks (omega arith) refl
+register-over (RegisterCall.Read address) = still-asks (omega arith) refl
+register-over (RegisterCall.Write address word) = still-asks (omega arith) refl
+register-over (RegisterCall.Checked address left) = still-asks (omega arith) refl
+register-over RegisterCall.Mode = still-asks (omega arith) refl
+register-over RegisterCall.Done = (λ e. refl, λ e. refl)
+register-over (RegisterCall.Word w) = (λ e. refl, λ e. refl)
+register-over (RegisterCall.OpMode m) = (λ e. refl, λ e. refl)
+register-over (RegisterCall.Refused r) = (λ e. refl, λ e. refl)
 
--- ---- plans: the item where one stands, and n asks behind it
+ram-falls : (r : RamCall) (a : Answer) (rx : List ℕ) → Falls ramLeft (ramLeft r) (ram.stepOf r a rx)
+unfolding ram.stepOf ram.afterEcho
+ram-falls (RamCall.Read address place count) a rx =
+    by-done (Falls ramLeft 1) (λ r. omega arith) (doneReply Refusal.SpiRead a (length rx) count) (omega arith)
+ram-falls (RamCall.Received place count) a rx = omega arith
+ram-falls (RamCall.Write address count) a rx = by-done (Falls ramLeft 1) (λ r. omega arith) (doneReply Refusal.SpiWrite a (length rx) 0) (omega arith)
+ram-falls RamCall.EchoWrite a rx =
+    by-done (Falls ramLeft 2) (λ r. omega arith) (doneReply Refusal.ConfigurationModeTimeout a (length rx) 0) (omega arith)
+ram-falls RamCall.EchoRead a rx =
+    by-done (Falls ramLeft 1) (λ r. omega arith) (doneReply Refusal.ConfigurationModeTimeout a (length rx) 128)
+    (by-if (Falls ramLeft 1) (same rx echoBytes) (λ e. omega arith) (λ e. omega arith))
+ram-falls RamCall.Done a rx = omega arith
+ram-falls (RamCall.Refused r) a rx = omega arith
 
-module _ (failed : Refusal) (k : Talk Outcome) (n : ℕ) (h : Within n k) where
-  item-within : (at : PlanAt) → Within (itemLeft at + n) (plan-talks.talkAt failed at k)
-  unfolding plan-talks.echoRest
-  item-within (PlanAt.Read c) = plan.item-within failed k n h (Item.Change c) (2 + n) (omega arith)
-  item-within (PlanAt.Write address word) = plan.write-within n (1 + n) failed address word k (omega arith) h
-  item-within (PlanAt.Poll p left) = plan.poll-within failed k n h p left (1 + 2 * left + n) (omega arith)
-  item-within (PlanAt.Wait p left) =
-      plan.pause-within (1 + 2 * left + n) (2 + 2 * left + n) (plan-talks.pollTalk failed p left k) (omega arith)
-      (plan.poll-within failed k n h p left (1 + 2 * left + n) (omega arith))
-  item-within (PlanAt.EchoWrite left) = plan.rest-within failed k n h (suc left) (2 + 2 * left + n) (omega arith)
-  item-within (PlanAt.EchoRead left) =
-      let t = plan-talks.echoRest failed left k in
-      plan.read-within (2 * left + n) (1 + 2 * left + n) failed 0x400 (λ w. if eqb w (echoWord left) then t else refused Refusal.SpiFailedRamEcho) (omega arith)
-      (λ w. if-within (2 * left + n) (eqb w (echoWord left)) t (refused Refusal.SpiFailedRamEcho) (plan.rest-within failed k n h left (2 * left + n) (omega arith)) tt)
-  item-within PlanAt.Done = tt
-  item-within (PlanAt.Refused r) = tt
+ram-over : (r : RamCall) → (ramLeft r ≡ 0) ↔ (ram.askOf r ≡ Ask.Nothing)
+unfolding ram.askOf
+ram-over (RamCall.Read address place count) = still-asks (omega arith) refl
+ram-over (RamCall.Received place count) = (λ e. refl, λ e. refl)
+ram-over (RamCall.Write address count) = still-asks (omega arith) refl
+ram-over RamCall.EchoWrite = still-asks (omega arith) refl
+ram-over RamCall.EchoRead = still-asks (omega arith) refl
+ram-over RamCall.Done = (λ e. refl, λ e. refl)
+ram-over (RamCall.Refused r) = (λ e. refl, λ e. refl)
 
-plan-within : (p : Plan) → Within (planLeft p) (plan-talks.talkOf p)
-plan-within p =
-    let items = plan-talks.listed (drop (p .next) (p .items)) in
-    item-within (p .failed) (plan-talks.planTalk (p .failed) items) (plan-talks.allAsks items) (plan.bound (p .failed) items) (p .at)
+-- ---- push, with n asks behind it, and transmit
 
--- ---- push and transmit
+module _ (n : ℕ) where
+  abbrev Pushes : ℕ → PushAt → Type 0
+  Pushes = Falls (λ at. pushLeft at n)
 
-push-within : (fifo size len : ℕ) (at : PushAt) → Within 5 (push-talks.talkAt fifo size len at)
-push-within fifo size len PushAt.Control = push.push-within fifo size len
-push-within fifo size len (PushAt.Status w) = more 4 5 (push-talks.statusTalk fifo len w) (omega arith) (push.status-within fifo len w)
-push-within fifo size len (PushAt.Address w) = more 3 5 (push-talks.addressTalk fifo len w) (omega arith) (push.address-within fifo len w)
-push-within fifo size len (PushAt.Write w m) = more 2 5 (push-talks.writeTalk fifo len w m) (omega arith) (push.write-within fifo len w m)
-push-within fifo size len (PushAt.Commit w) = more 1 5 (push-talks.commitTalk fifo w) (omega arith) (push.commit-within fifo len w)
-push-within fifo size len PushAt.Done = tt
-push-within fifo size len (PushAt.Refused r) = tt
+  push-falls : (size len : ℕ) (at : PushAt) (a : Answer) (rx : List ℕ) → Pushes (pushLeft at n) (push.nextAt size len at a rx)
+  unfolding push.afterControl push.afterStatus push.afterAddress
+  push-falls size len PushAt.Control a rx =
+      let P = Pushes (pushLeft PushAt.Control n) in
+      by-word P (λ r. omega arith) (wordReply Refusal.SpiRead a rx)
+      (λ w. by-if P (flag TXEN w) (λ e. by-if P (ltb (payloadOf w) size) (λ d. omega arith) (λ d. omega arith)) (λ e. omega arith))
+  push-falls size len (PushAt.Status w) a rx =
+      let P = Pushes (pushLeft (PushAt.Status w) n) in
+      by-word P (λ r. omega arith) (wordReply Refusal.SpiRead a rx) (λ v. by-if P (flag TFNRFNIF v) (λ e. omega arith) (λ e. omega arith))
+  push-falls size len (PushAt.Address w) a rx =
+      let P = Pushes (pushLeft (PushAt.Address w) n) in
+      by-word P (λ r. omega arith) (wordReply Refusal.SpiRead a rx)
+      (λ u. by-if P (ltb 0xFBFF u) (λ e. omega arith) (λ e. by-if P (inRange _ len) (λ d. omega arith) (λ d. omega arith)))
+  push-falls size len (PushAt.Write w m) a rx =
+      by-done (Pushes (pushLeft (PushAt.Write w m) n)) (λ r. omega arith) (doneReply Refusal.SpiWrite a (length rx) 0) (omega arith)
+  push-falls size len (PushAt.Commit w) a rx =
+      by-done (Pushes (pushLeft (PushAt.Commit w) n)) (λ r. omega arith) (doneReply Refusal.SpiRead a (length rx) 0) (omega arith)
+  push-falls size len PushAt.Done a rx = omega arith
+  push-falls size len (PushAt.Refused r) a rx = omega arith
 
-pushed-within : (s : Push) → Within 5 (push-talks.talkOf s)
-unfolding push-talks.talkOf
-pushed-within s = push-within (s .fifo) (s .size) (s .object .len) (s .at)
+  -- where nothing stands behind a push that is done
+  push-over : (fifo len : ℕ) (at : PushAt) → (push.doneAt at ≡ true → n ≡ 0) → (pushLeft at n ≡ 0) ↔ (push.askAt fifo len at ≡ Ask.Nothing)
+  push-over fifo len PushAt.Control h = still-asks (omega arith) refl
+  push-over fifo len (PushAt.Status w) h = still-asks (omega arith) refl
+  push-over fifo len (PushAt.Address w) h = still-asks (omega arith) refl
+  push-over fifo len (PushAt.Write w m) h = still-asks (omega arith) refl
+  push-over fifo len (PushAt.Commit w) h = still-asks (omega arith) refl
+  push-over fifo len PushAt.Done h = (λ e. refl, λ e. h refl)
+  push-over fifo len (PushAt.Refused r) h = (λ e. refl, λ e. refl)
 
-transmit-within : (t : Transmit) → Within (5 + planLeft (t .request)) (transmitTalkOf t)
-unfolding transmitTalkOf
-transmit-within t =
-    then-within 5 (planLeft (t .request)) (5 + planLeft (t .request)) (push-talks.talkOf (t .push)) (λ x. plan-talks.talkOf (t .request))
-    (omega arith) (pushed-within (t .push)) (λ x. plan-within (t .request))
+  -- a push that is done leaves what is behind it
+  pushed : (at : PushAt) → push.doneAt at ≡ true → pushLeft at n ≡ n
+  pushed PushAt.Control e = absurd (false≢true e)
+  pushed (PushAt.Status w) e = absurd (false≢true e)
+  pushed (PushAt.Address w) e = absurd (false≢true e)
+  pushed (PushAt.Write w m) e = absurd (false≢true e)
+  pushed (PushAt.Commit w) e = absurd (false≢true e)
+  pushed PushAt.Done e = refl
+  pushed (PushAt.Refused r) e = absurd (false≢true e)
 
--- ---- has-next, peek and get: the longest has two exchanges behind the payload, seven behind the status
+abbrev transmitLeft : Transmit → ℕ
+transmitLeft t = pushLeft (t .push .at) (planLeft (t .request))
 
-last-within : (want : Want) (fifo : ℕ) (m : Message) → Within 2 (fetch-talks.lastTalk want fifo m)
-last-within Want.HasNext fifo m = tt
-last-within Want.Peek fifo m = tt
-last-within Want.Get fifo m = fetch.next-within fifo m
+transmit-falls : (t : Transmit) (a : Answer) (rx : List ℕ) → Falls transmitLeft (transmitLeft t) (transmitStep t a rx)
+unfolding transmitStep push.stepOf
+transmit-falls t a rx =
+    by-if (Falls transmitLeft (transmitLeft t)) (push.isDone (t .push))
+    (λ e.
+    omega
+    (arith, pushed (planLeft (t .request)) (t .push .at) e, pushed (planLeft (plan.stepOf (t .request) a rx)) (t .push .at) e, plan-falls (t .request) a rx))
+    (λ e. push-falls _ (t .push .size) (t .push .object .len) (t .push .at) a rx)
 
-held-within : (want : Want) (fifo : ℕ) (b : Bool) → Within 7 (fetch-talks.heldTalk want fifo b)
-held-within Want.HasNext fifo b = tt
-held-within Want.Peek fifo b =
-    if-within 7 b (fetch-talks.addressTalk Want.Peek fifo) (done fetch-talks.empty) (fetch.address-within Want.Peek fifo 2 (last-within Want.Peek fifo)) tt
-held-within Want.Get fifo b =
-    if-within 7 b (fetch-talks.addressTalk Want.Get fifo) (done fetch-talks.empty) (fetch.address-within Want.Get fifo 2 (last-within Want.Get fifo)) tt
+transmit-over : (t : Transmit) → (transmitLeft t ≡ 0) ↔ (transmitAsk t ≡ Ask.Nothing)
+unfolding transmitAsk push.askOf
+transmit-over t =
+    by-if (λ q. (transmitLeft t ≡ 0) ↔ (q ≡ Ask.Nothing)) (push.isDone (t .push))
+    (λ e. rw (pushed _ (t .push .at) e) (plan-over (t .request)))
+    (λ e. push-over _ (t .push .fifo) (t .push .object .len) (t .push .at) (λ d. absurd (true≢false (sym d ∙ e))))
 
-module _ (want : Want) (fifo : ℕ) (held : List ℕ) where
-  at-least : (n : ℕ) (at : FetchAt) → n ≤ 9 → Within n (fetch-talks.talkAt want fifo held at) → Within 9 (fetch-talks.talkAt want fifo held at)
-  at-least n at l h = more n 9 (fetch-talks.talkAt want fifo held at) l h
+-- ---- has-next, peek and get
 
-  fetch-within : (at : FetchAt) → Within 9 (fetch-talks.talkAt want fifo held at)
-  fetch-within FetchAt.Control = fetch.control-within want fifo 7 (held-within want fifo)
-  fetch-within FetchAt.Status = at-least 8 FetchAt.Status (omega arith) (fetch.status-within want fifo 7 (held-within want fifo))
-  fetch-within FetchAt.Address = at-least 7 FetchAt.Address (omega arith) (fetch.address-within want fifo 2 (last-within want fifo))
-  fetch-within (FetchAt.Header m) = at-least 6 (FetchAt.Header m) (omega arith) (fetch.header-within want fifo 2 (last-within want fifo) m)
-  fetch-within (FetchAt.Again m f) = at-least 5 (FetchAt.Again m f) (omega arith) (fetch.again-within want fifo 2 (last-within want fifo) m f)
-  fetch-within (FetchAt.Time x f) = at-least 4 (FetchAt.Time x f) (omega arith) (fetch.time-within want fifo 2 (last-within want fifo) x f)
-  fetch-within (FetchAt.Body x f) = at-least 3 (FetchAt.Body x f) (omega arith) (fetch.body-within want fifo 2 (last-within want fifo) x f)
-  fetch-within (FetchAt.Next f) = at-least 2 (FetchAt.Next f) (omega arith) (fetch.next-within fifo (messageOf f held))
-  fetch-within (FetchAt.Commit w f) = λ a rx. done-within 8 (doneReply Refusal.SpiRead a (length rx) 0) (done (fetch-talks.message (messageOf f held))) tt
-  fetch-within (FetchAt.Done f) = tt
-  fetch-within FetchAt.Empty = tt
-  fetch-within (FetchAt.Told next) = tt
-  fetch-within (FetchAt.Refused r) = tt
+abbrev Fetches : ℕ → FetchAt → Type 0
+Fetches = Falls fetchLeft
 
-fetched-within : (s : Fetch) → Within 9 (fetchTalk s)
-unfolding fetch-talks.talkOf
-fetched-within s =
-    then-within 9 0 9 (fetch-talks.talkOf s) (λ x. done (fetch-talks.outcomeBy x)) (omega arith) (fetch-within (s .want) (s .fifo) (s .held) (s .at)) (λ x. tt)
+-- a payload at x, after a turn of m
+body-falls : (m x : ℕ) (f : Found) → 4 ≤ m → Fetches m (fetched.toBody x f)
+unfolding fetched.toBody
+body-falls m x f l = by-if (Fetches m) (inRange x (roundUp (f .len))) (λ e. omega arith) (λ e. omega arith)
+
+status-falls : (want : Want) (next : Bool) → Fetches 8 (fetched.byStatus want next)
+status-falls Want.HasNext next = omega arith
+status-falls Want.Peek next = by-if (Fetches 8) next (λ e. omega arith) (λ e. omega arith)
+status-falls Want.Get next = by-if (Fetches 8) next (λ e. omega arith) (λ e. omega arith)
+
+header-falls : (l : Length) (m a b : ℕ) → Fetches 6 (fetched.byLength l m a b)
+header-falls (Length.Is n) m a b = omega arith
+header-falls Length.Bad m a b = omega arith
+
+last-falls : (want : Want) (f : Found) → Fetches 3 (fetched.afterBody want f)
+last-falls Want.HasNext f = omega arith
+last-falls Want.Peek f = omega arith
+last-falls Want.Get f = omega arith
+
+module _ (want : Want) (a : Answer) (rx : List ℕ) where
+  -- by a word, by an exchange that wants so many bytes
+  of-word : (m : ℕ) (k : ℕ → FetchAt) → ((w : ℕ) → Fetches m (k w)) → Fetches m (onWord FetchAt.Refused (wordReply Refusal.SpiRead a rx) k)
+  of-word m k h = by-word (Fetches m) (λ r. omega arith) (wordReply Refusal.SpiRead a rx) h
+
+  of-done : (m count : ℕ) (at : FetchAt) → Fetches m at → Fetches m (onDone FetchAt.Refused (doneReply Refusal.SpiRead a (length rx) count) at)
+  of-done m count at h = by-done (Fetches m) (λ r. omega arith) (doneReply Refusal.SpiRead a (length rx) count) h
+
+  fetch-falls : (at : FetchAt) → Fetches (fetchLeft at) (fetched.nextAt want at a rx)
+  unfolding fetched.afterControl fetched.afterStatus fetched.afterAddress fetched.afterHeader fetched.toTime fetched.afterAgain fetched.afterTime
+  fetch-falls FetchAt.Control = of-word 9 _ (λ w. by-if (Fetches 9) (flag TXEN w) (λ e. omega arith) (λ e. omega arith))
+  fetch-falls FetchAt.Status = of-word 8 _ (λ v. status-falls want (flag TFNRFNIF v))
+  fetch-falls FetchAt.Address =
+      of-word 7 _ (λ u. by-if (Fetches 7) (ltb 0xFBFF u) (λ e. omega arith) (λ e. by-if (Fetches 7) (inRange (u + 0x400) 8) (λ d. omega arith) (λ d. omega arith)))
+  fetch-falls (FetchAt.Header m) =
+      by-pair (Fetches 6) (λ r. omega arith) (pairReply Refusal.SpiRead a rx) (λ c d. header-falls (lengthOf (flag FDF d) (read DLC d)) m c d)
+  fetch-falls (FetchAt.Again m f) =
+      of-word 5 _
+      (λ w. by-if (Fetches 5) (flag RXTSEN w) (λ e. by-if (Fetches 5) (inRange (m + 8) 4) (λ d. omega arith) (λ d. omega arith))
+      (λ e. body-falls 5 (m + 8) f (omega arith)))
+  fetch-falls (FetchAt.Time x f) = of-word 4 _ (λ t. body-falls 4 (x + 4) (fetched.stamped f t) (omega arith))
+  fetch-falls (FetchAt.Body x f) = of-done 3 (roundUp (f .len)) _ (last-falls want f)
+  fetch-falls (FetchAt.Next f) = of-word 2 _ (λ w. omega arith)
+  fetch-falls (FetchAt.Commit w f) = of-done 1 0 _ (omega arith)
+  fetch-falls (FetchAt.Done f) = omega arith
+  fetch-falls FetchAt.Empty = omega arith
+  fetch-falls (FetchAt.Told next) = omega arith
+  fetch-falls (FetchAt.Refused r) = omega arith
+
+fetch-over : (fifo : ℕ) (at : FetchAt) → (fetchLeft at ≡ 0) ↔ (fetch.askFrom fifo at ≡ Ask.Nothing)
+fetch-over fifo FetchAt.Control = still-asks (omega arith) refl
+fetch-over fifo FetchAt.Status = still-asks (omega arith) refl
+fetch-over fifo FetchAt.Address = still-asks (omega arith) refl
+fetch-over fifo (FetchAt.Header m) = still-asks (omega arith) refl
+fetch-over fifo (FetchAt.Again m f) = still-asks (omega arith) refl
+fetch-over fifo (FetchAt.Time x f) = still-asks (omega arith) refl
+fetch-over fifo (FetchAt.Body x f) = still-asks (omega arith) refl
+fetch-over fifo (FetchAt.Next f) = still-asks (omega arith) refl
+fetch-over fifo (FetchAt.Commit w f) = still-asks (omega arith) refl
+fetch-over fifo (FetchAt.Done f) = (λ e. refl, λ e. refl)
+fetch-over fifo FetchAt.Empty = (λ e. refl, λ e. refl)
+fetch-over fifo (FetchAt.Told next) = (λ e. refl, λ e. refl)
+fetch-over fifo (FetchAt.Refused r) = (λ e. refl, λ e. refl)
 
 -- ---- any call
 
-within-at : (at : CallAt) (call : Call) → Within (leftAt at call) (talkAt at call)
-within-at (CallAt.Register r) call = register-within r
-within-at (CallAt.Ram r) call = ram-within r
-within-at CallAt.Plan call = plan-within (call .plan)
-within-at CallAt.Push call = pushed-within (call .push)
-within-at CallAt.Transmit call = transmit-within (transmitOf call)
-within-at CallAt.Fetch call = fetched-within (call .fetch)
+falls-at : (at : CallAt) (call : Call) (a : Answer) (rx : List ℕ) → Falls left (leftAt at call) (stepAt at call a rx)
+unfolding push.stepOf fetch.stepOf
+falls-at (CallAt.Register r) call a rx = register-falls r a rx
+falls-at (CallAt.Ram r) call a rx = ram-falls r a rx
+falls-at CallAt.Plan call a rx = plan-falls (call .plan) a rx
+falls-at CallAt.Push call a rx = push-falls 0 (call .push .size) (call .push .object .len) (call .push .at) a rx
+falls-at CallAt.Transmit call a rx = transmit-falls (transmitOf call) a rx
+falls-at CallAt.Fetch call a rx = fetch-falls (call .fetch .want) a rx (call .fetch .at)
 
-pub every-call-within : (call : Call) → Within (left call) (talkOf call)
-unfolding talkOf
-every-call-within call = within-at (call .at) call
+over-at : (at : CallAt) (call : Call) → (leftAt at call ≡ 0) ↔ (askAt at call ≡ Ask.Nothing)
+unfolding push.askOf fetch.askOf
+over-at (CallAt.Register r) call = register-over r
+over-at (CallAt.Ram r) call = ram-over r
+over-at CallAt.Plan call = plan-over (call .plan)
+over-at CallAt.Push call = push-over 0 (call .push .fifo) (call .push .object .len) (call .push .at) (λ e. refl)
+over-at CallAt.Transmit call = transmit-over (transmitOf call)
+over-at CallAt.Fetch call = fetch-over (call .fetch .fifo) (call .fetch .at)
 
--- ---- for a caller's loop with a count of turns: an answer uses one up, and at none left the call is over
+falls : (call : Call) (a : Answer) (rx : List ℕ) → Falls left (left call) (stepOf call a rx)
+unfolding stepOf
+falls call a rx = falls-at (call .at) call a rx
 
-module _ {A : Type 0} where
-  answered-within : (n : ℕ) (t : Talk A) (a : Answer) (rx : List ℕ) → Within (suc n) t → Within n (answered t a rx)
-  unfolding answered
-  answered-within n (done x) a rx h = tt
-  answered-within n (refused r) a rx h = tt
-  answered-within n (ask q k) a rx h = h a rx
+pub over-at-none : OverAtNone
+unfolding askOf
+over-at-none call = over-at (call .at) call
 
-  none-left : (t : Talk A) → Within 0 t → asks t ≡ Ask.Nothing
-  none-left (done x) h = refl
-  none-left (refused r) h = refl
-  none-left (ask q k) h = absurd h
-
-pub step-within : (n : ℕ) (call : Call) (a : Answer) (rx : List ℕ) → Within (suc n) (talkOf call) → Within n (talkOf (stepOf call a rx))
-step-within n call a rx h = subst (λ t. Within n t) (sym (follows .stepped call a rx)) (answered-within n (talkOf call) a rx h)
-
-pub over-at-none : (call : Call) → Within 0 (talkOf call) → askOf call ≡ Ask.Nothing
-over-at-none call h = follows .asked call ∙ none-left (talkOf call) h
+pub turns-fall : TurnsFall
+turns-fall call a rx h =
+    let some : left call ≡ 0 → ⊥ = λ e. h (over-at-none call .0 e) in
+    omega (arith, falls call a rx)
 
 -- ---- so it is over after so many answers
 
-ends : (n : ℕ) (call : Call) (xs : List (Answer × List ℕ)) → Within n (talkOf call) → n ≤ length xs → askOf (run stepOf call xs) ≡ Ask.Nothing
+left-after : (call : Call) (xs : List (Answer × List ℕ)) → left (after call xs) ≤ left call - length xs
 unfolding run
-ends zero call [] h l = over-at-none call h
-ends (suc n) call [] h l = absurd (not-suc-le-zero l)
-ends zero call (x ∷ xs) h l = ends zero (stepOf call (x .0) (x .1)) xs (step-within 0 call (x .0) (x .1) (more 0 1 (talkOf call) (omega arith) h)) (omega arith)
-ends (suc n) call (x ∷ xs) h l = ends n (stepOf call (x .0) (x .1)) xs (step-within n call (x .0) (x .1) h) (le-of-suc-le-suc l)
+left-after call [] = omega arith
+left-after call (x ∷ xs) = omega (arith, falls call (x .0) (x .1), left-after (stepOf call (x .0) (x .1)) xs)
 
 pub every-call-ends : EveryCallEnds
-every-call-ends call xs l = ends (left call) call xs (every-call-within call) l
+every-call-ends call xs l = over-at-none (after call xs) .0 (omega (arith, left-after call xs))

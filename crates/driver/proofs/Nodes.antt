@@ -11,6 +11,7 @@ use Rattle.spi.specs.declared.ask.Ask.{Ask}
 use Rattle.spi.specs.declared.ask.Answer.{Answer}
 use Rattle.spi.specs.Reply.{wordReply, pairReply, doneReply, waitReply, crcReply}
 use Rattle.spi.specs.Talk.{Talk, done, refused, ask, onWord, onPair, onDone, onChecked, andThen, asks, answered}
+use Rattle.spi.proofs.Talks.{isNothing}
 use Rattle.call.specs.declared.Outcome.{Outcome}
 use Rattle.call.specs.Outcome.{ended}
 use Rattle.call.specs.Numbers.{outcomeNumbers}
@@ -32,15 +33,6 @@ use Rattle.driver.specs.Step.{stepOf}
 use Rattle.driver.specs.Talk.{talkAt, talkOf}
 use Rattle.driver.specs.Demand1.{exchanged, waited, answers, OverAgrees, WrongAnswers}
 use Rattle.driver.proofs.Runs.{follows, outcome-talk}
-
-abbrev isNothing : Ask → Bool
-isNothing (Ask.Read address count) = false
-isNothing (Ask.Checked address) = false
-isNothing (Ask.Word address word) = false
-isNothing (Ask.Body address count) = false
-isNothing Ask.Reset = false
-isNothing Ask.Wait = false
-isNothing Ask.Nothing = true
 
 abbrev isRunning : Outcome → Bool
 isRunning Outcome.Running = true

@@ -6,7 +6,7 @@ use mathlib.Core.Path.{_≡_}
 use mathlib.Core.Bool.{Bool, true, false}
 use mathlib.Core.Logic.{_↔_}
 use mathlib.Core.List.{List, [], _∷_}
-use lib.ListN.{length, drop}
+use lib.ListN.{length}
 use lib.Dec.{eqb}
 use Rattle.spi.specs.declared.refusal.Refusal.{Refusal}
 use Rattle.spi.specs.declared.ask.Ask.{Ask}
@@ -16,9 +16,10 @@ use Rattle.call.specs.declared.Outcome.{Outcome}
 use Rattle.call.specs.Outcome.{ended}
 use Rattle.call.specs.Numbers.{outcomeNumbers}
 use Rattle.register.specs.declared.RegisterCall.{RegisterCall}
-use Rattle.plan.specs.declared.plan.PlanAt.{PlanAt}
-use Rattle.plan.specs.declared.plan.Plan.{Plan}
-use Rattle.plan.specs.Talk.{listed, allAsks}
+use Rattle.ram.specs.declared.RamCall.{RamCall}
+use Rattle.plan.specs.Talk.{planLeft}
+use Rattle.tx_fifo.specs.declared.push.PushAt.{PushAt}
+use Rattle.fetch.specs.declared.FetchAt.{FetchAt}
 use Rattle.driver.specs.CallAt.{CallAt}
 use Rattle.driver.specs.Call.{Call}
 use Rattle.driver.specs.Step.{askOf, stepOf, outcomeOf, filledBy}
@@ -43,31 +44,59 @@ registerLeft (RegisterCall.Word w) = 0
 registerLeft (RegisterCall.OpMode m) = 0
 registerLeft (RegisterCall.Refused r) = 0
 
--- the item where a plan stands
-abbrev pub itemLeft : PlanAt → ℕ
-itemLeft (PlanAt.Read c) = 2
-itemLeft (PlanAt.Write address word) = 1
-itemLeft (PlanAt.Poll p more) = 1 + 2 * more
-itemLeft (PlanAt.Wait p more) = 2 + 2 * more
-itemLeft (PlanAt.EchoWrite left) = 2 + 2 * left
-itemLeft (PlanAt.EchoRead left) = 1 + 2 * left
-itemLeft PlanAt.Done = 0
-itemLeft (PlanAt.Refused r) = 0
+abbrev pub ramLeft : RamCall → ℕ
+ramLeft (RamCall.Read address place count) = 1
+ramLeft (RamCall.Received place count) = 0
+ramLeft (RamCall.Write address count) = 1
+ramLeft RamCall.EchoWrite = 2
+ramLeft RamCall.EchoRead = 1
+ramLeft RamCall.Done = 0
+ramLeft (RamCall.Refused r) = 0
 
--- and the items behind it
-abbrev pub planLeft : Plan → ℕ
-planLeft p = itemLeft (p .at) + allAsks (listed (drop (p .next) (p .items)))
+-- a push, with so many asks behind it: nothing comes after a refusal
+abbrev pub pushLeft : PushAt → (behind : ℕ) → ℕ
+pushLeft PushAt.Control behind = 5 + behind
+pushLeft (PushAt.Status w) behind = 4 + behind
+pushLeft (PushAt.Address w) behind = 3 + behind
+pushLeft (PushAt.Write w m) behind = 2 + behind
+pushLeft (PushAt.Commit w) behind = 1 + behind
+pushLeft PushAt.Done behind = behind
+pushLeft (PushAt.Refused r) behind = 0
+
+-- has-next, peek and get: as a get with a timestamp
+abbrev pub fetchLeft : FetchAt → ℕ
+fetchLeft FetchAt.Control = 9
+fetchLeft FetchAt.Status = 8
+fetchLeft FetchAt.Address = 7
+fetchLeft (FetchAt.Header m) = 6
+fetchLeft (FetchAt.Again m f) = 5
+fetchLeft (FetchAt.Time x f) = 4
+fetchLeft (FetchAt.Body x f) = 3
+fetchLeft (FetchAt.Next f) = 2
+fetchLeft (FetchAt.Commit w f) = 1
+fetchLeft (FetchAt.Done f) = 0
+fetchLeft FetchAt.Empty = 0
+fetchLeft (FetchAt.Told next) = 0
+fetchLeft (FetchAt.Refused r) = 0
 
 abbrev pub leftAt : CallAt → Call → ℕ
 leftAt (CallAt.Register r) call = registerLeft r
-leftAt (CallAt.Ram r) call = 2
+leftAt (CallAt.Ram r) call = ramLeft r
 leftAt CallAt.Plan call = planLeft (call .plan)
-leftAt CallAt.Push call = 5
-leftAt CallAt.Transmit call = 5 + planLeft (call .plan)
-leftAt CallAt.Fetch call = 9
+leftAt CallAt.Push call = pushLeft (call .push .at) 0
+leftAt CallAt.Transmit call = pushLeft (call .push .at) (planLeft (call .plan))
+leftAt CallAt.Fetch call = fetchLeft (call .fetch .at)
 
 abbrev pub left : Call → ℕ
 left call = leftAt (call .at) call
+
+-- each answer uses up one turn at least
+abbrev pub TurnsFall : Type 0
+TurnsFall = (call : Call) (a : Answer) (rx : List ℕ) → (askOf call ≡ Ask.Nothing → ⊥) → left (stepOf call a rx) < left call
+
+-- nothing is asked exactly if no turn is left
+abbrev pub OverAtNone : Type 0
+OverAtNone = (call : Call) → (left call ≡ 0) ↔ (askOf call ≡ Ask.Nothing)
 
 -- nothing is asked after so many answers, whatever they are
 abbrev pub EveryCallEnds : Type 0
@@ -147,6 +176,8 @@ abbrev pub AddressesBelow : Type 0
 AddressesBelow = (x : Start) (xs : List (Answer × List ℕ)) → Below (askOf (after (started x) xs))
 
 pub record Demand1 : Type 0 where
+  pub turnsFall : TurnsFall
+  pub overAtNone : OverAtNone
   pub everyCallEnds : EveryCallEnds
   pub overAgrees : OverAgrees
   pub refusedKeeps : RefusedKeeps

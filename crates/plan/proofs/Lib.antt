@@ -1,4 +1,5 @@
 pub mod Changes
 pub mod Places
 pub mod Runs
+pub mod Turns
 pub mod Laws

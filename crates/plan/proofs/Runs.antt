@@ -99,32 +99,35 @@ idle-talk failed Item.Echo k e = absurd (false≢true (sym e))
 idle-talk failed Item.Nothing k e = refl
 
 module _ (failed : Refusal) (items : List Slot) where
-  abbrev standTalk : ℕ → Talk Outcome
-  standTalk i = talkOf (standing failed items i (drop i items))
-
   -- these items, the first of them apart, are there from place i on
   tail-of : (i : ℕ) (s : Slot) (ss : List Slot) → drop i items ≡ s ∷ ss → drop (i + 1) items ≡ ss
   tail-of i s ss e = sym (drop-drop 1 i items) ∙ ap (drop 1) e
 
-  here-talk : (i : ℕ) (s : Slot) (ss : List Slot) → drop i items ≡ s ∷ ss → isThere (s .item) ≡ true → standTalk i ≡ itemTalk failed (s .item) (planTalk failed (listed ss))
-  here-talk i s ss e h =
-      ap (λ l. talkOf (standing failed items i l)) e
-      ∙ begun-talk failed (s .item) _ h
-      ∙ ap (λ l. itemTalk failed (s .item) (planTalk failed (listed l))) (tail-of i s ss e)
+  -- what is said of a place with what comes behind it, and of the items that are left
+  module _ {B : Type 0} (at : Refusal → PlanAt → B → B) (left : Refusal → List Slot → B) (end : (k : B) → at failed PlanAt.Done k ≡ left failed [])
+      (begins : (s : Slot) (ss : List Slot) → isThere (s .item) ≡ true → at failed (begun (s .item)) (left failed ss) ≡ left failed (s ∷ ss))
+      (idles : (s : Slot) (ss : List Slot) → isThere (s .item) ≡ false → left failed ss ≡ left failed (s ∷ ss)) where
+    abbrev said : Plan → B
+    said p = at (p .failed) (p .at) (left (p .failed) (drop (p .next) (p .items)))
 
-  stand-talk : (i : ℕ) (ss : List Slot) → drop i items ≡ ss → standTalk (placeFrom i ss) ≡ planTalk failed (listed ss)
+    abbrev standing-at : ℕ → List Slot → B
+    standing-at i ss = said (standing failed items i ss)
+
+    stands : (i : ℕ) (ss : List Slot) → drop i items ≡ ss → standing-at (placeFrom i ss) (drop (placeFrom i ss) items) ≡ left failed ss
+    stands i [] e = ap (standing-at i) e ∙ end _
+    stands i (s ∷ ss) e =
+        by-if (λ j. standing-at j (drop j items) ≡ left failed (s ∷ ss)) (isThere (s .item))
+        (λ h. ap (standing-at i) e ∙ ap (λ l. at failed (begun (s .item)) (left failed l)) (tail-of i s ss e) ∙ begins s ss h)
+        (λ h. stands (i + 1) ss (tail-of i s ss e) ∙ idles s ss h)
+
+    pub arrives : (i : ℕ) → said (arrivedAt failed items i) ≡ left failed (drop i items)
+    unfolding arrivedAt
+    arrives i = stands i (drop i items) refl
+
+  arrive-talk : (i : ℕ) → talkOf (arrivedAt failed items i) ≡ planTalk failed (listed (drop i items))
   unfolding planTalk
-  stand-talk i [] e = ap (λ l. talkOf (standing failed items i l)) e
-  stand-talk i (s ∷ ss) e = go (isThere (s .item)) refl (stand-talk (i + 1) ss (tail-of i s ss e))
-    where
-      go : (b : Bool) → isThere (s .item) ≡ b → standTalk (placeFrom (i + 1) ss) ≡ planTalk failed (listed ss)
-          → standTalk (if b then i else placeFrom (i + 1) ss) ≡ itemTalk failed (s .item) (planTalk failed (listed ss))
-      go true h later = here-talk i s ss e h
-      go false h later = later ∙ idle-talk failed (s .item) (planTalk failed (listed ss)) h
-
-  pub arrive-talk : (i : ℕ) → talkOf (arrivedAt failed items i) ≡ planTalk failed (listed (drop i items))
-  unfolding arrivedAt
-  arrive-talk i = stand-talk i (drop i items) refl
+  arrive-talk =
+      arrives talkAt (λ r ss. planTalk r (listed ss)) (λ k. refl) (λ s ss h. begun-talk failed (s .item) _ h) (λ s ss h. idle-talk failed (s .item) _ h)
 
 moved : (s : Plan) (m : Move) → talkOf (movedTo s m) ≡ moveTalk (s .failed) (planTalk (s .failed) (listed (drop (s .next) (s .items)))) m
 moved s (Move.To at) = refl

@@ -80,3 +80,18 @@ asksOf Item.Nothing = 0
 abbrev pub allAsks : List Item → ℕ
 allAsks [] = 0
 allAsks (item ∷ items) = asksOf item + allAsks items
+
+-- how often a plan asks from where an item stands, with so many asks behind the item; nothing comes after the end
+abbrev pub itemLeft : PlanAt → (behind : ℕ) → ℕ
+itemLeft (PlanAt.Read c) behind = 2 + behind
+itemLeft (PlanAt.Write address word) behind = 1 + behind
+itemLeft (PlanAt.Poll p more) behind = 1 + 2 * more + behind
+itemLeft (PlanAt.Wait p more) behind = 2 + 2 * more + behind
+itemLeft (PlanAt.EchoWrite left) behind = 2 + 2 * left + behind
+itemLeft (PlanAt.EchoRead left) behind = 1 + 2 * left + behind
+itemLeft PlanAt.Done behind = 0
+itemLeft (PlanAt.Refused r) behind = 0
+
+-- how often a plan still asks at most
+abbrev pub planLeft : Plan → ℕ
+planLeft s = itemLeft (s .at) (allAsks (listed (drop (s .next) (s .items))))

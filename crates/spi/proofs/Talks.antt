@@ -3,8 +3,9 @@
 use Prim.Native.Nat.{ℕ, zero, suc, _+_, _≤_, _<_}
 use native.Mathlib.Nat.{le-of-suc-le-suc, not-suc-le-zero}
 use native.Mathlib.Omega.{arith}
-use mathlib.Core.Path.{_≡_, refl, ap, _∙_}
-use mathlib.Core.Bool.{Bool, true, false}
+use mathlib.Core.Path.{_≡_, refl, sym, ap, _∙_}
+use mathlib.Core.Bool.{Bool, true, false, true≢false}
+use mathlib.Core.Logic.{_↔_}
 use mathlib.Core.List.{List, [], _∷_}
 use Rattle.laws.specs.If.{if_then_else_}
 use Rattle.spi.specs.declared.refusal.Refusal.{Refusal}
@@ -41,6 +42,40 @@ module _ {A B : Type 0} (f : A → B) (bad : Refusal → A) (bad′ : Refusal �
   on-checked CheckedWord.Mismatch o o′ k k′ l h = l
   on-checked (CheckedWord.Bad r) o o′ k k′ l h = e r
 
+-- ---- what holds of every refusal and of what comes after a good answer holds after any answer
+
+module _ {T : Type 0} (P : T → Type 0) {bad : Refusal → T} (stops : (r : Refusal) → P (bad r)) where
+  pub by-word : (x : OneWord) {k : ℕ → T} → ((w : ℕ) → P (k w)) → P (onWord bad x k)
+  by-word (OneWord.Word w) h = h w
+  by-word (OneWord.Bad r) h = stops r
+
+  pub by-pair : (x : TwoWords) {k : ℕ → ℕ → T} → ((a b : ℕ) → P (k a b)) → P (onPair bad x k)
+  by-pair (TwoWords.Words a b) h = h a b
+  by-pair (TwoWords.Bad r) h = stops r
+
+  pub by-done : (x : Done) {k : T} → P k → P (onDone bad x k)
+  by-done Done.Good h = h
+  by-done (Done.Bad r) h = stops r
+
+  pub by-checked : (x : CheckedWord) {o : T} {k : ℕ → T} → P o → ((w : ℕ) → P (k w)) → P (onChecked bad x o k)
+  by-checked (CheckedWord.Word w) l h = h w
+  by-checked CheckedWord.Mismatch l h = l
+  by-checked (CheckedWord.Bad r) l h = stops r
+
+-- ---- what asks for something has a turn left
+
+abbrev pub isNothing : Ask → Bool
+isNothing (Ask.Read address count) = false
+isNothing (Ask.Checked address) = false
+isNothing (Ask.Word address word) = false
+isNothing (Ask.Body address count) = false
+isNothing Ask.Reset = false
+isNothing Ask.Wait = false
+isNothing Ask.Nothing = true
+
+pub still-asks : {n : ℕ} {q : Ask} → 0 < n → isNothing q ≡ false → (n ≡ 0) ↔ (q ≡ Ask.Nothing)
+still-asks l e = (λ z. absurd (omega arith), λ z. absurd (true≢false (sym (ap isNothing z) ∙ e)))
+
 -- ---- after any answers the machine stands where the talk stands
 
 pub runs : {S A : Type 0} (step : S → Answer → List ℕ → S) (asking : S → Ask) (talkOf : S → Talk A)
@@ -66,21 +101,16 @@ module _ {A : Type 0} where
   ask-within n (suc m) q k l h = λ a rx. more n m (k a rx) (le-of-suc-le-suc l) (h a rx)
 
   pub word-within : (n : ℕ) (x : OneWord) (k : ℕ → Talk A) → ((w : ℕ) → Within n (k w)) → Within n (onWord refused x k)
-  word-within n (OneWord.Word w) k h = h w
-  word-within n (OneWord.Bad r) k h = tt
+  word-within n x k h = by-word (λ t. Within n t) (λ r. tt) x h
 
   pub pair-within : (n : ℕ) (x : TwoWords) (k : ℕ → ℕ → Talk A) → ((a b : ℕ) → Within n (k a b)) → Within n (onPair refused x k)
-  pair-within n (TwoWords.Words a b) k h = h a b
-  pair-within n (TwoWords.Bad r) k h = tt
+  pair-within n x k h = by-pair (λ t. Within n t) (λ r. tt) x h
 
   pub done-within : (n : ℕ) (x : Done) (k : Talk A) → Within n k → Within n (onDone refused x k)
-  done-within n Done.Good k h = h
-  done-within n (Done.Bad r) k h = tt
+  done-within n x k h = by-done (λ t. Within n t) (λ r. tt) x h
 
   pub checked-within : (n : ℕ) (x : CheckedWord) (o : Talk A) (k : ℕ → Talk A) → Within n o → ((w : ℕ) → Within n (k w)) → Within n (onChecked refused x o k)
-  checked-within n (CheckedWord.Word w) o k l h = h w
-  checked-within n CheckedWord.Mismatch o k l h = l
-  checked-within n (CheckedWord.Bad r) o k l h = tt
+  checked-within n x o k l h = by-checked (λ t. Within n t) (λ r. tt) x l h
 
   pub if-within : (n : ℕ) (b : Bool) (x y : Talk A) → Within n x → Within n y → Within n (if b then x else y)
   if-within n true x y h l = h
