@@ -5,6 +5,8 @@ mod listed;
 mod machine;
 mod moves;
 mod planned;
+mod request;
+mod turns;
 mod whole;
 
 pub use areas::FifoConfiguration;
@@ -35,4 +37,6 @@ pub use machine::plan_step;
 pub use planned::PlanKind;
 pub use planned::PlanNumbers;
 pub use planned::PlanStage;
+pub use request::request;
+pub use turns::plan_turns;
 pub use whole::configure_all;

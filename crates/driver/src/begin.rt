@@ -214,7 +214,7 @@ pub fn request(fifo: u32) -> Call
     ensures { λ r. ⌜ callOf r ≡ started (Request fifo) ⌝ }
 {
     let body = [0u8; 76];
-    let p = configure::modify(fifo, 0, 0);
+    let p = configure::request(fifo);
     of_plan(p, body)
 }
 

@@ -1,31 +1,53 @@
 // How many exchanges and waits are left.
 ghost use mathlib.Core.Path.{_≡_};
-ghost use Rattle.driver.specs.Demand1.{registerLeft, ramLeft, pushLeft, fetchLeft, left};
+ghost use Prim.Native.Nat.{_<_};
 ghost use Rattle.register.specs.Numbers.{registerOf};
 ghost use Rattle.ram.specs.Numbers.{ramOf};
 ghost use Rattle.tx_fifo.specs.Numbers.{pushAt};
+ghost use Rattle.transmit.specs.Numbers.{transmitIn};
 ghost use Rattle.fetch.specs.Numbers.{fetchAt};
+ghost use Rattle.plan.specs.Talk.{planLeft};
+ghost use mathlib.Core.List.{[]};
+ghost use Rattle.driver.specs.Demand1.{registerLeft, ramLeft, pushLeft, fetchLeft, left};
 ghost use Rattle.driver.specs.Numbers.{modelOf};
 use crate::Family;
 use crate::Numbers;
-use crate::parts_of;
+use crate::parts_of::fetch_part;
+use crate::parts_of::plan_part;
+use crate::parts_of::push_part;
+use crate::parts_of::ram_part;
+use crate::parts_of::register_part;
+use crate::parts_of::transmit_part;
+use fetch::FetchNumbers;
 use fetch::FetchStage;
+use fifo::is_fifo;
+use ram::RamNumbers;
 use ram::RamStage;
+use register::RegisterNumbers;
 use register::RegisterStage;
+use transmit::RequestStage;
+use transmit::TransmitNumbers;
+use tx_fifo::PushNumbers;
 use tx_fifo::PushStage;
 
-fn register_turns(stage: RegisterStage, more: u8) -> u32 {
+fn register_turns(c: RegisterNumbers) -> u32
+    ensures { λ r. ⌜ r ≡ registerLeft (registerOf c) ⌝ }
+{
+    let stage = c.stage;
     match stage {
         RegisterStage::Reset => 1,
         RegisterStage::Read => 1,
         RegisterStage::Write => 1,
-        RegisterStage::Checked => more as u32 + 1,
+        RegisterStage::Checked => c.more as u32 + 1,
         RegisterStage::Mode => 1,
         _ => 0,
     }
 }
 
-fn ram_turns(stage: RamStage) -> u32 {
+fn ram_turns(c: RamNumbers) -> u32
+    ensures { λ r. ⌜ r ≡ ramLeft (ramOf c) ⌝ }
+{
+    let stage = c.stage;
     match stage {
         RamStage::Read => 1,
         RamStage::Write => 1,
@@ -35,18 +57,54 @@ fn ram_turns(stage: RamStage) -> u32 {
     }
 }
 
-fn push_turns(stage: PushStage) -> u32 {
+// `behind` are asked after the push, unless that is refused.
+fn push_turns(c: PushNumbers, behind: u32) -> u32
+    requires { ⌜ behind < 1000 ⌝ }
+    ensures { λ r. ⌜ r ≡ pushLeft (pushAt c) behind ⌝ }
+{
+    let stage = c.stage;
     match stage {
-        PushStage::Control => 5,
-        PushStage::Status => 4,
-        PushStage::Address => 3,
-        PushStage::Write => 2,
-        PushStage::Commit => 1,
-        _ => 0,
+        PushStage::Control => 5 + behind,
+        PushStage::Status => 4 + behind,
+        PushStage::Address => 3 + behind,
+        PushStage::Write => 2 + behind,
+        PushStage::Commit => 1 + behind,
+        PushStage::Done => behind,
+        PushStage::Refused => 0,
     }
 }
 
-fn fetch_turns(stage: FetchStage) -> u32 {
+// A request that has begun is at its own stage; before that it reads and writes, where there is such a FIFO.
+fn request_turns(c: TransmitNumbers) -> u32
+    ensures { λ r. ⌜ (r ≡ planLeft (transmitIn c [] .request)) × (r < 1000) ⌝ }
+{
+    let p = c.push;
+    let stage = c.request;
+    if tx_fifo::push_done(p) {
+        match stage {
+            RequestStage::Read => 2,
+            RequestStage::Write => 1,
+            RequestStage::Done => 0,
+            RequestStage::Late => 0,
+            RequestStage::Refused => 0,
+        }
+    } else {
+        if is_fifo(p.fifo as u32) { 2 } else { 0 }
+    }
+}
+
+fn transmit_turns(c: TransmitNumbers) -> u32
+    ensures { λ r. ⌜ r ≡ pushLeft (pushAt (c .push)) (planLeft (transmitIn c [] .request)) ⌝ }
+{
+    let p = c.push;
+    let n = request_turns(c);
+    push_turns(p, n)
+}
+
+fn fetch_turns(c: FetchNumbers) -> u32
+    ensures { λ r. ⌜ r ≡ fetchLeft (fetchAt c) ⌝ }
+{
+    let stage = c.stage;
     match stage {
         FetchStage::Control => 9,
         FetchStage::Status => 8,
@@ -65,16 +123,12 @@ pub fn turns_lent(c: Numbers, body: &[u8; 76]) -> u32
     ensures { λ r. ⌜ r ≡ left (modelOf c (now (body .entry))) ⌝ }
 {
     let family = c.family;
-    let stage = c.register;
-    let ram = c.ram;
-    let push = c.push;
-    let fetch = c.fetch;
     match family {
-        Family::Register => register_turns(stage, c.more),
-        Family::Ram => ram_turns(ram),
-        Family::Plan => 0,
-        Family::Push => push_turns(push),
-        Family::Transmit => 0,
-        Family::Fetch => fetch_turns(fetch),
+        Family::Register => register_turns(register_part(c)),
+        Family::Ram => ram_turns(ram_part(c)),
+        Family::Plan => configure::plan_turns(plan_part(c), body),
+        Family::Push => push_turns(push_part(c), 0),
+        Family::Transmit => transmit_turns(transmit_part(c)),
+        Family::Fetch => fetch_turns(fetch_part(c)),
     }
 }

@@ -1,0 +1,19 @@
+// The request call, by which a FIFO is to send what it holds: control is read, and written with TXREQ 1.
+ghost use Rattle.transmit.specs.Transmit.{requestStart};
+ghost use Rattle.configure.specs.Numbers.{Stands};
+use crate::PlanKind;
+use crate::PlanNumbers;
+use crate::calls::plan_with;
+use crate::calls::refused_plan;
+use fifo::is_fifo;
+use spi::Refusal;
+
+pub fn request(fifo: u32) -> PlanNumbers
+    ensures { λ r. ⌜ Stands r (requestStart fifo) ⌝ }
+{
+    if is_fifo(fifo) {
+        plan_with(PlanKind::One, 0, areas::request_change(fifo as u8))
+    } else {
+        refused_plan(Refusal::BadNumber)
+    }
+}
