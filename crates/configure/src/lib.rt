@@ -5,7 +5,7 @@ mod listed;
 mod machine;
 mod moves;
 mod planned;
-mod request;
+mod requesting;
 mod turns;
 mod whole;
 
@@ -37,6 +37,6 @@ pub use machine::plan_step;
 pub use planned::PlanKind;
 pub use planned::PlanNumbers;
 pub use planned::PlanStage;
-pub use request::request;
+pub use requesting::request;
 pub use turns::plan_turns;
 pub use whole::configure_all;

@@ -68,17 +68,17 @@ pub fn turns(call: Call) -> u32
 {
     let c = call.numbers;
     let body = call.body;
-    crate::turns::turns_lent(c, &body)
+    crate::count::turns_lent(c, &body)
 }
 
 // A call in two parts, for `next_lent`, `answer_lent` and `finish_lent`.
-pub fn numbers(call: Call) -> Numbers
+pub fn numbers_of(call: Call) -> Numbers
     ensures { λ r. ⌜ r ≡ call .numbers ⌝ }
 {
     call.numbers
 }
 
-pub fn body(call: Call) -> [u8; 76]
+pub fn body_of(call: Call) -> [u8; 76]
     ensures { λ r. ⌜ r ≡ call .body ⌝ }
 {
     call.body
