@@ -50,8 +50,5 @@ abbrev pub started : Want → ℕ → FetchNumbers
 started want fifo = record { stage = FetchStage.Control; want = want; fifo = fifo; stamped = false; len = 0; m = 0; w = 0; a = 0; b = 0; t = 0; why = Refusal.WrongAnswer }
 
 -- the same numbers at another stage
-abbrev pub staged : FetchNumbers → FetchStage → FetchNumbers
-staged c s = record { stage = s; want = c .want; fifo = c .fifo; stamped = c .stamped; len = c .len; m = c .m; w = c .w; a = c .a; b = c .b; t = c .t; why = c .why }
-
-abbrev pub refusedFor : FetchNumbers → Refusal → FetchNumbers
-refusedFor c why = record { stage = FetchStage.Refused; want = c .want; fifo = c .fifo; stamped = c .stamped; len = c .len; m = c .m; w = c .w; a = c .a; b = c .b; t = c .t; why = why }
+abbrev pub movedTo : FetchNumbers → FetchStage → Refusal → FetchNumbers
+movedTo c stage why = record { stage = stage; want = c .want; fifo = c .fifo; stamped = c .stamped; len = c .len; m = c .m; w = c .w; a = c .a; b = c .b; t = c .t; why = why }

@@ -5,8 +5,9 @@ ghost use Rattle.spi.specs.Reply.{doneReply, wordReply};
 ghost use Rattle.spi.specs.Talk.{onWord, onPair, onDone};
 ghost use Rattle.spi.specs.declared.refusal.Refusal.{Refusal};
 ghost use Rattle.fetch.specs.declared.FetchAt.{FetchAt};
+ghost use Rattle.fetch.specs.declared.FetchStage.{FetchStage};
 ghost use Rattle.fetch.specs.Step.{afterControl, toAddress, afterStatus, afterAddress, afterHeader, toTime, toBody, afterAgain, stamped, afterTime, afterBody, nextAt};
-ghost use Rattle.fetch.specs.Numbers.{foundIn, fetchAt, standing, started, staged, refusedFor};
+ghost use Rattle.fetch.specs.Numbers.{foundIn, fetchAt, standing, started, movedTo};
 use call::Found;
 use fifo::FifoControl;
 use fifo::FifoStatus;
@@ -104,11 +105,10 @@ pub fn start(want: Want, fifo: u8) -> FetchNumbers
     }
 }
 
-fn at_stage(c: FetchNumbers, stage: FetchStage) -> FetchNumbers
-    ensures { λ r. ⌜ r ≡ staged c stage ⌝ }
+fn moved(c: FetchNumbers, stage: FetchStage, why: Refusal) -> FetchNumbers
+    ensures { λ r. ⌜ r ≡ movedTo c stage why ⌝ }
 {
     let want = c.want;
-    let why = c.why;
     FetchNumbers {
         stage: stage,
         want: want,
@@ -124,23 +124,17 @@ fn at_stage(c: FetchNumbers, stage: FetchStage) -> FetchNumbers
     }
 }
 
-pub fn refused(c: FetchNumbers, why: Refusal) -> FetchNumbers
-    ensures { λ r. ⌜ r ≡ refusedFor c why ⌝ }
+fn at_stage(c: FetchNumbers, stage: FetchStage) -> FetchNumbers
+    ensures { λ r. ⌜ r ≡ movedTo c stage (c .why) ⌝ }
 {
-    let want = c.want;
-    FetchNumbers {
-        stage: FetchStage::Refused,
-        want: want,
-        fifo: c.fifo,
-        stamped: c.stamped,
-        len: c.len,
-        m: c.m,
-        w: c.w,
-        a: c.a,
-        b: c.b,
-        t: c.t,
-        why: why,
-    }
+    let why = c.why;
+    moved(c, stage, why)
+}
+
+pub fn refused(c: FetchNumbers, why: Refusal) -> FetchNumbers
+    ensures { λ r. ⌜ r ≡ movedTo c FetchStage.Refused why ⌝ }
+{
+    moved(c, FetchStage::Refused, why)
 }
 
 // TXEN is looked at only here, in the first control word.
