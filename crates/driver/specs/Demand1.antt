@@ -11,6 +11,7 @@ use lib.Dec.{eqb}
 use Rattle.spi.specs.declared.refusal.Refusal.{Refusal}
 use Rattle.spi.specs.declared.ask.Ask.{Ask}
 use Rattle.spi.specs.declared.ask.Answer.{Answer}
+use Rattle.spi.specs.Ask.{wanted, sent}
 use Rattle.spi.specs.Talk.{asks, answered, run}
 use Rattle.call.specs.declared.Outcome.{Outcome}
 use Rattle.call.specs.Outcome.{ended}
@@ -24,7 +25,7 @@ use Rattle.driver.specs.declared.calls.CallAt.{CallAt}
 use Rattle.driver.specs.declared.calls.Call.{Call}
 use Rattle.driver.specs.Step.{askOf, stepOf, outcomeOf, filledBy}
 use Rattle.driver.specs.Talk.{talkOf}
-use Rattle.driver.specs.Calls.{Start, started, wholeTalk, first, tests}
+use Rattle.driver.specs.Calls.{Start, Reset, OpMode, VerifyLong, Read, Checked, Write, ReadRam, WriteRam, Planned, Push, Transmit, Request, HasNext, Peek, Get, started, wholeTalk, first, tests}
 
 -- a call after these answers, each with what was received
 abbrev pub after : Call → List (Answer × List ℕ) → Call
@@ -175,6 +176,55 @@ Below Ask.Nothing = Unit {0}
 abbrev pub AddressesBelow : Type 0
 AddressesBelow = (x : Start) (xs : List (Answer × List ℕ)) → Below (askOf (after (started x) xs))
 
+-- ---- what a loop has to have room for
+
+-- an exchange that receives at most so many bytes and sends at most so many, whatever the body of its call is
+abbrev pub Fits : ℕ × ℕ → Ask → Type 0
+Fits m q = (wanted q ≤ m .0) × ((body : List ℕ) → length (sent q body) ≤ m .1)
+
+-- the most that an exchange of a call receives, and sends: a command, and a word, an object or the RAM's bytes
+abbrev pub most : Start → ℕ × ℕ
+most Reset = (0, 2)
+most OpMode = (4, 2)
+most VerifyLong = (128, 130)
+most (Read address) = (4, 2)
+most (Checked address) = (6, 3)
+most (Write address word) = (0, 6)
+most (ReadRam address room place count) = (count, 2)
+most (WriteRam address count) = (0, 2 + count)
+most (Planned x) = (4, 6)
+most (Push n header seq payload) = (4, 74)
+most (Transmit n header seq payload) = (4, 74)
+most (Request n) = (4, 6)
+most (HasNext n) = (4, 2)
+most (Peek n room) = (64, 2)
+most (Get n room) = (64, 6)
+
+abbrev pub ExchangesFit : Type 0
+ExchangesFit = (x : Start) (xs : List (Answer × List ℕ)) → Fits (most x) (askOf (after (started x) xs))
+
+-- the calls that move as many bytes as the caller says
+abbrev pub isRam : Start → Bool
+isRam Reset = false
+isRam OpMode = false
+isRam VerifyLong = false
+isRam (Read address) = false
+isRam (Checked address) = false
+isRam (Write address word) = false
+isRam (ReadRam address room place count) = true
+isRam (WriteRam address count) = true
+isRam (Planned x) = false
+isRam (Push n header seq payload) = false
+isRam (Transmit n header seq payload) = false
+isRam (Request n) = false
+isRam (HasNext n) = false
+isRam (Peek n room) = false
+isRam (Get n room) = false
+
+-- for any other 128 bytes to receive and 130 to send are enough
+abbrev pub RoomEnough : Type 0
+RoomEnough = (x : Start) (xs : List (Answer × List ℕ)) → isRam x ≡ false → Fits (128, 130) (askOf (after (started x) xs))
+
 pub record Demand1 : Type 0 where
   pub turnsFall : TurnsFall
   pub overAtNone : OverAtNone
@@ -186,3 +236,5 @@ pub record Demand1 : Type 0 where
   pub startsAsTalk : StartsAsTalk
   pub followsTalk : FollowsTalk
   pub addressesBelow : AddressesBelow
+  pub exchangesFit : ExchangesFit
+  pub roomEnough : RoomEnough
