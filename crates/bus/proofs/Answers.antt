@@ -21,9 +21,7 @@ use Rattle.message.specs.Object.{stampBytes}
 use Rattle.message.specs.Message.{Message, Encoding, refused, object, encoding, Decoding, holds, bad, short}
 use Rattle.message.specs.Structs.{encodedAs, decodedAs}
 use Rattle.message.proofs.rx.Reading.{the-type}
-use Rattle.message.proofs.Checks.{sound}
-use Rattle.message.proofs.Round.{is-coded, lengths-hold}
-use Rattle.header.proofs.Dlcs.{payload-le}
+use Rattle.message.proofs.Round.{object-le}
 use Rattle.state.specs.declared.Model.{Model}
 use Rattle.bus.specs.declared.departure.Sending.{Sending}
 use Rattle.bus.specs.declared.departure.Sent.{Sent}
@@ -47,12 +45,8 @@ stamp-most : (s : Stamp) → length (stampBytes s) ≤ 4
 stamp-most (Stamp.At t) = omega (arith, le-length t)
 stamp-most Stamp.None = omega arith
 
--- two words, a timestamp and 64 bytes
 pub object-most : (x : Message) (bs : List ℕ) → encoding x ≡ object bs → length bs ≤ 76
-object-most x bs e =
-    let c = is-coded x bs e in
-    let p = payload-le (x .header .fdf) (length (x .payload)) (c .dlc) (sound (x .header) (x .seq) (length (x .payload)) (c .dlc) (c .checked) .dlc) in
-    omega (arith, lengths-hold x bs e, stamp-most (x .stamp))
+object-most x bs e = omega (arith, object-le x bs e, stamp-most (x .stamp))
 
 -- the bytes of an object stand at the front of its array
 pub record Made (x : Message) (e : Encoded) : Type 0 where

@@ -9,7 +9,7 @@ use Rattle.driver.proofs.Ends.{turns-fall, over-at-none, every-call-end
 use Rattle.driver.proofs.Nodes.{over-agrees, wrong-answers}
 use Rattle.driver.proofs.Keeps.{refused-keeps}
 use Rattle.driver.proofs.Starts.{starts-as-talk, refuses-first}
-use Rattle.driver.proofs.Addresses.{addresses-below}
+use Rattle.driver.proofs.Exchanges.{addresses-below, exchanges-fit, room-enough}
 
 follows-talk : FollowsTalk
 follows-talk call xs =
@@ -27,4 +27,6 @@ demand1 = record {
   startsAsTalk = starts-as-talk;
   followsTalk = follows-talk;
   addressesBelow = addresses-below;
+  exchangesFit = exchanges-fit;
+  roomEnough = room-enough;
 }

@@ -1,7 +1,7 @@
 -- Demand 1: every call takes any bytes, numbers and SPI answers, and ends; bad input gets the refusal number in the table, in the order
 -- given there, and changes no lent byte.
 -- Assumes nothing.
-use Prim.Native.Nat.{ℕ, suc, _+_, _*_, _^_, _≤_, _<_}
+use Prim.Native.Nat.{ℕ, suc, _+_, _^_, _≤_, _<_}
 use mathlib.Core.Path.{_≡_}
 use mathlib.Core.Bool.{Bool, true, false}
 use mathlib.Core.Logic.{_↔_}
@@ -11,6 +11,7 @@ use lib.Dec.{eqb}
 use Rattle.spi.specs.declared.refusal.Refusal.{Refusal}
 use Rattle.spi.specs.declared.ask.Ask.{Ask}
 use Rattle.spi.specs.declared.ask.Answer.{Answer}
+use Rattle.spi.specs.Ask.{wanted, sent}
 use Rattle.spi.specs.Talk.{asks, answered, run}
 use Rattle.call.specs.declared.Outcome.{Outcome}
 use Rattle.call.specs.Outcome.{ended}
@@ -24,7 +25,7 @@ use Rattle.driver.specs.CallAt.{CallAt}
 use Rattle.driver.specs.Call.{Call}
 use Rattle.driver.specs.Step.{askOf, stepOf, outcomeOf, filledBy}
 use Rattle.driver.specs.Talk.{talkOf}
-use Rattle.driver.specs.Calls.{Start, started, wholeTalk, first, tests}
+use Rattle.driver.specs.Calls.{Start, Reset, OpMode, VerifyLong, Read, Checked, Write, ReadRam, WriteRam, Planned, Push, Transmit, Request, HasNext, Peek, Get, started, wholeTalk, first, tests}
 
 -- a call after these answers, each with what was received
 abbrev pub after : Call → List (Answer × List ℕ) → Call
@@ -32,7 +33,7 @@ after = run stepOf
 
 -- ---- every call ends
 
--- how often a call may still ask: a checked read once more than it may mismatch
+-- a call on a register: a checked read asks once more than it may mismatch
 abbrev pub registerLeft : RegisterCall → ℕ
 registerLeft RegisterCall.Reset = 1
 registerLeft (RegisterCall.Read address) = 1
@@ -44,6 +45,7 @@ registerLeft (RegisterCall.Word w) = 0
 registerLeft (RegisterCall.OpMode m) = 0
 registerLeft (RegisterCall.Refused r) = 0
 
+-- a call on RAM: the long echo is a write and a read
 abbrev pub ramLeft : RamCall → ℕ
 ramLeft (RamCall.Read address place count) = 1
 ramLeft (RamCall.Received place count) = 0
@@ -53,7 +55,7 @@ ramLeft RamCall.EchoRead = 1
 ramLeft RamCall.Done = 0
 ramLeft (RamCall.Refused r) = 0
 
--- a push, with so many asks behind it: nothing comes after a refusal
+-- a push with so many asks behind it, which do not come after a refusal
 abbrev pub pushLeft : PushAt → (behind : ℕ) → ℕ
 pushLeft PushAt.Control behind = 5 + behind
 pushLeft (PushAt.Status w) behind = 4 + behind
@@ -63,7 +65,7 @@ pushLeft (PushAt.Commit w) behind = 1 + behind
 pushLeft PushAt.Done behind = behind
 pushLeft (PushAt.Refused r) behind = 0
 
--- has-next, peek and get: as a get with a timestamp
+-- has-next, peek and get: the longest is a get with a timestamp
 abbrev pub fetchLeft : FetchAt → ℕ
 fetchLeft FetchAt.Control = 9
 fetchLeft FetchAt.Status = 8
@@ -79,6 +81,7 @@ fetchLeft FetchAt.Empty = 0
 fetchLeft (FetchAt.Told next) = 0
 fetchLeft (FetchAt.Refused r) = 0
 
+-- behind the push of a transmit stands its request
 abbrev pub leftAt : CallAt → Call → ℕ
 leftAt (CallAt.Register r) call = registerLeft r
 leftAt (CallAt.Ram r) call = ramLeft r
@@ -87,6 +90,7 @@ leftAt CallAt.Push call = pushLeft (call .push .at) 0
 leftAt CallAt.Transmit call = pushLeft (call .push .at) (planLeft (call .plan))
 leftAt CallAt.Fetch call = fetchLeft (call .fetch .at)
 
+-- the most exchanges and waits that a call may still ask for
 abbrev pub left : Call → ℕ
 left call = leftAt (call .at) call
 
@@ -175,6 +179,56 @@ Below Ask.Nothing = Unit {0}
 abbrev pub AddressesBelow : Type 0
 AddressesBelow = (x : Start) (xs : List (Answer × List ℕ)) → Below (askOf (after (started x) xs))
 
+-- ---- what a loop has to have room for
+
+-- an exchange that receives at most so many bytes and sends at most so many, whatever the body of its call is
+abbrev pub Fits : ℕ × ℕ → Ask → Type 0
+Fits m q = (wanted q ≤ m .0) × ((body : List ℕ) → length (sent q body) ≤ m .1)
+
+-- the most bytes that an exchange of a call receives, and that it sends: 2 of the command, and what is written
+abbrev pub most : Start → ℕ × ℕ
+most Reset = (0, 2)
+most OpMode = (4, 2)
+most VerifyLong = (128, 130)
+most (Read address) = (4, 2)
+most (Checked address) = (6, 3)
+most (Write address word) = (0, 6)
+most (ReadRam address room place count) = (count, 2)
+most (WriteRam address count) = (0, 2 + count)
+most (Planned x) = (4, 6)
+most (Push n header seq payload) = (4, 74)
+most (Transmit n header seq payload) = (4, 74)
+most (Request n) = (4, 6)
+most (HasNext n) = (4, 2)
+most (Peek n room) = (64, 2)
+most (Get n room) = (64, 6)
+
+-- none is larger, whatever is answered
+abbrev pub ExchangesFit : Type 0
+ExchangesFit = (x : Start) (xs : List (Answer × List ℕ)) → Fits (most x) (askOf (after (started x) xs))
+
+-- the calls that move as many bytes as the caller says
+abbrev pub isRam : Start → Bool
+isRam Reset = false
+isRam OpMode = false
+isRam VerifyLong = false
+isRam (Read address) = false
+isRam (Checked address) = false
+isRam (Write address word) = false
+isRam (ReadRam address room place count) = true
+isRam (WriteRam address count) = true
+isRam (Planned x) = false
+isRam (Push n header seq payload) = false
+isRam (Transmit n header seq payload) = false
+isRam (Request n) = false
+isRam (HasNext n) = false
+isRam (Peek n room) = false
+isRam (Get n room) = false
+
+-- for all others 128 bytes to receive and 130 to send are enough
+abbrev pub RoomEnough : Type 0
+RoomEnough = (x : Start) (xs : List (Answer × List ℕ)) → isRam x ≡ false → Fits (128, 130) (askOf (after (started x) xs))
+
 pub record Demand1 : Type 0 where
   pub turnsFall : TurnsFall
   pub overAtNone : OverAtNone
@@ -186,3 +240,5 @@ pub record Demand1 : Type 0 where
   pub startsAsTalk : StartsAsTalk
   pub followsTalk : FollowsTalk
   pub addressesBelow : AddressesBelow
+  pub exchangesFit : ExchangesFit
+  pub roomEnough : RoomEnough

@@ -26,7 +26,7 @@ use Rattle.message.specs.Object.{stampBytes, padded, objectBytes}
 use Rattle.message.specs.Message.{Message, checkOf, object, coded, encoding, Decoding, holds, bodyAt, messageIn, byLength, decoding}
 use Rattle.message.specs.Numbers.{decodingNumbers}
 use Rattle.message.specs.Laws.{Stamped, RoundTrip, meaningful, Back, Lengths, Refuses, Refuses23}
-use Rattle.header.proofs.Dlcs.{length-back, dlc-back, dlc-16}
+use Rattle.header.proofs.Dlcs.{length-back, dlc-back, dlc-16, payload-le}
 use Rattle.message.proofs.Checks.{sound}
 use Rattle.header.proofs.Fields.{word0-lt, word1-lt, dlc-field, seq-field, fdf-flag, header-back, header-small, header-fdf, word0-again, word1-again}
 
@@ -62,6 +62,13 @@ pub lengths-hold : Lengths
 lengths-hold m bs e =
     let c = is-coded m bs e in
     ap length (sym (c .bytes)) ∙ object-length (word0 (m .header)) (word1 (m .header) (m .seq) (c .dlc)) (m .stamp) (m .payload)
+
+-- two words, the timestamp, and 64 bytes at most
+pub object-le : (m : Message) (bs : List ℕ) → encoding m ≡ object bs → length bs ≤ 72 + length (stampBytes (m .stamp))
+object-le m bs e =
+    let c = is-coded m bs e in
+    let s = sound (m .header) (m .seq) (length (m .payload)) (c .dlc) (c .checked) in
+    omega (arith, lengths-hold m bs e, payload-le (m .header .fdf) (length (m .payload)) (c .dlc) (s .dlc))
 
 -- ---- reading back
 

@@ -1,14 +1,14 @@
 -- Each answer uses up one turn of a plan at least, and it asks for nothing exactly if none is left.
 -- Assumes nothing.
-use Prim.Native.Nat.{ℕ, zero, suc, _+_, _-_, _*_, _≤_}
+use Prim.Native.Nat.{ℕ, _+_, _-_, _*_, _≤_}
 use native.Mathlib.Omega.{arith}
 use mathlib.Core.Path.{_≡_, refl, sym}
 use mathlib.Core.Bool.{true, false, false≢true}
 use mathlib.Core.Logic.{_↔_}
-use mathlib.Core.List.{List, _∷_}
+use mathlib.Core.List.{List}
 use lib.ListN.{length, drop}
 use lib.Dec.{eqb}
-use borrow.Author.Tests.{eqb-true, eqb-false}
+use borrow.Author.Tests.{eqb-false}
 use Rattle.laws.proofs.Choice.{by-if}
 use Rattle.spi.specs.declared.refusal.Refusal.{Refusal}
 use Rattle.spi.specs.declared.ask.Ask.{Ask}
@@ -21,7 +21,7 @@ use Rattle.plan.specs.declared.plan.PlanAt.{PlanAt}
 use Rattle.plan.specs.declared.plan.Plan.{Plan}
 use Rattle.plan.specs.declared.plan.Move.{Move}
 use Rattle.plan.specs.Item.{shown, echoWord, isThere}
-use Rattle.plan.specs.Step.{begun, afterPoll, afterEcho, stopped, nextAt, arrivedAt, movedTo, stepOf, askAt, askOf}
+use Rattle.plan.specs.Step.{begun, afterPoll, afterEcho, nextAt, arrivedAt, movedTo, stepOf, askAt, askOf}
 use Rattle.plan.specs.Talk.{listed, asksOf, allAsks, itemLeft, planLeft}
 use Rattle.plan.proofs.Runs.{arrives}
 

@@ -81,7 +81,7 @@ abbrev pub allAsks : List Item → ℕ
 allAsks [] = 0
 allAsks (item ∷ items) = asksOf item + allAsks items
 
--- how often a plan asks from where an item stands, with so many asks behind the item; nothing comes after the end
+-- how often a plan may still ask, by where its item stands and how many asks are behind it; after the end none
 abbrev pub itemLeft : PlanAt → (behind : ℕ) → ℕ
 itemLeft (PlanAt.Read c) behind = 2 + behind
 itemLeft (PlanAt.Write address word) behind = 1 + behind
@@ -92,6 +92,5 @@ itemLeft (PlanAt.EchoRead left) behind = 1 + 2 * left + behind
 itemLeft PlanAt.Done behind = 0
 itemLeft (PlanAt.Refused r) behind = 0
 
--- how often a plan still asks at most
 abbrev pub planLeft : Plan → ℕ
 planLeft s = itemLeft (s .at) (allAsks (listed (drop (s .next) (s .items))))

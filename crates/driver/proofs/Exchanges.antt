@@ -1,0 +1,450 @@
+-- Every exchange of a started call has an address of 12 bits, and receives and sends few bytes.
+-- Assumes nothing.
+use Prim.Native.Nat.{ℕ, zero, suc, _+_, _%_, _^_, _≤_, _<_}
+use native.Mathlib.Omega.{arith}
+use mathlib.Core.Path.{_≡_, refl, sym, ap, _∙_, subst}
+use mathlib.Core.Bool.{Bool, true, false, not, _&&_, true≢false}
+use mathlib.Core.List.{List, [], _∷_}
+use lib.ListN.{length, length-append, length-take}
+use lib.Dec.{eqb, ltb, leb}
+use borrow.Author.Tests.{ltb-true, leb-true, not-false}
+use Rattle.laws.specs.If.{if_then_else_}
+use Rattle.laws.proofs.Choice.{by-if}
+use Rattle.laws.proofs.Table.{both}
+use Rattle.field.specs.Field.{place, read, flag}
+use Rattle.field.specs.Settings.{Setting, _:=_}
+use Rattle.configuration.specs.CanControl.{REQOP, DNCNT}
+use Rattle.interrupt.specs.Interrupt.{CiINT}
+use Rattle.fifo.specs.Control.{CiFIFOCON, TXEN, RXTSEN, payloadOf, isFifo}
+use Rattle.fifo.specs.Status.{CiFIFOSTA, TFNRFNIF}
+use Rattle.fifo.specs.UserAddress.{CiFIFOUA}
+use Rattle.words.specs.Words.{leBytes, beBytes, roundUp}
+use Rattle.header.specs.declared.Header.{Header}
+use Rattle.header.specs.declared.dlc.Length.{Length}
+use Rattle.header.specs.Dlc.{lengthOf}
+use Rattle.header.specs.Header.{DLC, FDF, headerOf}
+use Rattle.header.proofs.Dlcs.{length-le}
+use Rattle.message.specs.declared.object.Stamp.{Stamp}
+use Rattle.message.specs.Message.{Message, Encoding, encoding}
+use Rattle.message.proofs.Round.{object-le}
+use Rattle.spi.specs.declared.refusal.Refusal.{Refusal}
+use Rattle.spi.specs.declared.ask.Ask.{Ask}
+use Rattle.spi.specs.declared.ask.Answer.{Answer}
+use Rattle.spi.specs.Ask.{headOf, bodyOf, wanted, sent}
+use Rattle.spi.specs.Instruction.{commandOf}
+use Rattle.spi.specs.Ram.{inRange, accessOf}
+use Rattle.spi.specs.Talk.{Talk, done, refused, onDone, asks, answered, run, readWord, writeWord, pause}
+use Rattle.call.specs.declared.Found.{Found}
+use Rattle.call.specs.declared.Outcome.{Outcome}
+use Rattle.register.specs.Talk.{readCall, writeCall, checkedCall, checkedTalk, atAddress}
+use Rattle.ram.specs.Echo.{same, echoBytes}
+use Rattle.ram.specs.Step.{inside}
+use Rattle.ram.specs.Talk.{readRamTalk, writeRamTalk, verifyLongTalk}
+use Rattle.plan.specs.declared.change.Change.{Change}
+use Rattle.plan.specs.declared.item.Poll.{Poll}
+use Rattle.plan.specs.declared.item.Item.{Item}
+use Rattle.plan.specs.Change.{settingAll, changeOf}
+use Rattle.plan.specs.Item.{addressOf, shown, lateOf, echoWord}
+use Rattle.plan.specs.Prepared.{Prepared, ready, turnedDown, talkFor, modify}
+use Rattle.plan.specs.Talk.{pollTalk, echoRest, itemTalk, planTalk}
+use Rattle.changes.specs.declared.settings.Settings.{Settings}
+use Rattle.changes.specs.Changes.{fits, timingFits, counterChange, dncntChange, interruptSettings}
+use Rattle.areas.specs.declared.settings.FilterConfiguration.{FilterConfiguration}
+use Rattle.areas.specs.Areas.{fifoFits, fifoSettings, isIdentifier, isFilter, filterCheck}
+use Rattle.adjust.specs.Calls.{filterItems, setOpMode, configureBitTiming, configureFifo, disableFilter, configureFilter}
+use Rattle.configure.specs.Whole.{configureItems, configureAll}
+use Rattle.tx_fifo.specs.Step.{toSend}
+use Rattle.tx_fifo.specs.Talk as push-talks
+use Rattle.transmit.specs.Transmit.{requestCall, transmitCall}
+use Rattle.fetch.specs.declared.Want.{Want}
+use Rattle.fetch.specs.Step.{stamped}
+use Rattle.rx_fifo.specs.Outcome.{messageOf}
+use Rattle.rx_fifo.specs.Talk as fetch-talks
+use Rattle.driver.specs.Step.{askOf, stepOf}
+use Rattle.driver.specs.Talk.{told}
+use Rattle.driver.specs.Calls.{Plans, Modify, Verify, SetOpMode, Osc, Io, BitTiming, Fifo, Filter, FilterOff, Configure, Start, Reset, OpMode, VerifyLong, Read, Checked, Write, ReadRam, WriteRam, Planned, Push, Transmit, Request, HasNext, Peek, Get, prepared, started, wholeTalk}
+use Rattle.driver.specs.Demand1.{Narrow, Below, AddressesBelow, Fits, most, ExchangesFit, isRam, RoomEnough}
+use Rattle.driver.proofs.Runs.{follows, run-talk}
+use Rattle.driver.proofs.Starts.{starts-as-talk}
+use Rattle.driver.proofs.Always.{Always, choice, reads, pairs, checks, waits, gets, puts, after, then-always}
+
+-- ---- addresses
+
+ram-below : (a n : ℕ) → inRange a n ≡ true → Narrow a
+unfolding inRange
+ram-below a n e = let (low, high) = both (leb 0x400 a) (leb (a + n) 0xC00) e in omega (arith, leb-true (a + n) 0xC00 high)
+
+module _ (n : ℕ) (f : isFifo n ≡ true) where
+  fifo-most : n ≤ 31
+  unfolding isFifo
+  fifo-most = leb-true n 31 (both (leb 1 n) (leb n 31) f .1)
+
+  control-below : Narrow (CiFIFOCON .address n)
+  control-below = omega (arith, fifo-most)
+
+  status-below : Narrow (CiFIFOSTA .address n)
+  status-below = omega (arith, fifo-most)
+
+  user-below : Narrow (CiFIFOUA .address n)
+  user-below = omega (arith, fifo-most)
+
+abbrev ItemBelow : Item → Type 0
+ItemBelow (Item.Change c) = Narrow (c .address)
+ItemBelow (Item.Poll p more) = Unit {0}
+ItemBelow Item.Echo = Unit {0}
+ItemBelow Item.Nothing = Unit {0}
+
+abbrev AllBelow : List Item → Type 0
+AllBelow [] = Unit {0}
+AllBelow (item ∷ items) = ItemBelow item × AllBelow items
+
+infixr 5 _&_
+abbrev _&_ : {A B : Type 0} → A → B → A × B
+h & l = (h, l)
+
+polled-below : (p : Poll) → Narrow (addressOf p)
+polled-below (Poll.Mode m late) = omega arith
+polled-below Poll.Pll = omega arith
+
+-- settings keep the address
+address-kept : (ss : List Setting) (c : Change) → settingAll ss c .address ≡ c .address
+address-kept [] c = refl
+address-kept (place p k := v ∷ ss) c = address-kept ss _
+
+change-below : (address : ℕ) (ss : List Setting) → Narrow address → Narrow (changeOf address ss .address)
+change-below address ss l = subst Narrow (sym (address-kept ss _)) l
+
+-- an item that is there only by a choice
+either-below : (b : Bool) (i j : Item) → ItemBelow i → ItemBelow j → ItemBelow (if b then i else j)
+either-below b i j h l = by-if (λ x. ItemBelow x) b (λ e. h) (λ e. l)
+
+configured-below : (s : Settings) → AllBelow (configureItems s)
+configured-below s =
+    omega arith & tt & tt & omega arith & either-below (s .oscillator .pll) (Item.Poll Poll.Pll 2) Item.Nothing tt tt & omega arith
+    & omega arith & omega arith & omega arith & omega arith & omega arith
+    & either-below (s .counter) (Item.Change counterChange) Item.Nothing (omega arith) tt
+    & either-below (eqb (s .dncnt) 0) Item.Nothing (Item.Change (dncntChange (s .dncnt))) tt (omega arith)
+    & omega arith & change-below (CiINT .address 0) (interruptSettings s) (omega arith) & tt
+
+-- ---- words that may be read and written, and payloads that may be read
+
+abbrev MayRead : (Ask → Type 0) → Type 0
+MayRead P = (a : ℕ) → Narrow a → P (Ask.Read a 4)
+
+abbrev MayWrite : (Ask → Type 0) → Type 0
+MayWrite P = (a w : ℕ) → Narrow a → P (Ask.Word a w)
+
+abbrev MayGet : (Ask → Type 0) → Type 0
+MayGet P = (a count : ℕ) → Narrow a → count ≤ 64 → P (Ask.Read a count)
+
+-- ---- registers and RAM
+
+module _ (P : Ask → Type 0) where
+  at-address : (address : ℕ) (t : Talk Outcome) → (Narrow address → Always P t) → Always P (atAddress address t)
+  at-address address t h = choice P (ltb address (2 ^ 12)) t (refused Refusal.BadSetting) (λ e. h (ltb-true address (2 ^ 12) e)) (λ e. tt)
+
+  tries : (address left : ℕ) → P (Ask.Checked address) → Always P (checkedTalk address left)
+  unfolding checkedTalk
+  tries address zero l = checks P Refusal.SpiRead address _ _ l tt (λ w. tt)
+  tries address (suc left) l = checks P Refusal.SpiRead address _ _ l (tries address left l) (λ w. tt)
+
+  accessed : (address count : ℕ) (r : Refusal) (t : Talk Outcome) → (Narrow address → Always P t) → Always P (onDone refused (accessOf address count r) t)
+  unfolding accessOf
+  accessed address count r t h =
+      by-if (λ d. Always P (onDone refused d t)) (inRange address count)
+      (λ e. by-if (λ d. Always P (onDone refused d t)) (eqb (count % 4) 0) (λ f. h (ram-below address count e)) (λ f. tt))
+      (λ e. tt)
+
+  told-always : (t : Talk fetch-talks.Fetched) → Always P t → Always P (told t)
+  told-always t h = then-always P t _ h (λ x. tt)
+
+-- ---- a word that is read and written: request, the end of a get
+
+module _ (P : Ask → Type 0) (may-read : MayRead P) (may-write : MayWrite P) where
+  word-written : {A : Type 0} (failed : Refusal) (address word : ℕ) (k : Talk A) → Narrow address → Always P k → Always P (writeWord failed address word k)
+  word-written failed address word k l h = puts P failed (Ask.Word address word) k (may-write address word l) h
+
+  -- a word is read, and one is written to the same place
+  changed : {A : Type 0} (failed : Refusal) (address : ℕ) (word : ℕ → ℕ) (k : Talk A) → Narrow address → Always P k
+      → Always P (readWord failed address (λ w. writeWord failed address (word w) k))
+  changed failed address word k l h = reads P failed address _ (may-read address l) (λ w. word-written failed address (word w) k l h)
+
+  request-always : (n : ℕ) → Always P (requestCall n)
+  unfolding requestCall
+  request-always n =
+      choice P (isFifo n) _ _ (λ f. changed Refusal.SpiRead (CiFIFOCON .address n) _ _ (control-below n f) tt) (λ f. tt)
+
+  next-always : (n : ℕ) → isFifo n ≡ true → (m : Message) → Always P (fetch-talks.nextTalk n m)
+  next-always n f m = changed Refusal.SpiRead (CiFIFOCON .address n) _ (done (fetch-talks.message m)) (control-below n f) tt
+
+-- ---- plans
+
+module _ (P : Ask → Type 0) (may-read : MayRead P) (may-write : MayWrite P) (may-wait : P Ask.Wait) where
+  module _ (failed : Refusal) (k : Talk Outcome) (h : Always P k) where
+    poll-always : (p : Poll) (left : ℕ) → Always P (pollTalk failed p left k)
+    unfolding pollTalk
+    poll-always p zero = reads P failed (addressOf p) _ (may-read _ (polled-below p)) (λ w. choice P (shown p w) k (refused (lateOf p)) (λ e. h) (λ e. tt))
+    poll-always p (suc left) =
+        reads P failed (addressOf p) _ (may-read _ (polled-below p))
+        (λ w. choice P (shown p w) k (pause (pollTalk failed p left k)) (λ e. h)
+        (λ e. waits P _ may-wait (poll-always p left)))
+
+    rest-always : (left : ℕ) → Always P (echoRest failed left k)
+    unfolding echoRest
+    rest-always zero = h
+    rest-always (suc left) =
+        word-written P may-read may-write failed 0x400 (echoWord left) _ (omega arith)
+        (reads P failed 0x400 _ (may-read 0x400 (omega arith))
+        (λ w. choice P (eqb w (echoWord left)) (echoRest failed left k) (refused Refusal.SpiFailedRamEcho) (λ e. rest-always left) (λ e. tt)))
+
+    item-always : (item : Item) → ItemBelow item → Always P (itemTalk failed item k)
+    unfolding echoRest
+    item-always (Item.Change c) l = changed P may-read may-write failed (c .address) _ k l h
+    item-always (Item.Poll p more) l = poll-always p more
+    item-always Item.Echo l = rest-always 32
+    item-always Item.Nothing l = h
+
+  items-always : (failed : Refusal) (items : List Item) → AllBelow items → Always P (planTalk failed items)
+  unfolding planTalk
+  items-always failed [] h = tt
+  items-always failed (item ∷ items) h = item-always failed (planTalk failed items) (items-always failed items (h .1)) item (h .0)
+
+  -- a test in front of a plan
+  tested : (b : Bool) (p : Prepared) (r : Refusal) → (b ≡ true → Always P (talkFor p)) → Always P (talkFor (if b then p else turnedDown r))
+  tested b p r h = by-if (λ q. Always P (talkFor q)) b h (λ e. tt)
+
+  filter-always : (f : ℕ) (c : FilterConfiguration) → Always P (talkFor (configureFilter f c))
+  unfolding configureFilter filterCheck
+  filter-always f c =
+      by-if (λ d. Always P (talkFor (onDone turnedDown d p))) (not (isFilter f && isFifo (c .fifo))) (λ e. tt)
+      (λ e.
+      let l : f < 32 = ltb-true f 32 (both (isFilter f) (isFifo (c .fifo)) (not-false _ e) .0) in
+      by-if (λ d. Always P (talkFor (onDone turnedDown d p))) (not (isIdentifier (c .object) && isIdentifier (c .mask))) (λ j. tt)
+      (λ j. items-always Refusal.SpiRead (filterItems f c) (omega arith & omega arith & omega arith & omega arith & tt)))
+    where
+      p : Prepared
+      p = ready Refusal.SpiRead (filterItems f c)
+
+  plan-always : (x : Plans) → Always P (talkFor (prepared x))
+  unfolding modify setOpMode configureBitTiming configureFifo disableFilter configureAll
+  plan-always (Modify address clear set) =
+      tested (ltb address (2 ^ 12)) (ready _ _) _ (λ e. items-always Refusal.SpiRead _ (ltb-true address (2 ^ 12) e, tt))
+  plan-always Verify = items-always _ _ (tt, tt)
+  plan-always (SetOpMode mode) = tested (fits REQOP mode) (ready _ _) _ (λ e. items-always _ _ (omega arith & tt & tt))
+  plan-always (Osc o) = items-always _ _ (omega arith & either-below (o .pll) (Item.Poll Poll.Pll 2) Item.Nothing tt tt & tt)
+  plan-always (Io c) = items-always _ _ (omega arith, tt)
+  plan-always (BitTiming b) = tested (timingFits b) (ready _ _) _ (λ e. items-always _ _ (omega arith & omega arith & omega arith & tt))
+  plan-always (Fifo n c) =
+      by-if (λ q. Always P (talkFor q)) (not (isFifo n)) (λ e. tt)
+      (λ e. by-if (λ q. Always P (talkFor q)) (not (fifoFits c)) (λ d. tt)
+      (λ d. items-always _ _ (change-below (CiFIFOCON .address n) (fifoSettings c) (control-below n (not-false _ e)), tt)))
+  plan-always (Filter f c) = filter-always f c
+  plan-always (FilterOff f) = tested (isFilter f) (ready _ _) _ (λ e. let l : f < 32 = ltb-true f 32 e in items-always _ _ (omega arith, tt))
+  plan-always (Configure s) =
+      tested (timingFits (s .bittime)) (if fits DNCNT (s .dncnt) then ready _ _ else turnedDown _) _
+      (λ e. tested (fits DNCNT (s .dncnt)) (ready _ _) _ (λ d. items-always _ _ (configured-below s)))
+
+-- ---- push: an object of at most 72 bytes
+
+module _ (P : Ask → Type 0) (may-read : MayRead P) (may-write : MayWrite P)
+    (may-send : (a len : ℕ) → Narrow a → len ≤ 72 → P (Ask.Body a len)) where
+  module _ (n : ℕ) (f : isFifo n ≡ true) where
+    to-write : (len w : ℕ) → len ≤ 72 → Always P (push-talks.addressTalk n len w)
+    to-write len w l =
+        reads P Refusal.SpiRead (CiFIFOUA .address n) _ (may-read _ (user-below n f))
+        (λ u. choice P (ltb 0xFBFF u) _ _ (λ e. tt)
+        (λ e. choice P (not (inRange (u + 0x400) len)) _ _ (λ i. tt)
+        (λ i. puts P Refusal.SpiWrite (Ask.Body (u + 0x400) len) _ (may-send (u + 0x400) len (ram-below (u + 0x400) len (not-false _ i)) l)
+        (word-written P may-read may-write Refusal.SpiRead (CiFIFOCON .address n) _ _ (control-below n f) tt))))
+
+    push-always : (size len : ℕ) → len ≤ 72 → Always P (push-talks.pushTalk n size len)
+    push-always size len l =
+        reads P Refusal.SpiRead (CiFIFOCON .address n) _ (may-read _ (control-below n f))
+        (λ w. choice P (not (flag TXEN w)) _ _ (λ e. tt)
+        (λ e. choice P (ltb (payloadOf w) size) _ _ (λ i. tt)
+        (λ i. reads P Refusal.SpiRead (CiFIFOSTA .address n) _ (may-read _ (status-below n f)) (λ v. choice P (not (flag TFNRFNIF v)) _ _ (λ j. tt) (λ j. to-write len w l)))))
+
+    encoded-always : (size : ℕ) (e : Encoding) → ((bs : List ℕ) → e ≡ Encoding.object bs → length bs ≤ 72) → Always P (push-talks.withEncoding n size e)
+    encoded-always size (Encoding.refused r) l = tt
+    encoded-always size (Encoding.object bs) l = push-always size (length bs) (l bs refl)
+
+  pushed-always : (n : ℕ) (header : Header) (seq : ℕ) (payload : List ℕ) → Always P (push-talks.pushCall n header seq payload)
+  unfolding push-talks.pushCall
+  pushed-always n header seq payload =
+      choice P (not (isFifo n)) _ _ (λ f. tt)
+      (λ f. encoded-always n (not-false _ f) (length payload) (encoding (toSend header seq payload)) (λ bs e. omega (arith, object-le (toSend header seq payload) bs e)))
+
+-- ---- has-next, peek and get
+
+module _ (P : Ask → Type 0) (may-read : MayRead P) where
+  module _ (n : ℕ) (f : isFifo n ≡ true) where
+    control-always : (want : Want) → ((b : Bool) → Always P (fetch-talks.heldTalk want n b)) → Always P (fetch-talks.controlTalk want n)
+    control-always want h =
+        reads P Refusal.SpiRead (CiFIFOCON .address n) _ (may-read _ (control-below n f))
+        (λ w. choice P (flag TXEN w) _ _ (λ e. tt)
+        (λ e. reads P Refusal.SpiRead (CiFIFOSTA .address n) _ (may-read _ (status-below n f)) (λ v. h (flag TFNRFNIF v))))
+
+    -- a payload of at most 64 bytes
+    module _ (may-get : MayGet P) (want : Want) (last : (m : Message) → Always P (fetch-talks.lastTalk want n m)) where
+      body-always : (x : ℕ) (d : Found) → d .len ≤ 64 → Always P (fetch-talks.toBodyTalk want n x d)
+      body-always x d l =
+          choice P (inRange x (roundUp (d .len))) _ _
+          (λ e. gets P Refusal.SpiRead x (roundUp (d .len)) _ (may-get x (roundUp (d .len)) (ram-below x (roundUp (d .len)) e) (omega arith)) (λ rx. last (messageOf d rx)))
+          (λ e. tt)
+
+      again-always : (o : ℕ) (d : Found) → d .len ≤ 64 → Always P (fetch-talks.againTalk want n o d)
+      again-always o d l =
+          reads P Refusal.SpiRead (CiFIFOCON .address n) _ (may-read _ (control-below n f))
+          (λ w. choice P (flag RXTSEN w) _ _
+          (λ e. choice P (inRange (o + 8) 4) _ _
+          (λ i. reads P Refusal.SpiRead (o + 8) _ (may-read _ (ram-below (o + 8) 4 i)) (λ t. body-always (o + 8 + 4) (stamped d t) l)) (λ i. tt))
+          (λ e. body-always (o + 8) d l))
+
+      found-always : (o : ℕ) (h : Header) (x : Length) → ((k : ℕ) → x ≡ Length.Is k → k ≤ 64) → Always P (fetch-talks.foundTalk want n o h x)
+      found-always o h (Length.Is k) l = again-always o (record { header = h; stamp = Stamp.None; len = k }) (l k refl)
+      found-always o h Length.Bad l = tt
+
+      header-always : (o : ℕ) → Narrow o → Always P (fetch-talks.headerTalk want n o)
+      header-always o l =
+          pairs P Refusal.SpiRead o _ (may-get o 8 l (omega arith))
+          (λ c d. found-always o (headerOf c d) (lengthOf (flag FDF d) (read DLC d)) (λ k e. length-le (flag FDF d) k (read DLC d) e))
+
+      address-always : Always P (fetch-talks.addressTalk want n)
+      address-always =
+          reads P Refusal.SpiRead (CiFIFOUA .address n) _ (may-read _ (user-below n f))
+          (λ u. choice P (ltb 0xFBFF u) _ _ (λ e. tt)
+          (λ e. choice P (inRange (u + 0x400) 8) _ _ (λ i. header-always (u + 0x400) (ram-below (u + 0x400) 8 i)) (λ i. tt)))
+
+      -- or there is none
+      or-none : (b : Bool) → Always P (if b then fetch-talks.addressTalk want n else done fetch-talks.empty)
+      or-none b = choice P b _ _ (λ e. address-always) (λ e. tt)
+
+-- a peek or a get, with what comes after its payload
+lent-always : (P : Ask → Type 0) → MayGet P → (want : Want) (n room : ℕ)
+    → ((b : Bool) → fetch-talks.heldTalk want n b ≡ (if b then fetch-talks.addressTalk want n else done fetch-talks.empty))
+    → (isFifo n ≡ true → (m : Message) → Always P (fetch-talks.lastTalk want n m)) → Always P (told (fetch-talks.lentTalk want n room))
+unfolding fetch-talks.lentTalk
+lent-always P may-get want n room e last =
+    let may-read : MayRead P = λ a l. may-get a 4 l (omega arith) in
+    told-always P _
+    (choice P (isFifo n) _ _
+    (λ f. choice P (ltb room 64) _ _ (λ d. tt) (λ d. control-always P may-read n f want (λ b. rw e (or-none P may-read n f may-get want (last f) b))))
+    (λ f. tt))
+
+-- ---- addresses and sizes
+
+abbrev Small : ℕ × ℕ → Ask → Type 0
+Small m q = Below q × Fits m q
+
+module _ (m : ℕ × ℕ) where
+  small : (q : Ask) → Below q → wanted q ≤ m .0 → length (headOf q) + bodyOf q ≤ m .1 → Small m q
+  unfolding sent
+  small q l h k = (l, (h, λ body. simp (length-append, length-take) (omega arith)))
+
+  read-small : (count : ℕ) → count ≤ m .0 → 2 ≤ m .1 → (a : ℕ) → Narrow a → Small m (Ask.Read a count)
+  unfolding commandOf beBytes
+  read-small count h k a l = small (Ask.Read a count) l h (omega arith)
+
+  word-small : 6 ≤ m .1 → (a w : ℕ) → Narrow a → Small m (Ask.Word a w)
+  unfolding commandOf beBytes leBytes
+  word-small k a w l = small (Ask.Word a w) l (omega arith) (omega arith)
+
+  checked-small : 6 ≤ m .0 → 3 ≤ m .1 → (a : ℕ) → Narrow a → Small m (Ask.Checked a)
+  unfolding commandOf beBytes
+  checked-small h k a l = small (Ask.Checked a) l h (omega arith)
+
+  reset-small : 2 ≤ m .1 → Small m Ask.Reset
+  unfolding commandOf beBytes
+  reset-small k = small Ask.Reset tt (omega arith) (omega arith)
+
+  body-small : (count : ℕ) → 2 + count ≤ m .1 → (a : ℕ) → Narrow a → Small m (Ask.Body a count)
+  unfolding commandOf beBytes
+  body-small count k a l = small (Ask.Body a count) l (omega arith) (omega arith)
+
+-- ---- any call that was started
+
+requested : (m : ℕ × ℕ) → 4 ≤ m .0 → 6 ≤ m .1 → (n : ℕ) → Always (Small m) (requestCall n)
+requested m h k = request-always (Small m) (read-small m 4 h (omega arith)) (word-small m k)
+
+pushed : (n : ℕ) (header : Header) (seq : ℕ) (payload : List ℕ) → Always (Small (4, 74)) (push-talks.pushCall n header seq payload)
+pushed =
+    pushed-always (Small (4, 74)) (read-small (4, 74) 4 (omega arith) (omega arith)) (word-small (4, 74) (omega arith))
+    (λ a len l h. body-small (4, 74) len (omega arith) a l)
+
+whole-always : (x : Start) → Always (Small (most x)) (wholeTalk x)
+unfolding readCall checkedCall writeCall readRamTalk writeRamTalk verifyLongTalk transmitCall fetch-talks.hasNextTalk
+whole-always Reset = puts (Small (0, 2)) Refusal.SpiWrite Ask.Reset (done Outcome.Done) (reset-small (0, 2) (omega arith)) tt
+whole-always OpMode = reads (Small (4, 2)) Refusal.SpiRead 0 _ (read-small (4, 2) 4 (omega arith) (omega arith) 0 (omega arith)) (λ w. tt)
+whole-always VerifyLong =
+    let m : ℕ × ℕ = (128, 130) in
+    puts (Small m) Refusal.ConfigurationModeTimeout (Ask.Body 0x400 128) _ (body-small m 128 (omega arith) 0x400 (omega arith))
+    (gets (Small m) Refusal.ConfigurationModeTimeout 0x400 128 _ (read-small m 128 (omega arith) (omega arith) 0x400 (omega arith))
+    (λ rx. choice (Small m) (same rx echoBytes) _ _ (λ e. tt) (λ e. tt)))
+whole-always (Read address) =
+    at-address (Small (4, 2)) address _
+    (λ l. reads (Small (4, 2)) Refusal.SpiRead address _ (read-small (4, 2) 4 (omega arith) (omega arith) address l) (λ w. tt))
+whole-always (Checked address) =
+    at-address (Small (6, 3)) address _ (λ l. tries (Small (6, 3)) address 2 (checked-small (6, 3) (omega arith) (omega arith) address l))
+whole-always (Write address word) =
+    at-address (Small (0, 6)) address _
+    (λ l. puts (Small (0, 6)) Refusal.SpiRead (Ask.Word address word) (done Outcome.Done) (word-small (0, 6) (omega arith) address word l) tt)
+whole-always (ReadRam address room part count) =
+    let m : ℕ × ℕ = (count, 2) in
+    choice (Small m) (inside part count room) _ _
+    (λ e. accessed (Small m) address count _ _
+    (λ l. gets (Small m) Refusal.SpiRead address count (λ rx. done Outcome.Done) (read-small m count (omega arith) (omega arith) address l) (λ rx. tt)))
+    (λ e. tt)
+whole-always (WriteRam address count) =
+    let m : ℕ × ℕ = (0, 2 + count) in
+    accessed (Small m) address count _ _
+    (λ l. puts (Small m) Refusal.SpiWrite (Ask.Body address count) (done Outcome.Done) (body-small m count (omega arith) address l) tt)
+whole-always (Planned x) =
+    plan-always (Small (4, 6)) (read-small (4, 6) 4 (omega arith) (omega arith)) (word-small (4, 6) (omega arith)) (small (4, 6) Ask.Wait tt (omega arith) (omega arith)) x
+whole-always (Push n header seq payload) = pushed n header seq payload
+whole-always (Transmit n header seq payload) =
+    then-always (Small (4, 74)) _ _ (pushed n header seq payload) (λ x. requested (4, 74) (omega arith) (omega arith) n)
+whole-always (Request n) = requested (4, 6) (omega arith) (omega arith) n
+whole-always (HasNext n) =
+    let m : ℕ × ℕ = (4, 2) in
+    told-always (Small m) _
+    (choice (Small m) (isFifo n) _ _ (λ f. control-always (Small m) (read-small m 4 (omega arith) (omega arith)) n f Want.HasNext (λ b. tt)) (λ f. tt))
+whole-always (Peek n room) =
+    lent-always (Small (64, 2)) (λ a count l h. read-small (64, 2) count h (omega arith) a l) Want.Peek n room (λ b. refl) (λ f m. tt)
+whole-always (Get n room) =
+    lent-always (Small (64, 6)) (λ a count l h. read-small (64, 6) count h (omega arith) a l) Want.Get n room (λ b. refl)
+    (λ f. next-always (Small (64, 6)) (read-small (64, 6) 4 (omega arith) (omega arith)) (word-small (64, 6) (omega arith)) n f)
+
+started-small : (x : Start) (xs : List (Answer × List ℕ)) → Small (most x) (askOf (run stepOf (started x) xs))
+started-small x xs =
+    subst (λ q. Small (most x) q)
+    (sym (follows .asked (run stepOf (started x) xs) ∙ ap asks (run-talk (started x) xs ∙ ap (λ t. run answered t xs) (starts-as-talk x))))
+    (after (Small (most x)) (small (most x) Ask.Nothing tt (omega arith) (omega arith)) (wholeTalk x) xs (whole-always x))
+
+pub addresses-below : AddressesBelow
+addresses-below x xs = started-small x xs .0
+
+pub exchanges-fit : ExchangesFit
+exchanges-fit x xs = started-small x xs .1
+
+most-le : (x : Start) → isRam x ≡ false → (most x .0 ≤ 128) × (most x .1 ≤ 130)
+most-le Reset e = (omega arith, omega arith)
+most-le OpMode e = (omega arith, omega arith)
+most-le VerifyLong e = (omega arith, omega arith)
+most-le (Read address) e = (omega arith, omega arith)
+most-le (Checked address) e = (omega arith, omega arith)
+most-le (Write address word) e = (omega arith, omega arith)
+most-le (ReadRam address room part count) e = absurd (true≢false e)
+most-le (WriteRam address count) e = absurd (true≢false e)
+most-le (Planned x) e = (omega arith, omega arith)
+most-le (Push n header seq payload) e = (omega arith, omega arith)
+most-le (Transmit n header seq payload) e = (omega arith, omega arith)
+most-le (Request n) e = (omega arith, omega arith)
+most-le (HasNext n) e = (omega arith, omega arith)
+most-le (Peek n room) e = (omega arith, omega arith)
+most-le (Get n room) e = (omega arith, omega arith)
+
+pub room-enough : RoomEnough
+room-enough x xs e =
+    let (h, k) = most-le x e in
+    let (l, b) = exchanges-fit x xs in
+    (omega arith, λ body. omega (arith, b body))
