@@ -2,59 +2,83 @@
 -- Assumes nothing.
 use Prim.Native.Nat.{ℕ}
 use mathlib.Core.List.{List}
+use Rattle.register.specs.declared.RegisterStage.{RegisterStage}
 use Rattle.register.specs.declared.RegisterNumbers.{RegisterNumbers}
 use Rattle.register.specs.Numbers.{registerOf}
+use Rattle.ram.specs.declared.RamStage.{RamStage}
 use Rattle.ram.specs.declared.RamNumbers.{RamNumbers}
 use Rattle.ram.specs.Numbers.{ramOf}
 use Rattle.configure.specs.declared.planned.PlanNumbers.{PlanNumbers}
-use Rattle.configure.specs.Numbers.{planIn}
+use Rattle.configure.specs.declared.planned.PlanKind.{PlanKind}
+use Rattle.configure.specs.declared.planned.PlanStage.{PlanStage}
+use Rattle.configure.specs.Numbers as plan
+use Rattle.tx_fifo.specs.declared.push.PushStage.{PushStage}
 use Rattle.tx_fifo.specs.declared.push.PushNumbers.{PushNumbers}
 use Rattle.tx_fifo.specs.Numbers.{pushOf}
 use Rattle.transmit.specs.declared.transmit.TransmitNumbers.{TransmitNumbers}
-use Rattle.transmit.specs.Numbers.{transmitIn}
+use Rattle.transmit.specs.declared.transmit.RequestStage.{RequestStage}
+use Rattle.transmit.specs.Numbers as transmit
+use Rattle.fetch.specs.declared.Want.{Want}
+use Rattle.fetch.specs.declared.FetchStage.{FetchStage}
 use Rattle.fetch.specs.declared.FetchNumbers.{FetchNumbers}
 use Rattle.rx_fifo.specs.Numbers.{fetchOf}
-use Rattle.driver.specs.declared.Family.{Family}
+use Rattle.driver.specs.declared.At.{At}
 use Rattle.driver.specs.declared.Numbers.{Numbers}
 use Rattle.driver.specs.declared.Call as code
 use Rattle.driver.specs.Call.{Call}
 use Rattle.driver.specs.Start.{ofRegister, ofRam, ofPlan, ofPush, ofTransmit, ofFetch}
 
--- ---- the numbers of each family among those that they share
+-- ---- the numbers of each family among those that they share, and those with the family's own in them
 
-abbrev pub registerPart : Numbers → RegisterNumbers
-registerPart c = record { stage = c .register; m = c .m; w = c .w; more = c .more; why = c .why }
+abbrev pub registerPart : Numbers → RegisterStage → RegisterNumbers
+registerPart c stage = record { stage = stage; m = c .m; w = c .w; more = c .more; why = c .why }
 
-abbrev pub ramPart : Numbers → RamNumbers
-ramPart c = record { stage = c .ram; m = c .m; place = c .size; count = c .len; why = c .why }
+abbrev pub registerIn : Numbers → RegisterNumbers → Numbers
+registerIn c p = record { at = At.Register (p .stage); stamped = c .stamped; fifo = c .fifo; more = p .more; next = c .next; m = p .m; w = p .w; a = c .a; b = c .b; t = c .t; size = c .size; len = c .len; why = p .why }
 
-abbrev pub planPart : Numbers → PlanNumbers
-planPart c =
-    record { kind = c .kind; stage = c .plan; n = c .fifo; more = c .more; next = c .next; m = c .m; w = c .w; a = c .a; b = c .b; why = c .why }
+abbrev pub ramPart : Numbers → RamStage → RamNumbers
+ramPart c stage = record { stage = stage; m = c .m; place = c .size; count = c .len; why = c .why }
 
-abbrev pub pushPart : Numbers → PushNumbers
-pushPart c = record { stage = c .push; fifo = c .fifo; size = c .size; len = c .len; w = c .w; m = c .m; why = c .why }
+abbrev pub ramIn : Numbers → RamNumbers → Numbers
+ramIn c p = record { at = At.Ram (p .stage); stamped = c .stamped; fifo = c .fifo; more = c .more; next = c .next; m = p .m; w = c .w; a = c .a; b = c .b; t = c .t; size = p .place; len = p .count; why = p .why }
 
-abbrev pub transmitPart : Numbers → TransmitNumbers
-transmitPart c = record { push = pushPart c; request = c .request }
+abbrev pub planPart : Numbers → PlanKind → PlanStage → PlanNumbers
+planPart c kind stage = record { kind = kind; stage = stage; n = c .fifo; more = c .more; next = c .next; m = c .m; w = c .w; a = c .a; b = c .b; why = c .why }
 
-abbrev pub fetchPart : Numbers → FetchNumbers
-fetchPart c =
-    record { stage = c .fetch; want = c .want; fifo = c .fifo; stamped = c .stamped; len = c .more; m = c .m; w = c .w; a = c .a; b = c .b; t = c .t; why = c .why }
+abbrev pub planIn : Numbers → PlanNumbers → Numbers
+planIn c p = record { at = At.Plan (p .kind) (p .stage); stamped = c .stamped; fifo = p .n; more = p .more; next = p .next; m = p .m; w = p .w; a = p .a; b = p .b; t = c .t; size = c .size; len = c .len; why = p .why }
+
+abbrev pub pushPart : Numbers → PushStage → PushNumbers
+pushPart c stage = record { stage = stage; fifo = c .fifo; size = c .size; len = c .len; w = c .w; m = c .m; why = c .why }
+
+abbrev pub pushIn : Numbers → PushNumbers → Numbers
+pushIn c p = record { at = At.Push (p .stage); stamped = c .stamped; fifo = p .fifo; more = c .more; next = c .next; m = p .m; w = p .w; a = c .a; b = c .b; t = c .t; size = p .size; len = p .len; why = p .why }
+
+abbrev pub transmitPart : Numbers → PushStage → RequestStage → TransmitNumbers
+transmitPart c stage request = record { push = pushPart c stage; request = request }
+
+abbrev pub transmitIn : Numbers → TransmitNumbers → Numbers
+transmitIn c p = record { at = At.Transmit (p .push .stage) (p .request); stamped = c .stamped; fifo = p .push .fifo; more = c .more; next = c .next; m = p .push .m; w = p .push .w; a = c .a; b = c .b; t = c .t; size = p .push .size; len = p .push .len; why = p .push .why }
+
+abbrev pub fetchPart : Numbers → Want → FetchStage → FetchNumbers
+fetchPart c want stage = record { want = want; stage = stage; fifo = c .fifo; stamped = c .stamped; len = c .more; m = c .m; w = c .w; a = c .a; b = c .b; t = c .t; why = c .why }
+
+abbrev pub fetchIn : Numbers → FetchNumbers → Numbers
+fetchIn c p = record { at = At.Fetch (p .want) (p .stage); stamped = p .stamped; fifo = p .fifo; more = p .len; next = c .next; m = p .m; w = p .w; a = p .a; b = p .b; t = p .t; size = c .size; len = c .len; why = p .why }
 
 -- ---- the call
 
-abbrev pub modelAt : Family → Numbers → List ℕ → Call
-modelAt Family.Register c body = ofRegister (registerOf (registerPart c))
-modelAt Family.Ram c body = ofRam (ramOf (ramPart c))
-modelAt Family.Plan c body = ofPlan (planIn (planPart c) body)
-modelAt Family.Push c body = ofPush (pushOf (pushPart c) body)
-modelAt Family.Transmit c body = ofTransmit (transmitIn (transmitPart c) body)
-modelAt Family.Fetch c body = ofFetch (fetchOf (fetchPart c) body)
+abbrev pub modelAt : At → Numbers → List ℕ → Call
+modelAt (At.Register stage) c body = ofRegister (registerOf (registerPart c stage))
+modelAt (At.Ram stage) c body = ofRam (ramOf (ramPart c stage))
+modelAt (At.Plan kind stage) c body = ofPlan (plan.planIn (planPart c kind stage) body)
+modelAt (At.Push stage) c body = ofPush (pushOf (pushPart c stage) body)
+modelAt (At.Transmit stage request) c body = ofTransmit (transmit.transmitIn (transmitPart c stage request) body)
+modelAt (At.Fetch want stage) c body = ofFetch (fetchOf (fetchPart c want stage) body)
 
 -- numbers with the body that is lent to them
 unfoldable pub modelOf : Numbers → List ℕ → Call
-modelOf c body = modelAt (c .family) c body
+modelOf c body = modelAt (c .at) c body
 
 -- a call by value
 unfoldable pub callOf : code.Call → Call

@@ -10,7 +10,6 @@ ghost use Rattle.rx_fifo.specs.Numbers.{fetchOf};
 ghost use Rattle.driver.specs.Start.{ofRegister, ofRam, ofPlan, ofFetch};
 ghost use Rattle.driver.specs.Numbers.{callOf};
 use crate::Call;
-use crate::Family;
 use crate::parts_of::idle;
 use crate::parts_of::with_fetch;
 use crate::parts_of::with_plan;
@@ -40,7 +39,7 @@ fn of_register(p: RegisterNumbers) -> Call
     ensures { λ r. ⌜ callOf r ≡ ofRegister (registerOf p) ⌝ }
 {
     Call {
-        numbers: with_register(idle(Family::Register), p),
+        numbers: with_register(idle(), p),
         body: [0u8; 76],
     }
 }
@@ -49,7 +48,7 @@ fn of_ram(p: RamNumbers) -> Call
     ensures { λ r. ⌜ callOf r ≡ ofRam (ramOf p) ⌝ }
 {
     Call {
-        numbers: with_ram(idle(Family::Ram), p),
+        numbers: with_ram(idle(), p),
         body: [0u8; 76],
     }
 }
@@ -58,7 +57,7 @@ fn of_plan(p: PlanNumbers, body: [u8; 76]) -> Call
     ensures { λ r. ⌜ callOf r ≡ ofPlan (planIn p body) ⌝ }
 {
     Call {
-        numbers: with_plan(idle(Family::Plan), p),
+        numbers: with_plan(idle(), p),
         body: body,
     }
 }
@@ -67,7 +66,7 @@ fn of_fetch(p: FetchNumbers, body: [u8; 76]) -> Call
     ensures { λ r. ⌜ callOf r ≡ ofFetch (fetchOf p body) ⌝ }
 {
     Call {
-        numbers: with_fetch(idle(Family::Fetch), p),
+        numbers: with_fetch(idle(), p),
         body: body,
     }
 }
@@ -224,7 +223,7 @@ pub fn push(fifo: u32, header: Header, seq: u32, payload: &[u8]) -> Call
     let mut body = [0u8; 76];
     let p = tx_fifo::push_start(fifo_number(fifo), header, seq, payload, &mut body);
     Call {
-        numbers: with_push(idle(Family::Push), p),
+        numbers: with_push(idle(), p),
         body: body,
     }
 }
@@ -236,7 +235,7 @@ pub fn transmit(fifo: u32, header: Header, seq: u32, payload: &[u8]) -> Call
     let mut body = [0u8; 76];
     let p = transmit::transmit_start(fifo_number(fifo), header, seq, payload, &mut body);
     Call {
-        numbers: with_transmit(idle(Family::Transmit), p),
+        numbers: with_transmit(idle(), p),
         body: body,
     }
 }

@@ -10,7 +10,7 @@ ghost use Rattle.plan.specs.Talk.{planLeft};
 ghost use mathlib.Core.List.{[]};
 ghost use Rattle.driver.specs.Demand1.{registerLeft, ramLeft, pushLeft, fetchLeft, left};
 ghost use Rattle.driver.specs.Numbers.{modelOf};
-use crate::Family;
+use crate::At;
 use crate::Numbers;
 use crate::parts_of::fetch_part;
 use crate::parts_of::plan_part;
@@ -122,13 +122,13 @@ fn fetch_turns(c: FetchNumbers) -> u32
 pub fn turns_lent(c: Numbers, body: &[u8; 76]) -> u32
     ensures { λ r. ⌜ r ≡ left (modelOf c (now (body .entry))) ⌝ }
 {
-    let family = c.family;
-    match family {
-        Family::Register => register_turns(register_part(c)),
-        Family::Ram => ram_turns(ram_part(c)),
-        Family::Plan => configure::plan_turns(plan_part(c), body),
-        Family::Push => push_turns(push_part(c), 0),
-        Family::Transmit => transmit_turns(transmit_part(c)),
-        Family::Fetch => fetch_turns(fetch_part(c)),
+    let at = c.at;
+    match at {
+        At::Register(stage) => register_turns(register_part(c, stage)),
+        At::Ram(stage) => ram_turns(ram_part(c, stage)),
+        At::Plan(kind, stage) => configure::plan_turns(plan_part(c, kind, stage), body),
+        At::Push(stage) => push_turns(push_part(c, stage), 0),
+        At::Transmit(stage, request) => transmit_turns(transmit_part(c, stage, request)),
+        At::Fetch(want, stage) => fetch_turns(fetch_part(c, want, stage)),
     }
 }

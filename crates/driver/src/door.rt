@@ -8,7 +8,7 @@ ghost use Rattle.driver.specs.Finish.{finishedAs, acceptedBy};
 ghost use Rattle.driver.specs.Demand1.{left};
 ghost use Rattle.driver.specs.Numbers.{callOf};
 use crate::Call;
-use crate::Family;
+use crate::At;
 use crate::Numbers;
 use crate::lent;
 use crate::parts_of;
@@ -22,21 +22,17 @@ pub fn next(call: Call, lent: &[u8], tx: &mut [u8]) -> Next
     ensures { λ r. ⌜ (r ≡ nextOf (askOf (callOf call)) (bodyOf (callOf call) (now (lent .entry))) (now (tx .entry))) × (now (tx .exit) ≡ putInto (askOf (callOf call)) (bodyOf (callOf call) (now (lent .entry))) (now (tx .entry))) ⌝ }
 {
     let c = call.numbers;
-    let body = call.body;
-    lent::next_lent(c, &body, lent, tx)
+    lent::next_lent(c, &call.body, lent, tx)
 }
 
 // Where an answer takes the call. `rx` is what the exchange received: as many bytes as `next` wanted.
-pub fn answer(call: Call, answer: Answer, rx: &[u8]) -> Call
+pub fn answer(mut call: Call, answer: Answer, rx: &[u8]) -> Call
     ensures { λ r. ⌜ callOf r ≡ stepOf (callOf call) answer (now (rx .entry)) ⌝ }
 {
     let c = call.numbers;
-    let mut body = call.body;
-    let next = lent::answer_lent(c, answer, rx, &mut body);
-    Call {
-        numbers: next,
-        body: body,
-    }
+    let next = lent::answer_lent(c, answer, rx, &mut call.body);
+    call.numbers = next;
+    call
 }
 
 // How the call ended, the lent buffer filled. `rx` is what the last exchange received. 28 where the buffer is too small, 26 where a RAM
@@ -45,8 +41,7 @@ pub fn finish(call: Call, rx: &[u8], buf: &mut [u8]) -> Outcome
     ensures { λ r. ⌜ (r ≡ finishedAs (callOf call) (length (now (rx .entry))) (length (now (buf .entry)))) × (now (buf .exit) ≡ filledBy (callOf call) (now (rx .entry)) (now (buf .entry))) ⌝ }
 {
     let c = call.numbers;
-    let body = call.body;
-    lent::finish_lent(c, &body, rx, buf)
+    lent::finish_lent(c, &call.body, rx, buf)
 }
 
 // Whether the message of a push or a transmit is in the chip: also where the transmit's request was refused.
@@ -54,10 +49,10 @@ pub fn accepted(call: Call) -> bool
     ensures { λ r. ⌜ r ≡ acceptedBy (callOf call) ⌝ }
 {
     let c = call.numbers;
-    let family = c.family;
-    match family {
-        Family::Push => tx_fifo::push_done(parts_of::push_part(c)),
-        Family::Transmit => transmit::accepted(parts_of::transmit_part(c)),
+    let at = c.at;
+    match at {
+        At::Push(stage) => tx_fifo::push_done(parts_of::push_part(c, stage)),
+        At::Transmit(stage, request) => transmit::accepted(parts_of::transmit_part(c, stage, request)),
         _ => false,
     }
 }
@@ -67,8 +62,7 @@ pub fn turns(call: Call) -> u32
     ensures { λ r. ⌜ r ≡ left (callOf call) ⌝ }
 {
     let c = call.numbers;
-    let body = call.body;
-    crate::count::turns_lent(c, &body)
+    crate::count::turns_lent(c, &call.body)
 }
 
 // A call in two parts, for `next_lent`, `answer_lent` and `finish_lent`.

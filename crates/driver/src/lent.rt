@@ -8,7 +8,7 @@ ghost use Rattle.driver.specs.Step.{askOf, stepOf, outcomeOf, filledBy};
 ghost use Rattle.driver.specs.Send.{bodyOf};
 ghost use Rattle.driver.specs.Finish.{finishedAs};
 ghost use Rattle.driver.specs.Numbers.{modelOf};
-use crate::Family;
+use crate::At;
 use crate::Numbers;
 use crate::parts_of::fetch_part;
 use crate::parts_of::plan_part;
@@ -32,28 +32,25 @@ use spi::Ask;
 fn ask(c: Numbers) -> Ask
     ensures { λ r. ⌜ r ≡ askOf (modelOf c []) ⌝ }
 {
-    let family = c.family;
-    match family {
-        Family::Register => register::register_ask(register_part(c)),
-        Family::Ram => ram::ram_ask(ram_part(c)),
-        Family::Plan => configure::plan_ask(plan_part(c)),
-        Family::Push => tx_fifo::push_ask(push_part(c)),
-        Family::Transmit => transmit::transmit_ask(transmit_part(c)),
-        Family::Fetch => rx_fifo::fetch_ask(fetch_part(c)),
+    let at = c.at;
+    match at {
+        At::Register(stage) => register::register_ask(register_part(c, stage)),
+        At::Ram(stage) => ram::ram_ask(ram_part(c, stage)),
+        At::Plan(kind, stage) => configure::plan_ask(plan_part(c, kind, stage)),
+        At::Push(stage) => tx_fifo::push_ask(push_part(c, stage)),
+        At::Transmit(stage, request) => transmit::transmit_ask(transmit_part(c, stage, request)),
+        At::Fetch(want, stage) => rx_fifo::fetch_ask(fetch_part(c, want, stage)),
     }
 }
 
 // Whether the call sends the pattern of the long echo test now.
 fn is_echo(c: Numbers) -> bool {
-    let family = c.family;
-    match family {
-        Family::Ram => {
-            let stage = c.ram;
-            match stage {
-                RamStage::EchoWrite => true,
-                _ => false,
-            }
-        }
+    let at = c.at;
+    match at {
+        At::Ram(stage) => match stage {
+            RamStage::EchoWrite => true,
+            _ => false,
+        },
         _ => false,
     }
 }
@@ -65,10 +62,10 @@ fn next_echo(q: Ask, tx: &mut [u8]) -> Next {
 
 // Whether what the call writes to RAM is its own, the object of a push or a transmit, and not what was lent.
 fn is_own(c: Numbers) -> bool {
-    let family = c.family;
-    match family {
-        Family::Push => true,
-        Family::Transmit => true,
+    let at = c.at;
+    match at {
+        At::Push(_) => true,
+        At::Transmit(_, _) => true,
         _ => false,
     }
 }
@@ -93,14 +90,14 @@ pub fn next_lent(c: Numbers, body: &[u8; 76], lent: &[u8], tx: &mut [u8]) -> Nex
 pub fn answer_lent(c: Numbers, answer: Answer, rx: &[u8], body: &mut [u8; 76]) -> Numbers
     ensures { λ r. ⌜ modelOf r (now (body .exit)) ≡ stepOf (modelOf c (now (body .entry))) answer (now (rx .entry)) ⌝ }
 {
-    let family = c.family;
-    match family {
-        Family::Register => with_register(c, register::register_step(register_part(c), answer, rx)),
-        Family::Ram => with_ram(c, ram::ram_step(ram_part(c), answer, rx)),
-        Family::Plan => with_plan(c, configure::plan_step(plan_part(c), answer, rx, body)),
-        Family::Push => with_push(c, tx_fifo::push_step(push_part(c), answer, rx)),
-        Family::Transmit => with_transmit(c, transmit::transmit_step(transmit_part(c), answer, rx)),
-        Family::Fetch => with_fetch(c, rx_fifo::fetch_step(fetch_part(c), answer, rx, body)),
+    let at = c.at;
+    match at {
+        At::Register(stage) => with_register(c, register::register_step(register_part(c, stage), answer, rx)),
+        At::Ram(stage) => with_ram(c, ram::ram_step(ram_part(c, stage), answer, rx)),
+        At::Plan(kind, stage) => with_plan(c, configure::plan_step(plan_part(c, kind, stage), answer, rx, body)),
+        At::Push(stage) => with_push(c, tx_fifo::push_step(push_part(c, stage), answer, rx)),
+        At::Transmit(stage, request) => with_transmit(c, transmit::transmit_step(transmit_part(c, stage, request), answer, rx)),
+        At::Fetch(want, stage) => with_fetch(c, rx_fifo::fetch_step(fetch_part(c, want, stage), answer, rx, body)),
     }
 }
 
@@ -109,13 +106,13 @@ pub fn answer_lent(c: Numbers, answer: Answer, rx: &[u8], body: &mut [u8; 76]) -
 pub fn finish_lent(c: Numbers, body: &[u8; 76], rx: &[u8], buf: &mut [u8]) -> Outcome
     ensures { λ r. ⌜ (r ≡ finishedAs (modelOf c (now (body .entry))) (length (now (rx .entry))) (length (now (buf .entry)))) × (now (buf .exit) ≡ filledBy (modelOf c (now (body .entry))) (now (rx .entry)) (now (buf .entry))) ⌝ }
 {
-    let family = c.family;
-    match family {
-        Family::Register => register::register_outcome(register_part(c)),
-        Family::Ram => ram::ram_finish(ram_part(c), rx, buf),
-        Family::Plan => configure::plan_outcome(plan_part(c)),
-        Family::Push => tx_fifo::push_outcome(push_part(c)),
-        Family::Transmit => transmit::transmit_outcome(transmit_part(c)),
-        Family::Fetch => rx_fifo::fetch_finish(fetch_part(c), body, buf),
+    let at = c.at;
+    match at {
+        At::Register(stage) => register::register_outcome(register_part(c, stage)),
+        At::Ram(stage) => ram::ram_finish(ram_part(c, stage), rx, buf),
+        At::Plan(kind, stage) => configure::plan_outcome(plan_part(c, kind, stage)),
+        At::Push(stage) => tx_fifo::push_outcome(push_part(c, stage)),
+        At::Transmit(stage, request) => transmit::transmit_outcome(transmit_part(c, stage, request)),
+        At::Fetch(want, stage) => rx_fifo::fetch_finish(fetch_part(c, want, stage), body, buf),
     }
 }

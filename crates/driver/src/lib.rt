@@ -71,27 +71,19 @@ use register::RegisterStage;
 use transmit::RequestStage;
 use tx_fifo::PushStage;
 
-// Which family a call is of.
-enum Family {
-    Register,
-    Ram,
-    Plan,
-    Push,
-    Transmit,
-    Fetch,
+// Where a call stands in its family.
+enum At {
+    Register(RegisterStage),
+    Ram(RamStage),
+    Plan(PlanKind, PlanStage),
+    Push(PushStage),
+    Transmit(PushStage, RequestStage),
+    Fetch(Want, FetchStage),
 }
 
-// A call without its bytes: where it stands in its family, and numbers that the families share. Nobody outside makes one by hand.
+// A call without its bytes: where it stands, and numbers that the families share. Nobody outside makes one by hand.
 pub struct Numbers {
-    family: Family,
-    register: RegisterStage,
-    ram: RamStage,
-    plan: PlanStage,
-    push: PushStage,
-    request: RequestStage,
-    fetch: FetchStage,
-    kind: PlanKind,
-    want: Want,
+    at: At,
     stamped: bool,
     fifo: u8,
     more: u8,

@@ -1,8 +1,8 @@
 // A family's own numbers in those of a call, and back.
 ghost use mathlib.Core.Path.{_≡_};
-ghost use Rattle.driver.specs.declared.Family.{Family};
-ghost use Rattle.driver.specs.Numbers.{registerPart, ramPart, planPart, pushPart, transmitPart, fetchPart};
-use crate::Family;
+ghost use Rattle.driver.specs.declared.At.{At};
+ghost use Rattle.driver.specs.Numbers.{registerPart, ramPart, planPart, pushPart, transmitPart, fetchPart, registerIn, ramIn, planIn, pushIn, transmitIn, fetchIn};
+use crate::At;
 use crate::Numbers;
 use configure::PlanKind;
 use configure::PlanNumbers;
@@ -20,20 +20,10 @@ use transmit::TransmitNumbers;
 use tx_fifo::PushNumbers;
 use tx_fifo::PushStage;
 
-// A call of a family before its own numbers are there.
-pub fn idle(family: Family) -> Numbers
-    ensures { λ r. ⌜ r .family ≡ family ⌝ }
-{
+// What a call has before its family's own numbers are there.
+pub fn idle() -> Numbers {
     Numbers {
-        family: family,
-        register: RegisterStage::Refused,
-        ram: RamStage::Refused,
-        plan: PlanStage::Refused,
-        push: PushStage::Refused,
-        request: RequestStage::Refused,
-        fetch: FetchStage::Refused,
-        kind: PlanKind::Nothing,
-        want: Want::HasNext,
+        at: At::Push(PushStage::Refused),
         stamped: false,
         fifo: 0,
         more: 0,
@@ -49,10 +39,9 @@ pub fn idle(family: Family) -> Numbers
     }
 }
 
-pub fn register_part(c: Numbers) -> RegisterNumbers
-    ensures { λ r. ⌜ r ≡ registerPart c ⌝ }
+pub fn register_part(c: Numbers, stage: RegisterStage) -> RegisterNumbers
+    ensures { λ r. ⌜ r ≡ registerPart c stage ⌝ }
 {
-    let stage = c.register;
     let why = c.why;
     RegisterNumbers {
         stage: stage,
@@ -64,27 +53,12 @@ pub fn register_part(c: Numbers) -> RegisterNumbers
 }
 
 pub fn with_register(c: Numbers, p: RegisterNumbers) -> Numbers
-    ensures { λ r. ⌜ (r .family ≡ Family.Register) × (registerPart r ≡ p) ⌝ }
+    ensures { λ r. ⌜ r ≡ registerIn c p ⌝ }
 {
     let stage = p.stage;
     let why = p.why;
-    let ram = c.ram;
-    let plan = c.plan;
-    let push = c.push;
-    let request = c.request;
-    let fetch = c.fetch;
-    let kind = c.kind;
-    let want = c.want;
     Numbers {
-        family: Family::Register,
-        register: stage,
-        ram: ram,
-        plan: plan,
-        push: push,
-        request: request,
-        fetch: fetch,
-        kind: kind,
-        want: want,
+        at: At::Register(stage),
         stamped: c.stamped,
         fifo: c.fifo,
         more: p.more,
@@ -100,10 +74,9 @@ pub fn with_register(c: Numbers, p: RegisterNumbers) -> Numbers
     }
 }
 
-pub fn ram_part(c: Numbers) -> RamNumbers
-    ensures { λ r. ⌜ r ≡ ramPart c ⌝ }
+pub fn ram_part(c: Numbers, stage: RamStage) -> RamNumbers
+    ensures { λ r. ⌜ r ≡ ramPart c stage ⌝ }
 {
-    let stage = c.ram;
     let why = c.why;
     RamNumbers {
         stage: stage,
@@ -115,27 +88,12 @@ pub fn ram_part(c: Numbers) -> RamNumbers
 }
 
 pub fn with_ram(c: Numbers, p: RamNumbers) -> Numbers
-    ensures { λ r. ⌜ (r .family ≡ Family.Ram) × (ramPart r ≡ p) ⌝ }
+    ensures { λ r. ⌜ r ≡ ramIn c p ⌝ }
 {
     let stage = p.stage;
     let why = p.why;
-    let register = c.register;
-    let plan = c.plan;
-    let push = c.push;
-    let request = c.request;
-    let fetch = c.fetch;
-    let kind = c.kind;
-    let want = c.want;
     Numbers {
-        family: Family::Ram,
-        register: register,
-        ram: stage,
-        plan: plan,
-        push: push,
-        request: request,
-        fetch: fetch,
-        kind: kind,
-        want: want,
+        at: At::Ram(stage),
         stamped: c.stamped,
         fifo: c.fifo,
         more: c.more,
@@ -151,11 +109,9 @@ pub fn with_ram(c: Numbers, p: RamNumbers) -> Numbers
     }
 }
 
-pub fn plan_part(c: Numbers) -> PlanNumbers
-    ensures { λ r. ⌜ r ≡ planPart c ⌝ }
+pub fn plan_part(c: Numbers, kind: PlanKind, stage: PlanStage) -> PlanNumbers
+    ensures { λ r. ⌜ r ≡ planPart c kind stage ⌝ }
 {
-    let kind = c.kind;
-    let stage = c.plan;
     let why = c.why;
     PlanNumbers {
         kind: kind,
@@ -172,27 +128,13 @@ pub fn plan_part(c: Numbers) -> PlanNumbers
 }
 
 pub fn with_plan(c: Numbers, p: PlanNumbers) -> Numbers
-    ensures { λ r. ⌜ (r .family ≡ Family.Plan) × (planPart r ≡ p) ⌝ }
+    ensures { λ r. ⌜ r ≡ planIn c p ⌝ }
 {
     let kind = p.kind;
     let stage = p.stage;
     let why = p.why;
-    let register = c.register;
-    let ram = c.ram;
-    let push = c.push;
-    let request = c.request;
-    let fetch = c.fetch;
-    let want = c.want;
     Numbers {
-        family: Family::Plan,
-        register: register,
-        ram: ram,
-        plan: stage,
-        push: push,
-        request: request,
-        fetch: fetch,
-        kind: kind,
-        want: want,
+        at: At::Plan(kind, stage),
         stamped: c.stamped,
         fifo: p.n,
         more: p.more,
@@ -208,10 +150,9 @@ pub fn with_plan(c: Numbers, p: PlanNumbers) -> Numbers
     }
 }
 
-pub fn push_part(c: Numbers) -> PushNumbers
-    ensures { λ r. ⌜ r ≡ pushPart c ⌝ }
+pub fn push_part(c: Numbers, stage: PushStage) -> PushNumbers
+    ensures { λ r. ⌜ r ≡ pushPart c stage ⌝ }
 {
-    let stage = c.push;
     let why = c.why;
     PushNumbers {
         stage: stage,
@@ -225,27 +166,12 @@ pub fn push_part(c: Numbers) -> PushNumbers
 }
 
 pub fn with_push(c: Numbers, p: PushNumbers) -> Numbers
-    ensures { λ r. ⌜ (r .family ≡ Family.Push) × (pushPart r ≡ p) ⌝ }
+    ensures { λ r. ⌜ r ≡ pushIn c p ⌝ }
 {
     let stage = p.stage;
     let why = p.why;
-    let register = c.register;
-    let ram = c.ram;
-    let plan = c.plan;
-    let request = c.request;
-    let fetch = c.fetch;
-    let kind = c.kind;
-    let want = c.want;
     Numbers {
-        family: Family::Push,
-        register: register,
-        ram: ram,
-        plan: plan,
-        push: stage,
-        request: request,
-        fetch: fetch,
-        kind: kind,
-        want: want,
+        at: At::Push(stage),
         stamped: c.stamped,
         fifo: p.fifo,
         more: c.more,
@@ -261,39 +187,24 @@ pub fn with_push(c: Numbers, p: PushNumbers) -> Numbers
     }
 }
 
-pub fn transmit_part(c: Numbers) -> TransmitNumbers
-    ensures { λ r. ⌜ r ≡ transmitPart c ⌝ }
+pub fn transmit_part(c: Numbers, stage: PushStage, request: RequestStage) -> TransmitNumbers
+    ensures { λ r. ⌜ r ≡ transmitPart c stage request ⌝ }
 {
-    let request = c.request;
     TransmitNumbers {
-        push: push_part(c),
+        push: push_part(c, stage),
         request: request,
     }
 }
 
 pub fn with_transmit(c: Numbers, p: TransmitNumbers) -> Numbers
-    ensures { λ r. ⌜ (r .family ≡ Family.Transmit) × (transmitPart r ≡ p) ⌝ }
+    ensures { λ r. ⌜ r ≡ transmitIn c p ⌝ }
 {
     let q = p.push;
+    let request = p.request;
     let stage = q.stage;
     let why = q.why;
-    let request = p.request;
-    let register = c.register;
-    let ram = c.ram;
-    let plan = c.plan;
-    let fetch = c.fetch;
-    let kind = c.kind;
-    let want = c.want;
     Numbers {
-        family: Family::Transmit,
-        register: register,
-        ram: ram,
-        plan: plan,
-        push: stage,
-        request: request,
-        fetch: fetch,
-        kind: kind,
-        want: want,
+        at: At::Transmit(stage, request),
         stamped: c.stamped,
         fifo: q.fifo,
         more: c.more,
@@ -309,15 +220,13 @@ pub fn with_transmit(c: Numbers, p: TransmitNumbers) -> Numbers
     }
 }
 
-pub fn fetch_part(c: Numbers) -> FetchNumbers
-    ensures { λ r. ⌜ r ≡ fetchPart c ⌝ }
+pub fn fetch_part(c: Numbers, want: Want, stage: FetchStage) -> FetchNumbers
+    ensures { λ r. ⌜ r ≡ fetchPart c want stage ⌝ }
 {
-    let stage = c.fetch;
-    let want = c.want;
     let why = c.why;
     FetchNumbers {
-        stage: stage,
         want: want,
+        stage: stage,
         fifo: c.fifo,
         stamped: c.stamped,
         len: c.more,
@@ -331,27 +240,13 @@ pub fn fetch_part(c: Numbers) -> FetchNumbers
 }
 
 pub fn with_fetch(c: Numbers, p: FetchNumbers) -> Numbers
-    ensures { λ r. ⌜ (r .family ≡ Family.Fetch) × (fetchPart r ≡ p) ⌝ }
+    ensures { λ r. ⌜ r ≡ fetchIn c p ⌝ }
 {
-    let stage = p.stage;
     let want = p.want;
+    let stage = p.stage;
     let why = p.why;
-    let register = c.register;
-    let ram = c.ram;
-    let plan = c.plan;
-    let push = c.push;
-    let request = c.request;
-    let kind = c.kind;
     Numbers {
-        family: Family::Fetch,
-        register: register,
-        ram: ram,
-        plan: plan,
-        push: push,
-        request: request,
-        fetch: stage,
-        kind: kind,
-        want: want,
+        at: At::Fetch(want, stage),
         stamped: p.stamped,
         fifo: p.fifo,
         more: p.len,
