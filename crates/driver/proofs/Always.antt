@@ -27,7 +27,8 @@ module _ (P : Ask → Type 0) where
     pub reads : (failed : Refusal) (address : ℕ) (k : ℕ → Talk A) → P (Ask.Read address 4) → ((w : ℕ) → Always P (k w)) → Always P (readWord failed address k)
     reads failed address k l h = (l, λ a rx. by-word (λ t. Always P t) (λ r. tt) (wordReply failed a rx) h)
 
-    pub pairs : (failed : Refusal) (address : ℕ) (k : ℕ → ℕ → Talk A) → P (Ask.Read address 8) → ((v w : ℕ) → Always P (k v w)) → Always P (readPair failed address k)
+    pub pairs : (failed : Refusal) (address : ℕ) (k : ℕ → ℕ → Talk A) → P (Ask.Read address 8) → ((v w : ℕ) → Always P (k v w))
+        → Always P (readPair failed address k)
     pairs failed address k l h = (l, λ a rx. by-pair (λ t. Always P t) (λ r. tt) (pairReply failed a rx) h)
 
     pub checks : (failed : Refusal) (address : ℕ) (other : Talk A) (k : ℕ → Talk A) → P (Ask.Checked address) → Always P other → ((w : ℕ) → Always P (k w))

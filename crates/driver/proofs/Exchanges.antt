@@ -155,10 +155,7 @@ module _ (P : Ask → Type 0) where
       (λ e. by-if (λ d. Always P (onDone refused d t)) (eqb (count % 4) 0) (λ f. h (ram-below address count e)) (λ f. tt))
       (λ e. tt)
 
-  told-always : (t : Talk fetch-talks.Fetched) → Always P t → Always P (told t)
-  told-always t h = then-always P t _ h (λ x. tt)
-
--- ---- a word that is read and written: request, the end of a get
+-- ---- a word that is read, and one that is written: request, the end of a get
 
 module _ (P : Ask → Type 0) (may-read : MayRead P) (may-write : MayWrite P) where
   word-written : {A : Type 0} (failed : Refusal) (address word : ℕ) (k : Talk A) → Narrow address → Always P k → Always P (writeWord failed address word k)
@@ -275,6 +272,9 @@ module _ (P : Ask → Type 0) (may-read : MayRead P) (may-write : MayWrite P)
       (λ f. encoded-always n (not-false _ f) (length payload) (encoding (toSend header seq payload)) (λ bs e. omega (arith, object-le (toSend header seq payload) bs e)))
 
 -- ---- has-next, peek and get
+
+told-always : (P : Ask → Type 0) (t : Talk fetch-talks.Fetched) → Always P t → Always P (told t)
+told-always P t h = then-always P t _ h (λ x. tt)
 
 module _ (P : Ask → Type 0) (may-read : MayRead P) where
   module _ (n : ℕ) (f : isFifo n ≡ true) where
