@@ -1,7 +1,7 @@
 // Data length codes and the payload lengths that they mean.
 ghost use mathlib.Core.Path.{_≡_};
 ghost use mathlib.Core.Bool.{true};
-ghost use Prim.Native.Nat.{_≤_, _<_};
+ghost use Prim.Native.Nat.{_≤_};
 ghost use Rattle.header.specs.Dlc.{dlcs, lengthOf, dlcOf};
 
 // What DLC 0 to 15 mean, in bytes.
@@ -34,11 +34,13 @@ pub fn len_for_dlc(dlc: usize, fdf: bool) -> Length
     }
 }
 
-// The DLC of a payload of more than 8 bytes.
-fn longer(len: usize) -> Dlc
-    requires { ⌜ 8 < len ⌝ }
+// The DLC of an FD frame's payload.
+fn fd_dlc(len: usize) -> Dlc
     ensures { λ r. ⌜ r ≡ dlcOf true len ⌝ }
 {
+    if len <= 8 {
+        return Dlc::Is(len);
+    }
     match len {
         12 => Dlc::Is(9),
         16 => Dlc::Is(10),
@@ -54,11 +56,8 @@ fn longer(len: usize) -> Dlc
 pub fn dlc_for_len(len: usize, fdf: bool) -> Dlc
     ensures { λ r. ⌜ r ≡ dlcOf fdf len ⌝ }
 {
-    if len <= 8 {
-        return Dlc::Is(len);
-    }
     if fdf {
-        return longer(len);
+        return fd_dlc(len);
     }
-    Dlc::Bad
+    if len <= 8 { Dlc::Is(len) } else { Dlc::Bad }
 }
