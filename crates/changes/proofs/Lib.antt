@@ -1,1 +1,2 @@
+pub mod Enables
 pub mod Tests
