@@ -44,47 +44,47 @@ enum-told-9 c = search needs
 -- src/items.rt:53:1
 returns : tie.Need-returns
 unfolding itemsFor
-returns c = simp (c .enum-told .given .1)
+returns c body = simp (c .enum-told .given .1)
 
 -- src/items.rt:53:1
 returns-2 : tie.Need-returns-2
 unfolding itemsFor
-returns-2 c = simp (c .enum-told2 .given .1)
+returns-2 c body = simp (c .enum-told2 .given .1)
 
 -- src/items.rt:53:1
 returns-3 : tie.Need-returns-3
 unfolding itemsFor
-returns-3 c = simp (c .enum-told3 .given .1)
+returns-3 c body = simp (c .enum-told3 .given .1)
 
 -- src/items.rt:53:1
 returns-4 : tie.Need-returns-4
 unfolding itemsFor
-returns-4 c = simp (c .enum-told4 .given .1)
+returns-4 c body = simp (c .enum-told4 .given .1)
 
 -- src/items.rt:53:1
 returns-5 : tie.Need-returns-5
 unfolding itemsFor
-returns-5 c = simp (c .enum-told5 .given .1)
+returns-5 c body = simp (c .enum-told5 .given .1)
 
 -- src/items.rt:53:1
 returns-6 : tie.Need-returns-6
 unfolding itemsFor
-returns-6 c = simp (c .enum-told6 .given .1)
+returns-6 c body = simp (c .enum-told6 .given .1)
 
 -- src/items.rt:53:1
 returns-7 : tie.Need-returns-7
 unfolding itemsFor
-returns-7 c = simp (c .enum-told7 .given .1)
+returns-7 c body = simp (c .enum-told7 .given .1)
 
 -- src/items.rt:53:1
 returns-8 : tie.Need-returns-8
 unfolding itemsFor
-returns-8 c = simp (c .enum-told8 .given .1)
+returns-8 c body = simp (c .enum-told8 .given .1)
 
 -- src/items.rt:53:1
 returns-9 : tie.Need-returns-9
 unfolding itemsFor
-returns-9 c = simp (c .enum-told9 .given .1)
+returns-9 c body = simp (c .enum-told9 .given .1)
 
 pub count-of-spec : {M : Type 1} → statement M
 count-of-spec =

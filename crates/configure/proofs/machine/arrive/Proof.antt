@@ -1,91 +1,55 @@
+-- `configure::machine::arrive` meets its contract: the items passed over do nothing.
+-- Assumes nothing.
+use mathlib.Core.Path.{refl, sym, _∙_}
+use Prim.Native.Nat.{_-_, _<_}
+use native.Mathlib.Omega.{arith}
+use lib.ListN.{length}
+use borrow.Author.Needs.{needs}
+use Rattle.configure.specs.Numbers.{itemsIn}
+use Rattle.configure.proofs.Places.{Passed, passes, arrives, ends, ends-late}
 use Rattle.configure.proofs.machine.arrive.Statement.{statement}
 use Rattle.configure.proofs.machine.arrive.Tie as tie
-use Rattle.configure.proofs.machine.arrive.Reads as reads
-use Rattle.configure.proofs.machine.arrive.Lts as lts
-use Rattle.configure.proofs.items.count_of.Reads as count-of-reads
-use Rattle.configure.proofs.items.item_of.Reads as item-of-reads
-use Rattle.configure.proofs.moves.begin.Reads as begin-reads
-use Rattle.plan.proofs.is_there.Reads as is-there-reads
 
 abbrev Inv-loop : tie.InvT-loop
-Inv-loop c body count i₀ i = ?
+Inv-loop c body count i₀ i = Passed c body i
 
 abbrev μ-loop : tie.MeasureT-loop
-μ-loop c body count i₀ i = ?
+μ-loop c body count i₀ i = count - i
 
--- src/machine.rt:198:9
-count-of-requires : tie.Need-count-of-requires Inv-loop μ-loop
-count-of-requires c κs = ?
-
--- src/machine.rt:200:5
-loop-holds : tie.Need-loop-holds Inv-loop μ-loop
-loop-holds c = ?
-
--- src/machine.rt:201:13
 item-of-requires : tie.Need-item-of-requires Inv-loop μ-loop
-item-of-requires c κs = ?
+item-of-requires c κs = omega (arith, c .before .before .count-of .ensures (c .before .before .before .args .body .now))
 
--- src/machine.rt:202:12
-is-there-requires : tie.Need-is-there-requires Inv-loop μ-loop
-is-there-requires c κs = ?
-
--- src/machine.rt:203:29
-add-begin : tie.Need-add-begin Inv-loop μ-loop
-add-begin c = ?
-
--- src/machine.rt:203:13
-begin-requires : tie.Need-begin-requires Inv-loop μ-loop
-begin-requires c κs = ?
-
--- src/machine.rt:203:13
 returns : tie.Need-returns Inv-loop μ-loop
-returns c = ?
+returns c =
+    let i = c .before .before .before in
+    let l = i .before .before in
+    let a = l .before .before .args in
+    let h : l .loop .i < length (itemsIn (a .c) (a .body .now)) = omega (arith, l .before .count-of .ensures (a .body .now)) in
+    rw (c .begin .ensures, i .item-of .ensures)
+    (arrives (a .c) (a .body .now) (l .loop .i) (l .loop .inv) h (rw (i .item-of .ensures) at (sym (c .before .before .is-there .ensures) ∙ c .before .if1 .taken)))
 
--- src/machine.rt:205:9
-add-i : tie.Need-add-i Inv-loop μ-loop
-add-i c = ?
-
--- src/machine.rt:200:5
-loop-less : tie.Need-loop-less Inv-loop μ-loop
-loop-less c = ?
-
--- src/machine.rt:200:5
 loop-again : tie.Need-loop-again Inv-loop μ-loop
-loop-again c = ?
+loop-again c =
+    let i = c .before .before in
+    let l = i .before .before in
+    let a = l .before .before .args in
+    let h : l .loop .i < length (itemsIn (a .c) (a .body .now)) = omega (arith, l .before .count-of .ensures (a .body .now)) in
+    passes (a .c) (a .body .now) (l .loop .i) (l .loop .inv) h (rw (i .item-of .ensures) at (sym (c .before .is-there .ensures) ∙ c .if1 .left))
 
--- src/machine.rt:208:9
-begin-requires-2 : tie.Need-begin-requires-2 Inv-loop μ-loop
-begin-requires-2 c κs = ?
-
--- src/machine.rt:210:9
-begin-requires-3 : tie.Need-begin-requires-3 Inv-loop μ-loop
-begin-requires-3 c κs = ?
-
--- src/machine.rt:195:1
 returns-2 : tie.Need-returns-2 Inv-loop μ-loop
-returns-2 c = ?
+returns-2 c =
+    let l = c .before .before .before in
+    let a = l .before .before .args in
+    rw (c .begin2 .ensures) (ends (a .c) (a .body .now) (l .loop .i) (l .loop .inv) (omega (arith, l .before .count-of .ensures (a .body .now))) (omega arith))
 
--- src/machine.rt:195:1
 returns-3 : tie.Need-returns-3 Inv-loop μ-loop
-returns-3 c = ?
+returns-3 c =
+    let l = c .before .before .before in
+    let a = l .before .before .args in
+    rw (c .begin3 .ensures) (ends-late (a .c) (a .body .now) (l .loop .i) (l .loop .inv) (omega arith))
 
 pub arrive-spec : {M : Type 1} → statement M
 arrive-spec =
     tie.close
-    (tie.spec
-    Inv-loop
-    μ-loop
-    count-of-requires
-    loop-holds
-    item-of-requires
-    is-there-requires
-    add-begin
-    begin-requires
-    returns
-    add-i
-    loop-less
-    loop-again
-    begin-requires-2
-    begin-requires-3
-    returns-2
-    returns-3)
+    (tie.spec Inv-loop μ-loop (λ c κs. search needs) (λ c. refl) item-of-requires (λ c κs. search needs) (search needs) (λ c κs. search needs) returns
+    (search needs) (search needs) loop-again (λ c κs. search needs) (λ c κs. search needs) returns-2 returns-3)

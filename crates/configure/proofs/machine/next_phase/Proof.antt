@@ -1,3 +1,4 @@
+use Rattle.configure.proofs.Stages.{done-into}
 use mathlib.Core.Path.{_∙_, sym}
 use borrow.Author.Needs.{needs}
 use Rattle.configure.proofs.machine.next_phase.Statement.{statement}
@@ -149,7 +150,7 @@ returns c = simp (c .when-read .ensures, c .before .word-reply .ensures, c .befo
 
 -- src/machine.rt:153:1
 returns-2 : tie.Need-returns-2
-returns-2 c = simp (c .when-done .ensures, c .before .done-reply .ensures, c .before .before .before .before .failed-in .ensures, c .before .before .enum-told2 .given .1)
+returns-2 c = simp (c .when-done .ensures, c .before .done-reply .ensures, c .before .before .before .before .failed-in .ensures, c .before .before .enum-told2 .given .1, ← done-into)
 
 -- src/machine.rt:153:1
 returns-3 : tie.Need-returns-3
@@ -157,7 +158,7 @@ returns-3 c = simp (c .when-polled .ensures, c .before .word-reply2 .ensures, c 
 
 -- src/machine.rt:153:1
 returns-4 : tie.Need-returns-4
-returns-4 c = simp (c .when-done2 .ensures, c .before .wait-reply .ensures, c .before .before .before .before .failed-in .ensures, c .before .before .enum-told4 .given .1)
+returns-4 c = simp (c .when-done2 .ensures, c .before .wait-reply .ensures, c .before .before .before .before .failed-in .ensures, c .before .before .enum-told4 .given .1, ← done-into)
 
 -- src/machine.rt:153:1
 returns-5 : tie.Need-returns-5
@@ -165,11 +166,11 @@ returns-5 c = simp (c .when-polled2 .ensures, c .before .word-reply3 .ensures, c
 
 -- src/machine.rt:153:1
 returns-6 : tie.Need-returns-6
-returns-6 c = simp (c .when-done3 .ensures, c .before .wait-reply2 .ensures, c .before .before .before .before .failed-in .ensures, c .before .before .enum-told6 .given .1)
+returns-6 c = simp (c .when-done3 .ensures, c .before .wait-reply2 .ensures, c .before .before .before .before .failed-in .ensures, c .before .before .enum-told6 .given .1, ← done-into)
 
 -- src/machine.rt:153:1
 returns-7 : tie.Need-returns-7
-returns-7 c = simp (c .when-done4 .ensures, c .before .done-reply2 .ensures, c .before .before .before .before .failed-in .ensures, c .before .before .enum-told7 .given .1)
+returns-7 c = simp (c .when-done4 .ensures, c .before .done-reply2 .ensures, c .before .before .before .before .failed-in .ensures, c .before .before .enum-told7 .given .1, ← done-into)
 
 -- src/machine.rt:153:1
 returns-8 : tie.Need-returns-8

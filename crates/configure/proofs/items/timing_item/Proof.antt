@@ -1,0 +1,19 @@
+use Rattle.configure.proofs.items.timing_item.Statement.{statement}
+use Rattle.configure.proofs.items.timing_item.Tie as tie
+use Rattle.configure.proofs.items.timing_item.Reads as reads
+use Rattle.configure.proofs.items.timing_item.Lts as lts
+
+-- src/items.rt:110:1
+returns : tie.Need-returns
+returns c = ?
+
+-- src/items.rt:110:1
+returns-2 : tie.Need-returns-2
+returns-2 c = ?
+
+-- src/items.rt:110:1
+returns-3 : tie.Need-returns-3
+returns-3 c = ?
+
+pub timing-item-spec : {M : Type 1} → statement M
+timing-item-spec = tie.close (tie.spec returns returns-2 returns-3)
