@@ -8,6 +8,4 @@ use Rattle.areas.proofs.areas.filter_check.Tie as tie
 pub filter-check-spec : {M : Type 1} → statement M
 unfolding filterCheck
 filter-check-spec =
-    tie.close
-    (tie.spec (λ c κs. search needs) (λ c κs. search needs) (λ c κs. search needs) (λ c κs. search needs)
-    (λ c. simp (c .checked .ensures, c .before .is-identifier2 .ensures, c .before .before .is-identifier .ensures, c .before .before .before .is-fifo .ensures)))
+    tie.close (tie.spec (λ c κs. search needs) (λ c κs. search needs) (λ c κs. search needs) (λ c κs. search needs) (λ c. cc))

@@ -6,6 +6,4 @@ use Rattle.areas.proofs.areas.mask_change.Tie as tie
 
 pub mask-change-spec : {M : Type 1} → statement M
 mask-change-spec =
-    tie.close
-    (tie.spec (λ c κs. search needs) (λ c κs. search needs) (λ c κs. search needs)
-    (λ c. simp (c .identifier-change .ensures, c .before .one-kind .ensures, c .before .before .address .ensures)))
+    tie.close (tie.spec (λ c κs. search needs) (λ c κs. search needs) (λ c κs. search needs) (λ c κs. search needs) (λ c. cc))

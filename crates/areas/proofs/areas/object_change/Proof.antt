@@ -6,6 +6,4 @@ use Rattle.areas.proofs.areas.object_change.Tie as tie
 
 pub object-change-spec : {M : Type 1} → statement M
 object-change-spec =
-    tie.close
-    (tie.spec (λ c κs. search needs) (λ c κs. search needs) (λ c κs. search needs)
-    (λ c. simp (c .identifier-change .ensures, c .before .extended-only .ensures, c .before .before .address .ensures)))
+    tie.close (tie.spec (λ c κs. search needs) (λ c κs. search needs) (λ c κs. search needs) (λ c κs. search needs) (λ c. cc))

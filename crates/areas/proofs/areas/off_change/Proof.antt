@@ -5,7 +5,4 @@ use Rattle.areas.proofs.areas.off_change.Statement.{statement}
 use Rattle.areas.proofs.areas.off_change.Tie as tie
 
 pub off-change-spec : {M : Type 1} → statement M
-off-change-spec =
-    tie.close
-    (tie.spec (λ c κs. search needs) (λ c κs. search needs) (search needs) (search needs) (λ c κs. search needs)
-    (λ c. simp (c .with-flag .ensures, c .before .changing .ensures, c .before .before .address .ensures)))
+off-change-spec = tie.close (tie.spec (λ c κs. search needs) (λ c κs. search needs) (λ c κs. search needs) (λ c. cc))

@@ -5,7 +5,4 @@ use Rattle.areas.proofs.areas.on_change.Statement.{statement}
 use Rattle.areas.proofs.areas.on_change.Tie as tie
 
 pub on-change-spec : {M : Type 1} → statement M
-on-change-spec =
-    tie.close
-    (tie.spec (λ c κs. search needs) (λ c κs. search needs) (search needs) (λ c κs. search needs) (search needs) (search needs) (λ c κs. search needs)
-    (λ c. simp (c .with-flag .ensures, c .before .with-field .ensures, c .before .before .changing .ensures, c .before .before .before .address .ensures)))
+on-change-spec = tie.close (tie.spec (λ c κs. search needs) (λ c κs. search needs) (λ c κs. search needs) (λ c. cc))

@@ -6,6 +6,4 @@ use Rattle.areas.proofs.areas.with_receive.Tie as tie
 
 pub with-receive-spec : {M : Type 1} → statement M
 with-receive-spec =
-    tie.close
-    (tie.spec (λ c κs. search needs) (λ c κs. search needs) (λ c κs. search needs) (λ c κs. search needs) (λ c κs. search needs) (λ c κs. search needs)
-    (λ c. simp (c .with-flag6 .ensures, c .before .with-flag5 .ensures, c .before .before .with-flag4 .ensures, c .before .before .before .with-flag3 .ensures, c .before .before .before .before .with-flag2 .ensures, c .before .before .before .before .before .with-flag .ensures)))
+    tie.close (tie.spec (λ c κs. search needs) (λ c κs. search needs) (λ c κs. search needs) (λ c κs. search needs) (λ c κs. search needs) (λ c κs. search needs) (λ c. cc))
