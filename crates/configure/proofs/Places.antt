@@ -5,7 +5,7 @@ use mathlib.Core.Path.{_≡_, refl, sym, ap, _∙_}
 use mathlib.Core.Bool.{Bool, true, false}
 use mathlib.Core.List.{List, [], _∷_, _++_}
 use native.Mathlib.Omega.{arith}
-use lib.Dec.{eqb, lit<}
+use lib.Dec.{eqb}
 use lib.ListN.{length, getD, drop, replicate, length-append, length-replicate, List·getD-eq-default}
 use Rattle.laws.specs.If.{if_then_else_}
 use Rattle.laws.proofs.Choice.{by-if}
@@ -23,6 +23,17 @@ use Rattle.configure.specs.declared.numbers.PlanKind.{PlanKind}
 use Rattle.configure.specs.declared.numbers.PlanNumbers.{PlanNumbers}
 use Rattle.configure.specs.Numbers.{failedIn, lateIn, changeIn, itemsFor, itemsIn, planIn}
 use Rattle.configure.specs.Moves.{atItem}
+
+-- ---- a short list by its places
+
+pub only : (x d : Item) (i : ℕ) → i < 1 → x ≡ getD (x ∷ []) i d
+only x d zero h = refl
+only x d (suc i) h = absurd (omega arith)
+
+pub two : (x y d : Item) (i : ℕ) → i < 2 → (if eqb i 0 then x else y) ≡ getD (x ∷ y ∷ []) i d
+two x y d zero h = refl
+two x y d (suc zero) h = refl
+two x y d (suc (suc i)) h = absurd (omega arith)
 
 -- ---- an item that begins
 

@@ -1,124 +1,36 @@
+-- `configure::items::configure_item` meets its contract.
+-- Assumes nothing.
+use mathlib.Core.Path.{_≡_}
+use native.Mathlib.Omega.{arith}
 use borrow.Author.Needs.{needs}
+use Rattle.field.specs.Field.{withField}
+use Rattle.configure.specs.Numbers.{itemsFor}
 use Rattle.configure.proofs.items.configure_item.Statement.{statement}
 use Rattle.configure.proofs.items.configure_item.Tie as tie
-use Rattle.configure.proofs.items.configure_item.Reads as reads
-use Rattle.configure.proofs.items.configure_item.Lts as lts
-use Rattle.configure.proofs.items.counter_item.Reads as counter-item-reads
-use Rattle.configure.proofs.items.dncnt_item.Reads as dncnt-item-reads
-use Rattle.configure.proofs.items.pll_poll.Reads as pll-poll-reads
-use Rattle.configure.proofs.items.word.Reads as word-reads
 
--- src/items.rt:161:24
-cast-t5 : tie.Need-cast-t5
-cast-t5 c = search needs
-
--- src/items.rt:166:23
-word-requires : tie.Need-word-requires
-word-requires c κs = search needs
-
--- src/items.rt:166:14
-pll-poll-requires : tie.Need-pll-poll-requires
-pll-poll-requires c κs = search needs
-
--- src/items.rt:173:28
-word-requires-2 : tie.Need-word-requires-2
-word-requires-2 c κs = search needs
-
--- src/items.rt:173:15
-counter-item-requires : tie.Need-counter-item-requires
-counter-item-requires c κs = search needs
-
--- src/items.rt:174:26
-word-requires-3 : tie.Need-word-requires-3
-word-requires-3 c κs = search needs
-
--- src/items.rt:174:15
-dncnt-item-requires : tie.Need-dncnt-item-requires
-dncnt-item-requires c κs = search needs
-
--- src/items.rt:154:1
 returns : tie.Need-returns
-returns c = ?
-
--- src/items.rt:154:1
-returns-2 : tie.Need-returns-2
-returns-2 c = ?
-
--- src/items.rt:154:1
-returns-3 : tie.Need-returns-3
-returns-3 c = ?
-
--- src/items.rt:154:1
-returns-4 : tie.Need-returns-4
-returns-4 c = ?
-
--- src/items.rt:154:1
-returns-5 : tie.Need-returns-5
-returns-5 c = ?
-
--- src/items.rt:154:1
-returns-6 : tie.Need-returns-6
-returns-6 c = ?
-
--- src/items.rt:154:1
-returns-7 : tie.Need-returns-7
-returns-7 c = ?
-
--- src/items.rt:154:1
-returns-8 : tie.Need-returns-8
-returns-8 c = ?
-
--- src/items.rt:154:1
-returns-9 : tie.Need-returns-9
-returns-9 c = ?
-
--- src/items.rt:154:1
-returns-10 : tie.Need-returns-10
-returns-10 c = ?
-
--- src/items.rt:154:1
-returns-11 : tie.Need-returns-11
-returns-11 c = ?
-
--- src/items.rt:154:1
-returns-12 : tie.Need-returns-12
-returns-12 c = ?
-
--- src/items.rt:154:1
-returns-13 : tie.Need-returns-13
-returns-13 c = ?
-
--- src/items.rt:154:1
-returns-14 : tie.Need-returns-14
-returns-14 c = ?
-
--- src/items.rt:154:1
-returns-15 : tie.Need-returns-15
-returns-15 c = ?
+unfolding itemsFor withField
+returns c = simp (c .mode-change .ensures, c .before .mode-bits .ensures, c .before .before .match .keys1)
 
 pub configure-item-spec : {M : Type 1} → statement M
+unfolding itemsFor
 configure-item-spec =
     tie.close
-    (tie.spec
-    cast-t5
-    word-requires
-    pll-poll-requires
-    word-requires-2
-    counter-item-requires
-    word-requires-3
-    dncnt-item-requires
-    returns
-    returns-2
-    returns-3
-    returns-4
-    returns-5
-    returns-6
-    returns-7
-    returns-8
-    returns-9
-    returns-10
-    returns-11
-    returns-12
-    returns-13
-    returns-14
-    returns-15)
+    (tie.spec (λ c κs. search needs) (λ c κs. search needs) (search needs) (λ c κs. search needs) (λ c κs. search needs) (λ c κs. search needs)
+    (λ c κs. search needs) (λ c κs. search needs) (λ c κs. search needs) (λ c κs. search needs) (λ c κs. search needs) (λ c κs. search needs)
+    (λ c κs. search needs) (λ c κs. search needs) (λ c κs. search needs) (λ c κs. search needs) (λ c κs. search needs) (λ c κs. search needs)
+    (λ c κs. search needs) (λ c κs. search needs) (λ c κs. search needs) (λ c κs. search needs) (λ c κs. search needs) (λ c κs. search needs) returns
+    (λ c. simp (c .before .match .keys2))
+    (λ c. simp (c .match .keys3))
+    (λ c. simp (c .oscillator-change .ensures, c .before .word .ensures, c .before .before .match .keys4))
+    (λ c. simp (c .pll-poll .ensures, c .before .word2 .ensures, c .before .before .match .keys5))
+    (λ c. simp (c .io-change .ensures, c .before .word3 .ensures, c .before .before .match .keys6))
+    (λ c. simp (c .nominal-change .ensures, c .before .word4 .ensures, c .before .before .match .keys7))
+    (λ c. simp (c .data-change .ensures, c .before .word5 .ensures, c .before .before .match .keys8))
+    (λ c. simp (c .delay-change .ensures, c .before .word6 .ensures, c .before .before .match .keys9))
+    (λ c. simp (c .stef-change .ensures, c .before .match .keys10))
+    (λ c. simp (c .txqen-change .ensures, c .before .match .keys11))
+    (λ c. simp (c .counter-item .ensures, c .before .word7 .ensures, c .before .before .match .keys12))
+    (λ c. simp (c .dncnt-item .ensures, c .before .word8 .ensures, c .before .before .match .keys13))
+    (λ c. simp (c .rtxat-change .ensures, c .before .match .keys14))
+    (λ c. let e : c .before .before .before .args .i ≡ 14 = omega arith in simp (c .interrupt-change .ensures, c .before .word9 .ensures, e)))

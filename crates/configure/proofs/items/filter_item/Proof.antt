@@ -1,23 +1,19 @@
+-- `configure::items::filter_item` meets its contract.
+-- Assumes nothing.
+use mathlib.Core.Path.{_≡_}
+use native.Mathlib.Omega.{arith}
+use borrow.Author.Needs.{needs}
+use Rattle.configure.specs.Numbers.{itemsFor}
 use Rattle.configure.proofs.items.filter_item.Statement.{statement}
 use Rattle.configure.proofs.items.filter_item.Tie as tie
-use Rattle.configure.proofs.items.filter_item.Reads as reads
-use Rattle.configure.proofs.items.filter_item.Lts as lts
-
--- src/items.rt:121:1
-returns : tie.Need-returns
-returns c = ?
-
--- src/items.rt:121:1
-returns-2 : tie.Need-returns-2
-returns-2 c = ?
-
--- src/items.rt:121:1
-returns-3 : tie.Need-returns-3
-returns-3 c = ?
-
--- src/items.rt:121:1
-returns-4 : tie.Need-returns-4
-returns-4 c = ?
 
 pub filter-item-spec : {M : Type 1} → statement M
-filter-item-spec = tie.close (tie.spec returns returns-2 returns-3 returns-4)
+unfolding itemsFor
+filter-item-spec =
+    tie.close
+    (tie.spec (λ c κs. search needs) (λ c κs. search needs) (λ c κs. search needs) (λ c κs. search needs) (λ c κs. search needs)
+    (λ c κs. search needs) (λ c κs. search needs)
+    (λ c. simp (c .off-change .ensures, c .before .match .keys1))
+    (λ c. simp (c .object-change .ensures, c .before .word .ensures, c .before .before .match .keys2))
+    (λ c. simp (c .mask-change .ensures, c .before .word2 .ensures, c .before .before .match .keys3))
+    (λ c. let e : c .before .before .before .args .i ≡ 3 = omega arith in simp (c .on-change .ensures, c .before .word3 .ensures, e)))

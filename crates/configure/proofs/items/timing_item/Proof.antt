@@ -1,19 +1,18 @@
+-- `configure::items::timing_item` meets its contract.
+-- Assumes nothing.
+use mathlib.Core.Path.{_≡_}
+use native.Mathlib.Omega.{arith}
+use borrow.Author.Needs.{needs}
+use Rattle.configure.specs.Numbers.{itemsFor}
 use Rattle.configure.proofs.items.timing_item.Statement.{statement}
 use Rattle.configure.proofs.items.timing_item.Tie as tie
-use Rattle.configure.proofs.items.timing_item.Reads as reads
-use Rattle.configure.proofs.items.timing_item.Lts as lts
-
--- src/items.rt:110:1
-returns : tie.Need-returns
-returns c = ?
-
--- src/items.rt:110:1
-returns-2 : tie.Need-returns-2
-returns-2 c = ?
-
--- src/items.rt:110:1
-returns-3 : tie.Need-returns-3
-returns-3 c = ?
 
 pub timing-item-spec : {M : Type 1} → statement M
-timing-item-spec = tie.close (tie.spec returns returns-2 returns-3)
+unfolding itemsFor
+timing-item-spec =
+    tie.close
+    (tie.spec (λ c κs. search needs) (λ c κs. search needs) (λ c κs. search needs) (λ c κs. search needs) (λ c κs. search needs)
+    (λ c κs. search needs)
+    (λ c. simp (c .nominal-change .ensures, c .before .word .ensures, c .before .before .match .keys1))
+    (λ c. simp (c .data-change .ensures, c .before .word2 .ensures, c .before .before .match .keys2))
+    (λ c. let e : c .before .before .before .args .i ≡ 2 = omega arith in simp (c .delay-change .ensures, c .before .word3 .ensures, e)))
