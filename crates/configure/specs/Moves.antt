@@ -8,11 +8,13 @@ use lib.Dec.{eqb}
 use lib.ListN.{length}
 use Rattle.laws.specs.If.{if_then_else_}
 use Rattle.spi.specs.declared.refusal.Refusal.{Refusal}
+use Rattle.plan.specs.declared.change.Change.{Change}
 use Rattle.plan.specs.declared.item.Poll.{Poll}
 use Rattle.plan.specs.declared.item.Item.{Item}
 use Rattle.plan.specs.declared.plan.PlanAt.{PlanAt}
 use Rattle.plan.specs.declared.plan.Move.{Move}
 use Rattle.plan.specs.Step.{begun}
+use Rattle.configure.specs.declared.planned.PlanKind.{PlanKind}
 use Rattle.configure.specs.declared.planned.PlanStage.{PlanStage}
 use Rattle.configure.specs.declared.planned.PlanNumbers.{PlanNumbers}
 use Rattle.configure.specs.Numbers.{word, itemsIn}
@@ -56,6 +58,11 @@ passed c next = record { kind = c .kind; stage = c .stage; n = c .n; more = c .m
 
 abbrev pub atItem : PlanNumbers → ℕ → Item → PlanNumbers
 atItem c next item = atPlace (passed c next) (begun item)
+
+-- a plan that begins with a change
+abbrev pub begunWith : PlanKind → ℕ → Change → PlanNumbers
+begunWith kind n x =
+    record { kind = kind; stage = PlanStage.Read; n = n; more = 0; next = 1; m = x .address; w = 0; a = x .keep; b = x .set; why = Refusal.SpiRead }
 
 -- the item under way is done
 abbrev pub isNext : PlanStage → Bool

@@ -9,8 +9,8 @@ ghost use Rattle.spi.specs.declared.refusal.Done.{Done};
 ghost use Rattle.changes.specs.Changes.{timingFits};
 ghost use Rattle.areas.specs.Areas.{filterCheck};
 ghost use Rattle.adjust.specs.Calls.{failed, setOpMode, configureOsc, configureIo, timingItems, configureBitTiming, configureFifo, disableFilter, filterItems, configureFilter};
-ghost use Rattle.configure.specs.declared.planned.PlanStage.{PlanStage};
 ghost use Rattle.configure.specs.Numbers.{planIn, Stands};
+ghost use Rattle.configure.specs.Moves.{begunWith};
 use crate::PlanKind;
 use crate::PlanNumbers;
 use crate::PlanStage;
@@ -45,7 +45,7 @@ pub fn refused_plan(why: Refusal) -> PlanNumbers
 
 // A plan whose first item is a change.
 pub fn plan_with(kind: PlanKind, n: u8, x: Change) -> PlanNumbers
-    ensures { λ r. ⌜ r ≡ record { kind = kind; stage = PlanStage.Read; n = n; more = 0; next = 1; m = x .address; w = 0; a = x .keep; b = x .set; why = Refusal.SpiRead } ⌝ }
+    ensures { λ r. ⌜ r ≡ begunWith kind n x ⌝ }
 {
     PlanNumbers {
         kind: kind,
