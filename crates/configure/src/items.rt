@@ -186,10 +186,7 @@ fn configure_item(c: PlanNumbers, i: u8, body: &[u8; 76]) -> Item
 {
     match i {
         0 => Item::Change(changes::mode_change(changes::mode_bits(4))),
-        1 => Item::Poll(
-            Poll::Mode(c.n as u32, Refusal::ConfigurationModeTimeout),
-            4,
-        ),
+        1 => Item::Poll(Poll::Mode(c.n as u32, Refusal::ConfigurationModeTimeout), 4),
         2 => Item::Echo,
         3 => Item::Change(changes::oscillator_change(word(body, 0))),
         4 => pll_poll(word(body, 0)),
