@@ -1,5 +1,5 @@
-// The changes that configure a FIFO and a filter: the bits that they set, and the change of a register to these bits. And that which requests a
-// transmission.
+// The changes that configure a FIFO and a filter: the bits that they set, and the change of a register to these bits, where the bits that are
+// kept are all but those of its fields. And the change that requests a transmission.
 ghost use mathlib.Core.Path.{_≡_};
 ghost use mathlib.Core.Bool.{true, not, _&&_};
 ghost use Rattle.laws.specs.If.{if_then_else_};
@@ -7,8 +7,9 @@ ghost use Rattle.spi.specs.declared.refusal.Refusal.{Refusal};
 ghost use Rattle.spi.specs.declared.refusal.Done.{Done};
 ghost use Prim.Native.Nat.{_-_, _^_, _<_, _≤_};
 ghost use Rattle.header.specs.Header.{topId};
+ghost use Rattle.field.specs.Field.{Fits};
 ghost use Rattle.field.specs.Settings.{_:=_, fieldsOf, settings};
-ghost use Rattle.fifo.specs.Control.{CiFIFOCON, TXREQ, FSIZE, PLSIZE};
+ghost use Rattle.fifo.specs.Control.{CiFIFOCON, TXREQ, TXPRI, TXAT, FSIZE, PLSIZE};
 ghost use mathlib.Core.List.{[], _∷_};
 ghost use Rattle.plan.specs.Change.{changeOf, cleared};
 ghost use Rattle.areas.specs.Areas.{directionSettings, directionFits, fifoFits, fifoChange, offChange, onChange, onTo, extendedOnly, oneKind, objectSettings, objectTo, maskSettings, maskTo, isIdentifier, filterCheck};
@@ -62,7 +63,7 @@ pub fn fifo_fits(c: FifoConfiguration) -> bool
 }
 
 fn with_transmit(control: FifoControl, t: TxFifo) -> FifoControl
-    requires { ⌜ (t .txpri < 32) × (t .txat < 4) ⌝ }
+    requires { ⌜ Fits TXPRI (t .txpri) × Fits TXAT (t .txat) ⌝ }
     ensures { λ r. ⌜ r .0 ≡ settings (directionSettings (FifoMode.Transmit t)) (control .0) ⌝ }
 {
     control
@@ -102,20 +103,25 @@ fn with_direction(control: FifoControl, mode: FifoMode) -> FifoControl
 fn fifo_keep(mode: FifoMode) -> u32
     ensures { λ r. ⌜ r ≡ cleared (FSIZE ∷ PLSIZE ∷ fieldsOf (directionSettings mode)) (2 ^ 32 - 1) ⌝ }
 {
-    let both = FifoControl(0xFFFF_FFFF)
+    let kept = FifoControl(0xFFFF_FFFF)
         .with_fsize(0)
         .with_plsize(0)
-        .with_txen(false)
-        .with_tferffie(false)
-        .with_tfhrfhie(false)
-        .with_tfnrfnie(false);
+        .with_txen(false);
     match mode {
-        FifoMode::Transmit(_) => both.with_txpri(0)
+        FifoMode::Transmit(_) => kept.with_txpri(0)
             .with_txat(0)
             .with_rtren(false)
             .with_txatie(false)
+            .with_tferffie(false)
+            .with_tfhrfhie(false)
+            .with_tfnrfnie(false)
             .0,
-        FifoMode::Receive(_) => both.with_rxtsen(false).with_rxovie(false).0,
+        FifoMode::Receive(_) => kept.with_rxtsen(false)
+            .with_rxovie(false)
+            .with_tferffie(false)
+            .with_tfhrfhie(false)
+            .with_tfnrfnie(false)
+            .0,
     }
 }
 

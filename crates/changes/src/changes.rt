@@ -1,5 +1,5 @@
 // The change of each register that the mode, oscillator, IO and bit timing calls and `configure` make: the bits that it sets, and the change
-// of a register to these bits.
+// of a register to these bits, where the bits that are kept are all but those of its fields.
 ghost use mathlib.Core.Path.{_≡_};
 ghost use mathlib.Core.Bool.{_&&_};
 ghost use Rattle.field.specs.Field.{Fits};
