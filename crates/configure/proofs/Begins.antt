@@ -1,7 +1,7 @@
 -- How the calls that are plans begin: the words put into the body are the bits of their changes.
 -- Assumes nothing.
 use Prim.Native.Nat.{ℕ, _/_, _≤_, _<_}
-use mathlib.Core.Path.{_≡_, refl, sym, ap, _∙_}
+use mathlib.Core.Path.{_≡_, refl, ap, _∙_}
 use mathlib.Core.Bool.{Bool, true, false, not, _&&_}
 use mathlib.Core.List.{List, [], _∷_}
 use native.Mathlib.Omega.{arith}
@@ -37,13 +37,12 @@ use Rattle.changes.specs.declared.settings.OscillatorConfiguration.{OscillatorC
 use Rattle.changes.specs.declared.settings.BitTimeConfiguration.{BitTimeConfiguration}
 use Rattle.changes.specs.declared.settings.Settings.{Settings}
 use Rattle.areas.specs.declared.settings.FilterConfiguration.{FilterConfiguration}
-use Rattle.changes.specs.Changes.{whenAsked, modeChange, oscillatorChange, oscillatorSettings, oscillatorTo, ioChange, ioSettings, ioTo, nominalChange, nominalSettings, nominalTo, dataChange, dataSettings, dataTo, delayChange, delaySettings, delayTo, stefChange, txqenChange, counterChange, dncntChange, dncntSettings, dncntTo, rtxatChange, interruptChange, interruptTo}
+use Rattle.changes.specs.Changes.{whenAsked, modeChange, oscillatorChange, oscillatorSettings, ioChange, ioSettings, nominalChange, nominalSettings, nominalTo, dataChange, dataSettings, dataTo, delayChange, delaySettings, delayTo, stefChange, txqenChange, counterChange, dncntChange, dncntSettings, rtxatChange, interruptChange, interruptTo}
 use Rattle.changes.proofs.Enables.{enables-is, interrupt-to}
 use Rattle.areas.specs.Areas.{offChange, objectChange, objectSettings, objectTo, maskChange, maskSettings, maskTo, onChange, onSettings, onTo, isIdentifier, isFilter, filterCheck}
 use Rattle.adjust.specs.Calls.{timingItems, filterItems}
 use Rattle.configure.specs.Whole.{configureItems}
 use Rattle.configure.specs.declared.planned.PlanKind.{PlanKind}
-use Rattle.configure.specs.declared.planned.PlanNumbers.{PlanNumbers}
 use Rattle.configure.specs.Numbers.{failedIn, word, itemsFor, planIn}
 use Rattle.configure.specs.Moves.{begunWith}
 
@@ -144,7 +143,7 @@ module _ (s : Settings) (x : Change) (body : List ℕ)
       let dncnt = made (CiCON .address 0) (dncntSettings (s .dncnt)) (word 5 body) k in
       let interrupt = ap interruptTo q ∙ interrupt-to s in
       λ i. Item.Change (modeChange 4) ∷ Item.Poll (Poll.Mode 4 Refusal.ConfigurationModeTimeout) 4 ∷ Item.Echo
-        ∷ Item.Change (oscillator i) ∷ whenAsked (pll i) (Item.Poll Poll.Pll 2) ∷ Item.Change (io i)
-        ∷ Item.Change (nominal i) ∷ Item.Change (fast i) ∷ Item.Change (delay i)
-        ∷ Item.Change stefChange ∷ Item.Change txqenChange ∷ whenAsked (counter i) (Item.Change counterChange)
-        ∷ (if none i then Item.Nothing else Item.Change (dncnt i)) ∷ Item.Change rtxatChange ∷ Item.Change (interrupt i) ∷ []
+      ∷ Item.Change (oscillator i) ∷ whenAsked (pll i) (Item.Poll Poll.Pll 2) ∷ Item.Change (io i)
+      ∷ Item.Change (nominal i) ∷ Item.Change (fast i) ∷ Item.Change (delay i)
+      ∷ Item.Change stefChange ∷ Item.Change txqenChange ∷ whenAsked (counter i) (Item.Change counterChange)
+      ∷ (if none i then Item.Nothing else Item.Change (dncnt i)) ∷ Item.Change rtxatChange ∷ Item.Change (interrupt i) ∷ []

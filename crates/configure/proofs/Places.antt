@@ -9,7 +9,6 @@ use lib.Dec.{eqb}
 use lib.ListN.{length, getD, drop, replicate, length-append, length-replicate, List·getD-eq-default}
 use Rattle.laws.specs.If.{if_then_else_}
 use Rattle.laws.proofs.Choice.{by-if}
-use Rattle.spi.specs.declared.refusal.Refusal.{Refusal}
 use Rattle.plan.specs.declared.change.Change.{Change}
 use Rattle.plan.specs.declared.item.Poll.{Poll}
 use Rattle.plan.specs.declared.item.Item.{Item}

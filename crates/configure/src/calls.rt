@@ -119,7 +119,13 @@ fn timing_plan(b: BitTimeConfiguration, body: &mut [u8; 76]) -> PlanNumbers
     let n = b.nominal;
     let d = b.data;
     let first = changes::nominal_bits(n);
-    put_words(body, 0, first, changes::data_bits(d), changes::delay_bits(d));
+    put_words(
+        body,
+        0,
+        first,
+        changes::data_bits(d),
+        changes::delay_bits(d),
+    );
     plan_with(PlanKind::Timing, 0, changes::nominal_change(first))
 }
 

@@ -1,6 +1,6 @@
 // The items of a plan, each worked out from its numbers and the words in the body.
 ghost use mathlib.Core.Path.{_≡_};
-ghost use Prim.Native.Nat.{_<_};
+ghost use Prim.Native.Nat.{_≤_, _<_};
 ghost use lib.Dec.{eqb};
 ghost use lib.ListN.{length, getD};
 ghost use Rattle.laws.specs.If.{if_then_else_};
@@ -151,29 +151,47 @@ fn dncnt_item(bits: u32) -> Item
     }
 }
 
+// Of `configure`: counter, DNCNT, RTXAT, interrupts.
+fn last_item(c: PlanNumbers, i: u8, body: &[u8; 76]) -> Item
+    requires { ⌜ (11 ≤ i) × (i < 15) ⌝ }
+    ensures { λ r. ⌜ r ≡ getD (itemsFor PlanKind.Configure (c .n) (changeIn c) (now (body .entry))) i Item.Nothing ⌝ }
+{
+    match i {
+        11 => counter_item(word(body, 6)),
+        12 => dncnt_item(word(body, 5)),
+        13 => Item::Change(changes::rtxat_change()),
+        _ => Item::Change(changes::interrupt_change(word(body, 6))),
+    }
+}
+
+// Bit timing, STEF and TXQEN off, and the last ones.
+fn later_item(c: PlanNumbers, i: u8, body: &[u8; 76]) -> Item
+    requires { ⌜ (6 ≤ i) × (i < 15) ⌝ }
+    ensures { λ r. ⌜ r ≡ getD (itemsFor PlanKind.Configure (c .n) (changeIn c) (now (body .entry))) i Item.Nothing ⌝ }
+{
+    match i {
+        6 => Item::Change(changes::nominal_change(word(body, 2))),
+        7 => Item::Change(changes::data_change(word(body, 3))),
+        8 => Item::Change(changes::delay_change(word(body, 4))),
+        9 => Item::Change(changes::stef_change()),
+        10 => Item::Change(changes::txqen_change()),
+        _ => last_item(c, i, body),
+    }
+}
+
+// Configuration mode, the echo, oscillator and IO, and the later ones.
 fn configure_item(c: PlanNumbers, i: u8, body: &[u8; 76]) -> Item
     requires { ⌜ i < 15 ⌝ }
     ensures { λ r. ⌜ r ≡ getD (itemsFor PlanKind.Configure (c .n) (changeIn c) (now (body .entry))) i Item.Nothing ⌝ }
 {
     match i {
         0 => Item::Change(changes::mode_change(changes::mode_bits(4))),
-        1 => Item::Poll(
-            Poll::Mode(c.n as u32, Refusal::ConfigurationModeTimeout),
-            4,
-        ),
+        1 => Item::Poll(Poll::Mode(c.n as u32, Refusal::ConfigurationModeTimeout), 4),
         2 => Item::Echo,
         3 => Item::Change(changes::oscillator_change(word(body, 0))),
         4 => pll_poll(word(body, 0)),
         5 => Item::Change(changes::io_change(word(body, 1))),
-        6 => Item::Change(changes::nominal_change(word(body, 2))),
-        7 => Item::Change(changes::data_change(word(body, 3))),
-        8 => Item::Change(changes::delay_change(word(body, 4))),
-        9 => Item::Change(changes::stef_change()),
-        10 => Item::Change(changes::txqen_change()),
-        11 => counter_item(word(body, 6)),
-        12 => dncnt_item(word(body, 5)),
-        13 => Item::Change(changes::rtxat_change()),
-        _ => Item::Change(changes::interrupt_change(word(body, 6))),
+        _ => later_item(c, i, body),
     }
 }
 

@@ -36,6 +36,9 @@ use spi::Ask;
 use spi::Done;
 use spi::OneWord;
 use spi::Refusal;
+use spi::done_reply;
+use spi::wait_reply;
+use spi::word_reply;
 
 // The RAM's first word, where the echo is made.
 const ECHO: u16 = 0x400;
@@ -157,34 +160,18 @@ fn next_phase(c: PlanNumbers, answer: Answer, rx: &[u8]) -> PlanNumbers
     let stage = c.stage;
     let failed = failed_in(kind);
     match stage {
-        PlanStage::Read => when_read(c, spi::word_reply(failed, answer, rx)),
-        PlanStage::Write => when_done(
-            c,
-            spi::done_reply(failed, answer, rx.len(), 0),
-            PlanStage::Next,
-        ),
-        PlanStage::ModePoll => when_polled(
-            c,
-            mode_poll(c),
-            spi::word_reply(failed, answer, rx),
-        ),
-        PlanStage::ModeWait => when_done(
-            c,
-            spi::wait_reply(answer, rx.len()),
-            PlanStage::ModePoll,
-        ),
-        PlanStage::PllPoll => when_polled(c, Poll::Pll, spi::word_reply(failed, answer, rx)),
-        PlanStage::PllWait => when_done(
-            c,
-            spi::wait_reply(answer, rx.len()),
-            PlanStage::PllPoll,
-        ),
+        PlanStage::Read => when_read(c, word_reply(failed, answer, rx)),
+        PlanStage::Write => when_done(c, done_reply(failed, answer, rx.len(), 0), PlanStage::Next),
+        PlanStage::ModePoll => when_polled(c, mode_poll(c), word_reply(failed, answer, rx)),
+        PlanStage::ModeWait => when_done(c, wait_reply(answer, rx.len()), PlanStage::ModePoll),
+        PlanStage::PllPoll => when_polled(c, Poll::Pll, word_reply(failed, answer, rx)),
+        PlanStage::PllWait => when_done(c, wait_reply(answer, rx.len()), PlanStage::PllPoll),
         PlanStage::EchoWrite => when_done(
             c,
-            spi::done_reply(failed, answer, rx.len(), 0),
+            done_reply(failed, answer, rx.len(), 0),
             PlanStage::EchoRead,
         ),
-        PlanStage::EchoRead => when_echoed(c, spi::word_reply(failed, answer, rx)),
+        PlanStage::EchoRead => when_echoed(c, word_reply(failed, answer, rx)),
         PlanStage::Next => refuse(c, Refusal::WrongAnswer),
         PlanStage::Done => refuse(c, Refusal::WrongAnswer),
         PlanStage::Refused => refuse(c, Refusal::WrongAnswer),

@@ -13,7 +13,7 @@ use Rattle.configure.proofs.calls.configure_fifo.Tie as tie
 
 returns : tie.Need-returns
 unfolding configureFifo itemsFor
-returns c = λ body.
+returns c body =
     let fits = c .before .before in
     let known = fits .before .before in
     simp (c .plan-with .ensures, c .before .fifo-change .ensures, sym (fits .before .fifo-fits .ensures) ∙ fits .if2 .taken, sym (known .before .is-fifo .ensures) ∙ known .if1 .taken)

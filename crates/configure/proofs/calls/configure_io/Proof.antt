@@ -12,7 +12,7 @@ use Rattle.configure.proofs.calls.configure_io.Tie as tie
 
 returns : tie.Need-returns
 unfolding itemsFor
-returns c = λ body.
+returns c body =
     let i = c .before .before .before .args .c in
     let x = c .before .io-change .ensures ∙ made (IOCON .address 0) (ioSettings i) _ (c .before .before .io-bits .ensures) in
     simp (c .plan-with .ensures, x) (begins-with PlanKind.Io 0 (ioChange i) body _ refl)

@@ -15,7 +15,7 @@ use Rattle.configure.proofs.calls.configure_osc.Tie as tie
 
 returns : tie.Need-returns
 unfolding itemsFor
-returns c = λ body.
+returns c body =
     let o = c .before .before .before .args .o in
     let x = c .before .oscillator-change .ensures ∙ made (OSC .address 0) (oscillatorSettings o) _ (c .before .before .oscillator-bits .ensures) in
     simp (c .plan-with .ensures, x)

@@ -13,7 +13,7 @@ use Rattle.configure.proofs.calls.filter_plan.Tie as tie
 
 returns : tie.Need-returns
 unfolding itemsFor
-returns c = λ c.
+returns c =
     let put = c .before .before in
     let a = put .before .before .before .before .before .before .before .args in
     simp (c .plan-with .ensures, c .before .off-change .ensures)

@@ -1,7 +1,6 @@
 -- `configure::calls::refused_plan` meets its contract.
 -- Assumes nothing.
 use mathlib.Core.Path.{refl}
-use borrow.Author.Needs.{needs}
 use Rattle.configure.specs.Numbers.{itemsFor, planIn}
 use Rattle.configure.proofs.calls.refused_plan.Statement.{statement}
 use Rattle.configure.proofs.calls.refused_plan.Tie as tie

@@ -14,7 +14,7 @@ use Rattle.configure.proofs.calls.set_op_mode.Tie as tie
 
 returns : tie.Need-returns
 unfolding setOpMode itemsFor
-returns c = λ body.
+returns c body =
     let m = c .before .before .before .before .args .m in
     let x = c .before .mode-change .ensures ∙ made (CiCON .address 0) (modeSettings m) _ (c .before .before .mode-bits .ensures) in
     simp (c .plan-with .ensures, x, lt-ltb _ _ (c .before .before .before .if1 .taken)) (begins-with PlanKind.Mode m (modeChange m) body _ refl)

@@ -13,9 +13,9 @@ use Rattle.configure.proofs.calls.timing_plan.Tie as tie
 
 returns : tie.Need-returns
 unfolding itemsFor
-returns c = λ c.
+returns c =
     let put = c .before .before in
-    let b = put .before .before .before .before .before .before .args .b in
+    let b = put .before .before .before .before .before .before .before .args .b in
     let nominal = put .before .before .before .before .nominal-bits .ensures in
     let x = c .before .nominal-change .ensures ∙ made (CiNBTCFG .address 0) (nominalSettings (b .nominal)) _ nominal in
     simp (c .plan-with .ensures, x)

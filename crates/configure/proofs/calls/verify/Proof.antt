@@ -1,7 +1,6 @@
 -- `configure::calls::verify` meets its contract.
 -- Assumes nothing.
 use mathlib.Core.Path.{refl}
-use borrow.Author.Needs.{needs}
 use Rattle.plan.specs.Step.{arrivedAt}
 use Rattle.configure.specs.Numbers.{itemsFor, planIn}
 use Rattle.configure.proofs.calls.verify.Statement.{statement}

@@ -1,9 +1,7 @@
 -- `configure::whole::configure_all` meets its contract.
 -- Assumes nothing.
-use mathlib.Core.Path.{_≡_, refl, sym, _∙_}
-use mathlib.Core.Bool.{Bool, true, false, _&&_}
+use mathlib.Core.Path.{sym, _∙_}
 use borrow.Author.Needs.{needs}
-use Rattle.laws.specs.If.{if_then_else_}
 use Rattle.changes.proofs.Tests.{settings-told}
 use Rattle.configure.specs.Whole.{configureAll}
 use Rattle.configure.proofs.Begins.{one-test}

@@ -11,7 +11,7 @@ use Rattle.configure.proofs.whole.whole.Statement.{statement}
 use Rattle.configure.proofs.whole.whole.Tie as tie
 
 returns : tie.Need-returns
-returns c = λ c.
+returns c =
     let last = c .before .before .before in
     let sixth = last .before .before .before in
     let three = sixth .before .before .before in
