@@ -42,7 +42,7 @@ use Rattle.changes.proofs.Enables.{enables-is, interrupt-to}
 use Rattle.areas.specs.Areas.{offChange, objectChange, objectSettings, objectTo, maskChange, maskSettings, maskTo, onChange, onSettings, onTo, isIdentifier, isFilter, filterCheck}
 use Rattle.adjust.specs.Calls.{timingItems, filterItems}
 use Rattle.configure.specs.Whole.{configureItems}
-use Rattle.configure.specs.declared.numbers.PlanKind.{PlanKind}
+use Rattle.configure.specs.declared.planned.PlanKind.{PlanKind}
 use Rattle.configure.specs.Numbers.{failedIn, word, itemsFor, planIn}
 use Rattle.configure.specs.Moves.{begunWith}
 

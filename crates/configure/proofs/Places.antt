@@ -18,8 +18,8 @@ use Rattle.plan.specs.declared.plan.Plan.{Plan}
 use Rattle.plan.specs.Item.{isThere}
 use Rattle.plan.specs.Step.{begun, placeFrom, arrivedAt, slots, filled}
 use Rattle.plan.proofs.Places.{place-at, place-end, arrive-here, arrive-end}
-use Rattle.configure.specs.declared.numbers.PlanKind.{PlanKind}
-use Rattle.configure.specs.declared.numbers.PlanNumbers.{PlanNumbers}
+use Rattle.configure.specs.declared.planned.PlanKind.{PlanKind}
+use Rattle.configure.specs.declared.planned.PlanNumbers.{PlanNumbers}
 use Rattle.configure.specs.Numbers.{failedIn, lateIn, changeIn, itemsFor, itemsIn, planIn}
 use Rattle.configure.specs.Moves.{atItem}
 

@@ -19,8 +19,8 @@ use Rattle.plan.specs.declared.plan.Plan.{Plan}
 use Rattle.plan.specs.declared.plan.Move.{Move}
 use Rattle.plan.specs.Item.{shown, echoWord}
 use Rattle.plan.specs.Step.{afterPoll, afterEcho, stopped, nextAt, arrivedAt, filled, movedTo, stepOf}
-use Rattle.configure.specs.declared.numbers.PlanStage.{PlanStage}
-use Rattle.configure.specs.declared.numbers.PlanNumbers.{PlanNumbers}
+use Rattle.configure.specs.declared.planned.PlanStage.{PlanStage}
+use Rattle.configure.specs.declared.planned.PlanNumbers.{PlanNumbers}
 use Rattle.configure.specs.Numbers.{failedIn, pollIn, itemsIn, placeAt, planIn}
 use Rattle.configure.specs.Moves.{atPlace, atMove, isNext}
 

@@ -14,9 +14,9 @@ use Rattle.plan.specs.declared.item.Item.{Item}
 use Rattle.plan.specs.declared.plan.PlanAt.{PlanAt}
 use Rattle.plan.specs.declared.plan.Move.{Move}
 use Rattle.plan.specs.Step.{begun}
-use Rattle.configure.specs.declared.numbers.PlanKind.{PlanKind}
-use Rattle.configure.specs.declared.numbers.PlanStage.{PlanStage}
-use Rattle.configure.specs.declared.numbers.PlanNumbers.{PlanNumbers}
+use Rattle.configure.specs.declared.planned.PlanKind.{PlanKind}
+use Rattle.configure.specs.declared.planned.PlanStage.{PlanStage}
+use Rattle.configure.specs.declared.planned.PlanNumbers.{PlanNumbers}
 use Rattle.configure.specs.Numbers.{word, itemsIn}
 
 -- another phase of the item under way

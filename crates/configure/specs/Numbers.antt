@@ -19,9 +19,9 @@ use Rattle.plan.specs.declared.plan.Plan.{Plan}
 use Rattle.plan.specs.Step.{filled}
 use Rattle.changes.specs.Changes.{whenAsked, modeChange, oscillatorTo, ioTo, nominalTo, dataTo, delayTo, stefChange, txqenChange, counterChange, dncntTo, rtxatChange, interruptTo}
 use Rattle.areas.specs.Areas.{offChange, objectTo, maskTo, onTo}
-use Rattle.configure.specs.declared.numbers.PlanKind.{PlanKind}
-use Rattle.configure.specs.declared.numbers.PlanStage.{PlanStage}
-use Rattle.configure.specs.declared.numbers.PlanNumbers.{PlanNumbers}
+use Rattle.configure.specs.declared.planned.PlanKind.{PlanKind}
+use Rattle.configure.specs.declared.planned.PlanStage.{PlanStage}
+use Rattle.configure.specs.declared.planned.PlanNumbers.{PlanNumbers}
 
 -- what a failed exchange means to a plan of a kind
 abbrev pub failedIn : PlanKind → Refusal

@@ -14,7 +14,7 @@ ghost use Rattle.configure.specs.Moves.{begunWith};
 use crate::PlanKind;
 use crate::PlanNumbers;
 use crate::PlanStage;
-use crate::items::put_words;
+use crate::listed::put_words;
 use areas::FifoConfiguration;
 use areas::FilterConfiguration;
 use changes::BitTimeConfiguration;

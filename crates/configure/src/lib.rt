@@ -1,10 +1,10 @@
 // The calls that are plans, a list of changes, polls and echoes: modify, request, the short echo test and those that set the chip
 // up. Each is a few numbers; three of them put words into the body that they are lent.
 mod calls;
-mod items;
+mod listed;
 mod machine;
 mod moves;
-mod numbers;
+mod planned;
 mod whole;
 
 pub use areas::FifoConfiguration;
@@ -32,7 +32,7 @@ pub use changes::Settings;
 pub use machine::plan_ask;
 pub use machine::plan_outcome;
 pub use machine::plan_step;
-pub use numbers::PlanKind;
-pub use numbers::PlanNumbers;
-pub use numbers::PlanStage;
+pub use planned::PlanKind;
+pub use planned::PlanNumbers;
+pub use planned::PlanStage;
 pub use whole::configure_all;

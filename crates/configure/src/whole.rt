@@ -12,8 +12,8 @@ use crate::PlanKind;
 use crate::PlanNumbers;
 use crate::calls::plan_with;
 use crate::calls::refused_plan;
-use crate::items::put_word;
-use crate::items::put_words;
+use crate::listed::put_word;
+use crate::listed::put_words;
 use changes::Settings;
 use spi::Refusal;
 

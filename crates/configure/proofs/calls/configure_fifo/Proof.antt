@@ -5,7 +5,7 @@ use native.Mathlib.Omega.{arith}
 use borrow.Author.Needs.{needs}
 use Rattle.areas.specs.Areas.{fifoChange}
 use Rattle.adjust.specs.Calls.{configureFifo}
-use Rattle.configure.specs.declared.numbers.PlanKind.{PlanKind}
+use Rattle.configure.specs.declared.planned.PlanKind.{PlanKind}
 use Rattle.configure.specs.Numbers.{itemsFor}
 use Rattle.configure.proofs.Begins.{begins-with, fifo-number}
 use Rattle.configure.proofs.calls.configure_fifo.Statement.{statement}

@@ -4,7 +4,7 @@ use mathlib.Core.Path.{refl, _∙_}
 use borrow.Author.Needs.{needs}
 use Rattle.chip.specs.IoControl.{IOCON}
 use Rattle.changes.specs.Changes.{ioChange, ioSettings}
-use Rattle.configure.specs.declared.numbers.PlanKind.{PlanKind}
+use Rattle.configure.specs.declared.planned.PlanKind.{PlanKind}
 use Rattle.configure.specs.Numbers.{itemsFor}
 use Rattle.configure.proofs.Begins.{begins-with, made}
 use Rattle.configure.proofs.calls.configure_io.Statement.{statement}

@@ -7,7 +7,7 @@ use Rattle.chip.specs.OscillatorControl.{OSC}
 use Rattle.plan.specs.declared.item.Poll.{Poll}
 use Rattle.plan.specs.declared.item.Item.{Item}
 use Rattle.changes.specs.Changes.{whenAsked, oscillatorChange, oscillatorSettings}
-use Rattle.configure.specs.declared.numbers.PlanKind.{PlanKind}
+use Rattle.configure.specs.declared.planned.PlanKind.{PlanKind}
 use Rattle.configure.specs.Numbers.{itemsFor}
 use Rattle.configure.proofs.Begins.{begins-with, made, pll-asked}
 use Rattle.configure.proofs.calls.configure_osc.Statement.{statement}

@@ -5,7 +5,7 @@ use native.Mathlib.Omega.{arith}
 use borrow.Author.Needs.{needs}
 use Rattle.areas.specs.Areas.{offChange}
 use Rattle.areas.proofs.Tests.{filter-told}
-use Rattle.configure.specs.declared.numbers.PlanKind.{PlanKind}
+use Rattle.configure.specs.declared.planned.PlanKind.{PlanKind}
 use Rattle.configure.specs.Numbers.{itemsFor}
 use Rattle.configure.proofs.Begins.{begins-with, filter-number, filter-made}
 use Rattle.configure.proofs.calls.filter_plan.Statement.{statement}

@@ -5,7 +5,7 @@ use mathlib.Core.List.{[]}
 use borrow.Author.Tests.{le-ltb, lt-ltb}
 use borrow.Author.Needs.{needs}
 use Rattle.plan.specs.Prepared.{modify}
-use Rattle.configure.specs.declared.numbers.PlanKind.{PlanKind}
+use Rattle.configure.specs.declared.planned.PlanKind.{PlanKind}
 use Rattle.configure.specs.Numbers.{itemsFor}
 use Rattle.configure.proofs.Begins.{begins-with}
 use Rattle.configure.proofs.calls.modify.Statement.{statement}

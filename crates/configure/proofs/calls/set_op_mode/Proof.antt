@@ -6,7 +6,7 @@ use borrow.Author.Needs.{needs}
 use Rattle.configuration.specs.CanControl.{CiCON}
 use Rattle.changes.specs.Changes.{modeChange, modeSettings}
 use Rattle.adjust.specs.Calls.{setOpMode}
-use Rattle.configure.specs.declared.numbers.PlanKind.{PlanKind}
+use Rattle.configure.specs.declared.planned.PlanKind.{PlanKind}
 use Rattle.configure.specs.Numbers.{itemsFor}
 use Rattle.configure.proofs.Begins.{begins-with, made}
 use Rattle.configure.proofs.calls.set_op_mode.Statement.{statement}

@@ -5,7 +5,7 @@ use borrow.Author.Needs.{needs}
 use Rattle.bit_timing.specs.Nominal.{CiNBTCFG}
 use Rattle.changes.specs.Changes.{nominalChange, nominalSettings}
 use Rattle.changes.proofs.Tests.{timing-told}
-use Rattle.configure.specs.declared.numbers.PlanKind.{PlanKind}
+use Rattle.configure.specs.declared.planned.PlanKind.{PlanKind}
 use Rattle.configure.specs.Numbers.{itemsFor}
 use Rattle.configure.proofs.Begins.{begins-with, made, timing-made}
 use Rattle.configure.proofs.calls.timing_plan.Statement.{statement}

@@ -5,7 +5,7 @@ use borrow.Author.Needs.{needs}
 use Rattle.configuration.specs.CanControl.{CiCON}
 use Rattle.changes.specs.Changes.{modeChange, modeSettings}
 use Rattle.changes.proofs.Tests.{timing-told}
-use Rattle.configure.specs.declared.numbers.PlanKind.{PlanKind}
+use Rattle.configure.specs.declared.planned.PlanKind.{PlanKind}
 use Rattle.configure.proofs.Begins.{begins-with, made, whole-made}
 use Rattle.configure.proofs.whole.whole.Statement.{statement}
 use Rattle.configure.proofs.whole.whole.Tie as tie
