@@ -1,4 +1,5 @@
 // The request call, by which a FIFO is to send what it holds: control is read, and written with TXREQ 1.
+ghost use mathlib.Core.Path.{_≡_};
 ghost use Rattle.transmit.specs.Transmit.{requestStart};
 ghost use Rattle.configure.specs.Numbers.{Stands};
 use crate::PlanKind;

@@ -1,14 +1,17 @@
 // How many exchanges and waits of a plan are left.
 ghost use mathlib.Core.Path.{_≡_};
-ghost use Rattle.plan.specs.Talk.{asksOf, itemLeft, planLeft};
-ghost use Rattle.configure.specs.Numbers.{placeIn, planIn};
+ghost use Prim.Native.Nat.{_<_};
+ghost use lib.ListN.{drop};
+ghost use Rattle.plan.specs.Step.{filled};
+ghost use Rattle.plan.specs.Talk.{listed, asksOf, allAsks, itemLeft, planLeft};
+ghost use Rattle.configure.specs.Numbers.{itemsIn, placeIn, planIn};
 use crate::PlanNumbers;
 use crate::PlanStage;
 use crate::listed::item_of;
 use plan::Item;
 
 fn item_turns(item: Item) -> u32
-    ensures { λ r. ⌜ r ≡ asksOf item ⌝ }
+    ensures { λ r. ⌜ (r ≡ asksOf item) × (r < 512) ⌝ }
 {
     match item {
         Item::Change(_) => 2,
@@ -18,34 +21,43 @@ fn item_turns(item: Item) -> u32
     }
 }
 
-// Of the item where it stands.
-fn place_turns(c: PlanNumbers) -> u32
-    ensures { λ r. ⌜ r ≡ itemLeft (placeIn c) ⌝ }
+// Of the items behind the one where the plan stands.
+fn turns_behind(c: PlanNumbers, body: &[u8; 76]) -> u32
+    ensures { λ r. ⌜ (r ≡ allAsks (listed (drop (c .next) (filled (itemsIn c (now (body .entry))))))) × (r < 100000) ⌝ }
 {
-    let stage = c.stage;
-    let more = c.more as u32;
-    match stage {
-        PlanStage::Read => 2,
-        PlanStage::Write => 1,
-        PlanStage::ModePoll => 1 + 2 * more,
-        PlanStage::ModeWait => 2 + 2 * more,
-        PlanStage::PllPoll => 1 + 2 * more,
-        PlanStage::PllWait => 2 + 2 * more,
-        PlanStage::EchoWrite => 2 + 2 * more,
-        PlanStage::EchoRead => 1 + 2 * more,
-        _ => 0,
-    }
-}
-
-// That, and the items behind it.
-pub fn plan_turns(c: PlanNumbers, body: &[u8; 76]) -> u32
-    ensures { λ r. ⌜ r ≡ planLeft (planIn c (now (body .entry))) ⌝ }
-{
-    let mut sum = place_turns(c);
+    let mut sum = 0;
     let mut i = c.next;
     while i < 15 {
         sum += item_turns(item_of(c, i, body));
         i += 1;
     }
     sum
+}
+
+// Of the item where the plan stands, and what is behind; nothing comes after the end.
+fn place_turns(c: PlanNumbers, behind: u32) -> u32
+    requires { ⌜ behind < 100000 ⌝ }
+    ensures { λ r. ⌜ r ≡ itemLeft (placeIn c) behind ⌝ }
+{
+    let stage = c.stage;
+    let more = 2 * (c.more as u32);
+    match stage {
+        PlanStage::Read => 2 + behind,
+        PlanStage::Write => 1 + behind,
+        PlanStage::ModePoll => 1 + more + behind,
+        PlanStage::ModeWait => 2 + more + behind,
+        PlanStage::PllPoll => 1 + more + behind,
+        PlanStage::PllWait => 2 + more + behind,
+        PlanStage::EchoWrite => 2 + more + behind,
+        PlanStage::EchoRead => 1 + more + behind,
+        PlanStage::Next => 0,
+        PlanStage::Done => 0,
+        PlanStage::Refused => 0,
+    }
+}
+
+pub fn plan_turns(c: PlanNumbers, body: &[u8; 76]) -> u32
+    ensures { λ r. ⌜ r ≡ planLeft (planIn c (now (body .entry))) ⌝ }
+{
+    place_turns(c, turns_behind(c, body))
 }
