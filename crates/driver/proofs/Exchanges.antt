@@ -366,53 +366,56 @@ module _ (m : ℕ × ℕ) where
 requested : (m : ℕ × ℕ) → 4 ≤ m .0 → 6 ≤ m .1 → (n : ℕ) → Always (Small m) (requestCall n)
 requested m h k = request-always (Small m) (read-small m 4 h (omega arith)) (word-small m k)
 
-pushed : (n : ℕ) (header : Header) (seq : ℕ) (payload : List ℕ) → Always (Small (4, 74)) (push-talks.pushCall n header seq payload)
-pushed =
-    pushed-always (Small (4, 74)) (read-small (4, 74) 4 (omega arith) (omega arith)) (word-small (4, 74) (omega arith))
-    (λ a len l h. body-small (4, 74) len (omega arith) a l)
+pushed : (m : ℕ × ℕ) → 4 ≤ m .0 → 74 ≤ m .1 → (n : ℕ) (header : Header) (seq : ℕ) (payload : List ℕ) → Always (Small m) (push-talks.pushCall n header seq payload)
+pushed m h k = pushed-always (Small m) (read-small m 4 h (omega arith)) (word-small m (omega arith)) (λ a len l d. body-small m len (omega arith) a l)
 
 whole-always : (x : Start) → Always (Small (most x)) (wholeTalk x)
 unfolding readCall checkedCall writeCall readRamTalk writeRamTalk verifyLongTalk transmitCall fetch-talks.hasNextTalk
-whole-always Reset = puts (Small (0, 2)) Refusal.SpiWrite Ask.Reset (done Outcome.Done) (reset-small (0, 2) (omega arith)) tt
-whole-always OpMode = reads (Small (4, 2)) Refusal.SpiRead 0 _ (read-small (4, 2) 4 (omega arith) (omega arith) 0 (omega arith)) (λ w. tt)
+whole-always Reset = let m = most Reset in puts (Small m) Refusal.SpiWrite Ask.Reset (done Outcome.Done) (reset-small m (omega arith)) tt
+whole-always OpMode = let m = most OpMode in reads (Small m) Refusal.SpiRead 0 _ (read-small m 4 (omega arith) (omega arith) 0 (omega arith)) (λ w. tt)
 whole-always VerifyLong =
-    let m : ℕ × ℕ = (128, 130) in
+    let m = most VerifyLong in
     puts (Small m) Refusal.ConfigurationModeTimeout (Ask.Body 0x400 128) _ (body-small m 128 (omega arith) 0x400 (omega arith))
     (gets (Small m) Refusal.ConfigurationModeTimeout 0x400 128 _ (read-small m 128 (omega arith) (omega arith) 0x400 (omega arith))
     (λ rx. choice (Small m) (same rx echoBytes) _ _ (λ e. tt) (λ e. tt)))
 whole-always (Read address) =
-    at-address (Small (4, 2)) address _
-    (λ l. reads (Small (4, 2)) Refusal.SpiRead address _ (read-small (4, 2) 4 (omega arith) (omega arith) address l) (λ w. tt))
+    let m = most (Read address) in
+    at-address (Small m) address _ (λ l. reads (Small m) Refusal.SpiRead address _ (read-small m 4 (omega arith) (omega arith) address l) (λ w. tt))
 whole-always (Checked address) =
-    at-address (Small (6, 3)) address _ (λ l. tries (Small (6, 3)) address 2 (checked-small (6, 3) (omega arith) (omega arith) address l))
+    let m = most (Checked address) in
+    at-address (Small m) address _ (λ l. tries (Small m) address 2 (checked-small m (omega arith) (omega arith) address l))
 whole-always (Write address word) =
-    at-address (Small (0, 6)) address _
-    (λ l. puts (Small (0, 6)) Refusal.SpiRead (Ask.Word address word) (done Outcome.Done) (word-small (0, 6) (omega arith) address word l) tt)
+    let m = most (Write address word) in
+    at-address (Small m) address _ (λ l. puts (Small m) Refusal.SpiRead (Ask.Word address word) (done Outcome.Done) (word-small m (omega arith) address word l) tt)
 whole-always (ReadRam address room part count) =
-    let m : ℕ × ℕ = (count, 2) in
+    let m = most (ReadRam address room part count) in
     choice (Small m) (inside part count room) _ _
     (λ e. accessed (Small m) address count _ _
     (λ l. gets (Small m) Refusal.SpiRead address count (λ rx. done Outcome.Done) (read-small m count (omega arith) (omega arith) address l) (λ rx. tt)))
     (λ e. tt)
 whole-always (WriteRam address count) =
-    let m : ℕ × ℕ = (0, 2 + count) in
+    let m = most (WriteRam address count) in
     accessed (Small m) address count _ _
     (λ l. puts (Small m) Refusal.SpiWrite (Ask.Body address count) (done Outcome.Done) (body-small m count (omega arith) address l) tt)
 whole-always (Planned x) =
-    plan-always (Small (4, 6)) (read-small (4, 6) 4 (omega arith) (omega arith)) (word-small (4, 6) (omega arith)) (small (4, 6) Ask.Wait tt (omega arith) (omega arith)) x
-whole-always (Push n header seq payload) = pushed n header seq payload
+    let m = most (Planned x) in
+    plan-always (Small m) (read-small m 4 (omega arith) (omega arith)) (word-small m (omega arith)) (small m Ask.Wait tt (omega arith) (omega arith)) x
+whole-always (Push n header seq payload) = pushed (most (Push n header seq payload)) (omega arith) (omega arith) n header seq payload
 whole-always (Transmit n header seq payload) =
-    then-always (Small (4, 74)) _ _ (pushed n header seq payload) (λ x. requested (4, 74) (omega arith) (omega arith) n)
-whole-always (Request n) = requested (4, 6) (omega arith) (omega arith) n
+    let m = most (Transmit n header seq payload) in
+    then-always (Small m) _ _ (pushed m (omega arith) (omega arith) n header seq payload) (λ x. requested m (omega arith) (omega arith) n)
+whole-always (Request n) = requested (most (Request n)) (omega arith) (omega arith) n
 whole-always (HasNext n) =
-    let m : ℕ × ℕ = (4, 2) in
+    let m = most (HasNext n) in
     told-always (Small m) _
     (choice (Small m) (isFifo n) _ _ (λ f. control-always (Small m) (read-small m 4 (omega arith) (omega arith)) n f Want.HasNext (λ b. tt)) (λ f. tt))
 whole-always (Peek n room) =
-    lent-always (Small (64, 2)) (λ a count l h. read-small (64, 2) count h (omega arith) a l) Want.Peek n room (λ b. refl) (λ f m. tt)
+    let m = most (Peek n room) in
+    lent-always (Small m) (λ a count l h. read-small m count (omega arith) (omega arith) a l) Want.Peek n room (λ b. refl) (λ f x. tt)
 whole-always (Get n room) =
-    lent-always (Small (64, 6)) (λ a count l h. read-small (64, 6) count h (omega arith) a l) Want.Get n room (λ b. refl)
-    (λ f. next-always (Small (64, 6)) (read-small (64, 6) 4 (omega arith) (omega arith)) (word-small (64, 6) (omega arith)) n f)
+    let m = most (Get n room) in
+    lent-always (Small m) (λ a count l h. read-small m count (omega arith) (omega arith) a l) Want.Get n room (λ b. refl)
+    (λ f. next-always (Small m) (read-small m 4 (omega arith) (omega arith)) (word-small m (omega arith)) n f)
 
 started-small : (x : Start) (xs : List (Answer × List ℕ)) → Small (most x) (askOf (run stepOf (started x) xs))
 started-small x xs =

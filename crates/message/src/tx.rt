@@ -77,7 +77,13 @@ pub fn encode(header: Header, seq: u32, stamp: Stamp, payload: &[u8]) -> Encoded
 }
 
 // The object into lent bytes.
-pub fn encode_into(header: Header, seq: u32, stamp: Stamp, payload: &[u8], body: &mut [u8; 76]) -> Written
+pub fn encode_into(
+    header: Header,
+    seq: u32,
+    stamp: Stamp,
+    payload: &[u8],
+    body: &mut [u8; 76],
+) -> Written
     ensures { λ r. ⌜ encodedIn r (now (body .exit)) ≡ encodedAs (encoding (record { header = header; seq = seq; stamp = stamp; payload = now (payload .entry) })) ⌝ }
 {
     match check(header, seq, payload.len()) {

@@ -11,7 +11,6 @@ use Rattle.fifo.specs.Control.{isFifo}
 use Rattle.spi.specs.declared.refusal.Refusal.{Refusal}
 use Rattle.plan.specs.Step.{arrivedAt, filled}
 use Rattle.plan.specs.declared.item.Item.{Item}
-use Rattle.plan.specs.declared.plan.Plan.{Plan}
 use Rattle.plan.specs.declared.plan.PlanAt.{PlanAt}
 use Rattle.tx_fifo.specs.Step.{doneAt, isDone}
 use Rattle.tx_fifo.specs.Numbers.{pushAt, pushOf}

@@ -91,7 +91,13 @@ fn with_request(p: PushNumbers) -> TransmitNumbers
     }
 }
 
-pub fn transmit_start(fifo: u8, header: Header, seq: u32, payload: &[u8], body: &mut [u8; 76]) -> TransmitNumbers
+pub fn transmit_start(
+    fifo: u8,
+    header: Header,
+    seq: u32,
+    payload: &[u8],
+    body: &mut [u8; 76],
+) -> TransmitNumbers
     ensures { λ r. ⌜ transmitIn r (now (body .exit)) ≡ transmitStart fifo header seq (now (payload .entry)) ⌝ }
 {
     let p = push_start(fifo, header, seq, payload, body);

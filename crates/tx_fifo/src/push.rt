@@ -85,7 +85,13 @@ fn encoded_for(fifo: u8, header: Header, seq: u32, payload: &[u8], body: &mut [u
     }
 }
 
-pub fn push_start(fifo: u8, header: Header, seq: u32, payload: &[u8], body: &mut [u8; 76]) -> PushNumbers
+pub fn push_start(
+    fifo: u8,
+    header: Header,
+    seq: u32,
+    payload: &[u8],
+    body: &mut [u8; 76],
+) -> PushNumbers
     ensures { λ r. ⌜ pushOf r (now (body .exit)) ≡ startOf fifo header seq (now (payload .entry)) ⌝ }
 {
     let size = payload.len();

@@ -2,12 +2,12 @@
 -- Assumes nothing.
 use mathlib.Core.Path.{_≡_, sym, _∙_}
 use Prim.Native.Nat.{_+_}
+use native.Mathlib.Omega.{arith}
 use denote.Ref.{now}
 use lib.ListN.{length}
-use native.Mathlib.Omega.{arith}
 use borrow.Author.Needs.{needs}
-use Rattle.message.proofs.Round.{object-length}
 use Rattle.message.specs.Object.{objectBytes}
+use Rattle.message.proofs.Round.{object-length}
 use Rattle.message.proofs.Objects.{laid}
 use Rattle.message.proofs.object.put_object.Statement.{statement}
 use Rattle.message.proofs.object.put_object.Tie as tie

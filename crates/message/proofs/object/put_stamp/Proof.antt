@@ -4,8 +4,8 @@ use mathlib.Core.Path.{refl, sym}
 use native.Mathlib.Omega.{arith}
 use denote.Ref.{now}
 use borrow.Author.Needs.{needs}
-use Rattle.message.proofs.Objects.{put-nothing}
 use Rattle.words.proofs.Laws.{le-length}
+use Rattle.message.proofs.Objects.{put-nothing}
 use Rattle.message.proofs.object.put_stamp.Statement.{statement}
 use Rattle.message.proofs.object.put_stamp.Tie as tie
 

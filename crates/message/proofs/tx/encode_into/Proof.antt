@@ -3,14 +3,13 @@
 use mathlib.Core.Path.{sym, ap, _∙_}
 use native.Mathlib.Omega.{arith}
 use borrow.Author.Needs.{needs}
-use Rattle.message.proofs.Checks.{sound}
-use Rattle.header.proofs.Dlcs.{dlc-16, payload-le}
 use Rattle.spi.specs.declared.refusal.Done.{Done}
+use Rattle.header.proofs.Dlcs.{dlc-16, payload-le}
 use Rattle.message.specs.declared.object.Object.{Object}
-use Rattle.message.specs.declared.tx.Encoded.{Encoded}
 use Rattle.message.specs.Message.{encoding}
-use Rattle.message.proofs.tx.encode_into.Tie as tie
+use Rattle.message.proofs.Checks.{sound}
 use Rattle.message.proofs.tx.encode_into.Statement.{statement}
+use Rattle.message.proofs.tx.encode_into.Tie as tie
 
 pub encode-into-spec : {M : Type 1} → statement M
 unfolding encoding

@@ -1,8 +1,8 @@
 -- `transmit::transmit::request_ask` meets its contract.
 -- Assumes nothing.
 use borrow.Author.Needs.{needs}
-use Rattle.transmit.proofs.transmit.request_ask.Tie as tie
 use Rattle.transmit.proofs.transmit.request_ask.Statement.{statement}
+use Rattle.transmit.proofs.transmit.request_ask.Tie as tie
 
 pub request-ask-spec : {M : Type 1} → statement M
 request-ask-spec =

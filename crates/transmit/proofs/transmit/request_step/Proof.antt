@@ -2,8 +2,8 @@
 -- Assumes nothing.
 use mathlib.Core.Path.{sym, _∙_}
 use borrow.Author.Needs.{needs}
-use Rattle.transmit.proofs.Requests.{at-end}
 use Rattle.plan.specs.Step.{stepOf}
+use Rattle.transmit.proofs.Requests.{at-end}
 use Rattle.transmit.proofs.transmit.request_step.Statement.{statement}
 use Rattle.transmit.proofs.transmit.request_step.Tie as tie
 

@@ -2,11 +2,11 @@
 -- Assumes nothing.
 use mathlib.Core.Path.{ap, _∙_}
 use borrow.Author.Needs.{needs}
-use Rattle.transmit.specs.Transmit.{transmitStart}
 use Rattle.tx_fifo.specs.Step.{startOf}
+use Rattle.transmit.specs.Transmit.{transmitStart}
 use Rattle.transmit.proofs.Requests.{begun}
-use Rattle.transmit.proofs.transmit.transmit_start.Tie as tie
 use Rattle.transmit.proofs.transmit.transmit_start.Statement.{statement}
+use Rattle.transmit.proofs.transmit.transmit_start.Tie as tie
 
 pub transmit-start-spec : {M : Type 1} → statement M
 unfolding transmitStart startOf

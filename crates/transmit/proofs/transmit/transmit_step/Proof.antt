@@ -2,9 +2,9 @@
 -- Assumes nothing.
 use mathlib.Core.Path.{ap, sym, _∙_}
 use borrow.Author.Needs.{needs}
-use Rattle.transmit.proofs.Requests.{begun, is-done}
-use Rattle.transmit.specs.Transmit.{transmitStep}
 use Rattle.tx_fifo.specs.Step.{stepOf}
+use Rattle.transmit.specs.Transmit.{transmitStep}
+use Rattle.transmit.proofs.Requests.{begun, is-done}
 use Rattle.transmit.proofs.transmit.transmit_step.Statement.{statement}
 use Rattle.transmit.proofs.transmit.transmit_step.Tie as tie
 

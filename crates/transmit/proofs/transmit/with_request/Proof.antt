@@ -2,9 +2,9 @@
 -- Assumes nothing.
 use mathlib.Core.Path.{sym, _∙_}
 use borrow.Author.Needs.{needs}
+use Rattle.plan.specs.Step.{arrivedAt}
 use Rattle.transmit.specs.Transmit.{requestStart}
 use Rattle.transmit.proofs.Requests.{is-done}
-use Rattle.plan.specs.Step.{arrivedAt}
 use Rattle.transmit.proofs.transmit.with_request.Statement.{statement}
 use Rattle.transmit.proofs.transmit.with_request.Tie as tie
 

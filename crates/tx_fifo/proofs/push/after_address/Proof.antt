@@ -4,8 +4,8 @@ use mathlib.Core.Path.{sym, _∙_}
 use borrow.Author.Needs.{needs}
 use borrow.Author.Tests.{le-ltb, lt-ltb}
 use Rattle.tx_fifo.specs.Step.{afterAddress}
-use Rattle.tx_fifo.proofs.push.after_address.Tie as tie
 use Rattle.tx_fifo.proofs.push.after_address.Statement.{statement}
+use Rattle.tx_fifo.proofs.push.after_address.Tie as tie
 
 pub after-address-spec : {M : Type 1} → statement M
 unfolding afterAddress

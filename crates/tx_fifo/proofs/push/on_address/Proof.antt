@@ -2,8 +2,8 @@
 -- Assumes nothing.
 use mathlib.Core.Path.{_∙_}
 use borrow.Author.Needs.{needs}
-use Rattle.tx_fifo.proofs.push.on_address.Tie as tie
 use Rattle.tx_fifo.proofs.push.on_address.Statement.{statement}
+use Rattle.tx_fifo.proofs.push.on_address.Tie as tie
 
 pub on-address-spec : {M : Type 1} → statement M
 on-address-spec =

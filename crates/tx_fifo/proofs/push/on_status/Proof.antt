@@ -3,8 +3,8 @@
 use mathlib.Core.Path.{sym, _∙_}
 use borrow.Author.Needs.{needs}
 use Rattle.tx_fifo.specs.Step.{afterStatus}
-use Rattle.tx_fifo.proofs.push.on_status.Tie as tie
 use Rattle.tx_fifo.proofs.push.on_status.Statement.{statement}
+use Rattle.tx_fifo.proofs.push.on_status.Tie as tie
 
 pub on-status-spec : {M : Type 1} → statement M
 unfolding afterStatus

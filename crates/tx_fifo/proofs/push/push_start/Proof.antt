@@ -2,8 +2,8 @@
 -- Assumes nothing.
 use borrow.Author.Needs.{needs}
 use Rattle.tx_fifo.specs.Step.{startOf}
-use Rattle.tx_fifo.proofs.push.push_start.Tie as tie
 use Rattle.tx_fifo.proofs.push.push_start.Statement.{statement}
+use Rattle.tx_fifo.proofs.push.push_start.Tie as tie
 
 pub push-start-spec : {M : Type 1} → statement M
 unfolding startOf

@@ -3,8 +3,8 @@
 use mathlib.Core.Path.{sym, _∙_}
 use borrow.Author.Needs.{needs}
 use Rattle.tx_fifo.specs.Step.{stepOf}
-use Rattle.tx_fifo.proofs.push.push_step.Tie as tie
 use Rattle.tx_fifo.proofs.push.push_step.Statement.{statement}
+use Rattle.tx_fifo.proofs.push.push_step.Tie as tie
 
 pub push-step-spec : {M : Type 1} → statement M
 unfolding stepOf
