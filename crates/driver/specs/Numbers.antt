@@ -1,6 +1,7 @@
 -- The call that the code has, as the call that the definitions speak of: numbers, and a body of 76 bytes.
 -- Assumes nothing.
 use Prim.Native.Nat.{ℕ}
+use mathlib.Core.Bool.{Bool, true, false}
 use mathlib.Core.List.{List}
 use Rattle.register.specs.declared.RegisterStage.{RegisterStage}
 use Rattle.register.specs.declared.RegisterNumbers.{RegisterNumbers}
@@ -83,3 +84,32 @@ modelOf c body = modelAt (c .at) c body
 -- a call by value
 unfoldable pub callOf : code.Call → Call
 callOf c = modelOf (c .numbers) (c .body)
+
+-- ---- whose bytes a RAM write sends
+
+-- the object of a push or a transmit
+abbrev pub isOwn : At → Bool
+isOwn (At.Register stage) = false
+isOwn (At.Ram stage) = false
+isOwn (At.Plan kind stage) = false
+isOwn (At.Push stage) = true
+isOwn (At.Transmit stage request) = true
+isOwn (At.Fetch want stage) = false
+
+-- the pattern of the long echo test
+abbrev pub echoes : RamStage → Bool
+echoes RamStage.Read = false
+echoes RamStage.Received = false
+echoes RamStage.Write = false
+echoes RamStage.EchoWrite = true
+echoes RamStage.EchoRead = false
+echoes RamStage.Done = false
+echoes RamStage.Refused = false
+
+abbrev pub isEcho : At → Bool
+isEcho (At.Register stage) = false
+isEcho (At.Ram stage) = echoes stage
+isEcho (At.Plan kind stage) = false
+isEcho (At.Push stage) = false
+isEcho (At.Transmit stage request) = false
+isEcho (At.Fetch want stage) = false

@@ -4,10 +4,11 @@ ghost use mathlib.Core.Path.{_≡_};
 ghost use mathlib.Core.List.{[]};
 ghost use lib.ListN.{length};
 ghost use Rattle.send.specs.Send.{nextOf, putInto};
-ghost use Rattle.driver.specs.Step.{askOf, stepOf, outcomeOf, filledBy};
+ghost use Rattle.driver.specs.Step.{askOf, stepOf, filledBy};
+ghost use Rattle.ram.specs.Echo.{echoBytes};
 ghost use Rattle.driver.specs.Send.{bodyOf};
 ghost use Rattle.driver.specs.Finish.{finishedAs};
-ghost use Rattle.driver.specs.Numbers.{modelOf};
+ghost use Rattle.driver.specs.Numbers.{modelOf, isOwn, isEcho};
 use crate::At;
 use crate::Numbers;
 use crate::parts_of::fetch_part;
@@ -43,8 +44,16 @@ fn ask(c: Numbers) -> Ask
     }
 }
 
-// Whether the call sends the pattern of the long echo test now.
-fn is_echo(c: Numbers) -> bool {
+fn next_echo(q: Ask, tx: &mut [u8]) -> Next
+    ensures { λ r. ⌜ (r ≡ nextOf q echoBytes (now (tx .entry))) × (now (tx .exit) ≡ putInto q echoBytes (now (tx .entry))) ⌝ }
+{
+    let p = ram::echo_pattern();
+    send::put_next(q, &p, tx)
+}
+
+fn is_echo(c: Numbers) -> bool
+    ensures { λ r. ⌜ r ≡ isEcho (c .at) ⌝ }
+{
     let at = c.at;
     match at {
         At::Ram(stage) => match stage {
@@ -55,13 +64,9 @@ fn is_echo(c: Numbers) -> bool {
     }
 }
 
-fn next_echo(q: Ask, tx: &mut [u8]) -> Next {
-    let p = ram::echo_pattern();
-    send::put_next(q, &p, tx)
-}
-
-// Whether what the call writes to RAM is its own, the object of a push or a transmit, and not what was lent.
-fn is_own(c: Numbers) -> bool {
+fn is_own(c: Numbers) -> bool
+    ensures { λ r. ⌜ r ≡ isOwn (c .at) ⌝ }
+{
     let at = c.at;
     match at {
         At::Push(_) => true,
