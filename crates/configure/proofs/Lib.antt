@@ -1,6 +1,7 @@
 mod Begins
 mod Stages
 mod Places
+mod Turning
 mod Stored
 pub mod Writes
 pub mod Bounds

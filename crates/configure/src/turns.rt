@@ -7,6 +7,7 @@ ghost use Rattle.plan.specs.Talk.{listed, asksOf, allAsks, itemLeft, planLeft};
 ghost use Rattle.configure.specs.Numbers.{itemsIn, placeIn, planIn};
 use crate::PlanNumbers;
 use crate::PlanStage;
+use crate::listed::count_of;
 use crate::listed::item_of;
 use plan::Item;
 
@@ -23,11 +24,12 @@ fn item_turns(item: Item) -> u32
 
 // Of the items behind the one where the plan stands.
 fn turns_behind(c: PlanNumbers, body: &[u8; 76]) -> u32
-    ensures { λ r. ⌜ (r ≡ allAsks (listed (drop (c .next) (filled (itemsIn c (now (body .entry))))))) × (r < 100000) ⌝ }
+    ensures { λ r. ⌜ (r ≡ allAsks (listed (drop (c .next) (filled (itemsIn c (now (body .entry))))))) × (r < 0x20000) ⌝ }
 {
+    let count = count_of(c);
     let mut sum = 0;
     let mut i = c.next;
-    while i < 15 {
+    while i < count {
         sum += item_turns(item_of(c, i, body));
         i += 1;
     }
@@ -36,20 +38,20 @@ fn turns_behind(c: PlanNumbers, body: &[u8; 76]) -> u32
 
 // Of the item where the plan stands, and what is behind; nothing comes after the end.
 fn place_turns(c: PlanNumbers, behind: u32) -> u32
-    requires { ⌜ behind < 100000 ⌝ }
+    requires { ⌜ behind < 0x20000 ⌝ }
     ensures { λ r. ⌜ r ≡ itemLeft (placeIn c) behind ⌝ }
 {
     let stage = c.stage;
-    let more = 2 * (c.more as u32);
+    let more = 2 * (c.more as u32) + behind;
     match stage {
         PlanStage::Read => 2 + behind,
         PlanStage::Write => 1 + behind,
-        PlanStage::ModePoll => 1 + more + behind,
-        PlanStage::ModeWait => 2 + more + behind,
-        PlanStage::PllPoll => 1 + more + behind,
-        PlanStage::PllWait => 2 + more + behind,
-        PlanStage::EchoWrite => 2 + more + behind,
-        PlanStage::EchoRead => 1 + more + behind,
+        PlanStage::ModePoll => 1 + more,
+        PlanStage::ModeWait => 2 + more,
+        PlanStage::PllPoll => 1 + more,
+        PlanStage::PllWait => 2 + more,
+        PlanStage::EchoWrite => 2 + more,
+        PlanStage::EchoRead => 1 + more,
         PlanStage::Next => 0,
         PlanStage::Done => 0,
         PlanStage::Refused => 0,
