@@ -85,13 +85,12 @@ pub use proved::driver::number;
 /// | 23 | `BadDlc` | a classic frame was received with a DLC above 8 |
 /// | 24 | `BadSetting` | FIFO size 0, or a number wider than its field |
 /// | 25 | `BadUserAddress` | the chip's user address is above 0xFBFF |
-/// | 26 | `WrongAnswer` | an answer of another length or kind than asked for, or other bytes at the end of a RAM read than it received: only in a loop of your own |
+/// | 26 | `WrongAnswer` | an answer of another length or kind than asked for, at the end of a RAM read too: only in a loop of your own |
 /// | 27 | `NoLayout` | the modelled chip did not leave Configuration: never of a call |
-/// | 28 | `BufferTooSmall` | the buffer for a payload has fewer than 64 bytes, or a RAM read is not for a part inside its buffer; at the start, and again at the end |
+/// | 28 | `BufferTooSmall` | the buffer for a payload has fewer than 64 bytes, or a RAM read is not for a part inside its buffer |
 pub use proved::driver::Refusal;
 
-/// The calls themselves, for a loop of your own, over interrupts or DMA perhaps; [`run`] is such a loop. No function here has a
-/// precondition.
+/// The calls themselves, for a loop of your own, with interrupts or DMA perhaps. No function here has a precondition.
 ///
 /// A call is a value. The function of its name starts it, from any numbers: what is wrong with them is refused before any exchange, and
 /// the call is then over. [`next`](calls::next) says what it asks for and puts the bytes to send together, [`answer`](calls::answer) takes
@@ -130,36 +129,39 @@ pub use proved::driver::Refusal;
 ///
 /// `lent` is what a RAM write sends, `buf` what a RAM read, a peek or a get fills. `tx` needs 74 bytes, 130 for `verify_long`, 2 + n for a
 /// RAM write of n; `rx` needs 64, 128 for `verify_long`, n for a RAM read of n. The loop ends, whatever is answered:
-/// [`turns`](calls::turns) falls at every answer.
+/// [`turns`](calls::turns) falls at every answer. Between two exchanges of a call nobody else may use the chip.
 ///
-/// On a board on which a copy of a [`Call`](calls::Call) at each exchange is too dear, [`numbers`](calls::numbers) and
-/// [`body`](calls::body) take it apart, and the three functions named `_lent` are given the numbers by value and the body lent.
+/// Each answer copies a [`Call`](calls::Call), some 150 bytes. Where that is too dear, [`numbers_of`](calls::numbers_of) and
+/// [`body_of`](calls::body_of) take a call apart, and the functions named `_lent` do the same with the numbers by value and the body lent;
+/// so does [`run`].
 pub mod calls {
-    /// Where an answer takes a call. `rx` is what the exchange received: exactly as many bytes as [`next`] wanted, none beside a wait
-    /// (another number is 26). Each call is given the answers to what it asked for itself, one for each `next`.
+    /// What a call asks for now, its bytes put at the front of `tx`. `lent` is what a RAM write was started with, otherwise not looked at.
+    pub use crate::proved::driver::next;
+    /// Where an answer takes a call. `rx` is what the exchange received: as many bytes as [`next`] wanted, and none beside a wait; any
+    /// other number is 26. Of a failed exchange they are not looked at. A call is given one answer for each `next`, the answer to its own.
     pub use crate::proved::driver::answer;
-    /// As [`answer`], [`finish`] and [`next`], of a call's [`numbers`] and of its [`body`], which lies in memory of the caller's.
-    pub use crate::proved::driver::{answer_lent, finish_lent, next_lent};
-    /// Whether the message of a push or a transmit is in the chip: also where the transmit's request was refused.
-    pub use crate::proved::driver::accepted;
-    /// A call's own bytes, to be lent to `next_lent`, `answer_lent` and `finish_lent`; nobody else changes them until it is over.
-    pub use crate::proved::driver::body;
     /// How a call ended, once [`next`] says that it is over; what it received is put into `buf`. `rx` is what the last exchange received.
     /// 28 where `buf` is too small for what was received, 26 where a RAM read is given another number of bytes than it received: then no
     /// byte of `buf` is changed, and the call may be finished again.
     pub use crate::proved::driver::finish;
-    /// What a call asks for now, its bytes put at the front of `tx`. `lent` is what a RAM write was started with, otherwise not looked at.
-    pub use crate::proved::driver::next;
-    /// A call without its bytes.
-    pub use crate::proved::driver::numbers;
     /// The most exchanges and waits that are left: it falls at every answer, and is 0 exactly where the call is over.
     pub use crate::proved::driver::turns;
-    /// `count` bytes of RAM from `address` on, to the part of the buffer lent to [`finish`] that begins at `place`; `room` is the length
-    /// of that buffer.
+    /// Whether the message of a push or a transmit is in the chip: also where the transmit's request was refused.
+    pub use crate::proved::driver::accepted;
+
+    /// A call without its bytes.
+    pub use crate::proved::driver::numbers_of;
+    /// A call's own bytes, to lie in memory of the caller's: nobody else changes them until the call is over.
+    pub use crate::proved::driver::body_of;
+    /// As [`next`], [`answer`] or [`finish`], of a call's numbers and its body.
+    pub use crate::proved::driver::{answer_lent, finish_lent, next_lent};
+
+    /// As the method of [`Mcp`](crate::Mcp) of this name, to the part of a buffer of `room` bytes that begins at `place` and has `count`:
+    /// that buffer is lent to [`finish`]. Refused also: 28 where the part does not lie inside it.
     pub use crate::proved::driver::read_ram;
-    /// `count` is how many bytes will be lent to [`next`].
+    /// As the method of [`Mcp`](crate::Mcp) of this name. `count` is how many bytes will be lent to [`next`].
     pub use crate::proved::driver::write_ram;
-    /// `room` is the length of the buffer that will be lent to [`finish`] for the payload: 64 or more.
+    /// As the method of [`Mcp`](crate::Mcp) of this name. `room` is the length of the buffer that will be lent to [`finish`].
     pub use crate::proved::driver::{get, peek};
     /// As the method of [`Mcp`](crate::Mcp) of this name.
     pub use crate::proved::driver::{
@@ -167,16 +169,17 @@ pub mod calls {
         get_op_mode, has_next, modify_register, push, read_register, request, reset, set_op_mode, transmit, verify, verify_long,
         write_register,
     };
-    /// How an exchange or a wait went: `Failed` says that nothing of it was carried out.
+
+    /// How an exchange or a wait went: `Failed` says that nothing was carried out.
     pub use crate::proved::driver::Answer;
-    /// A call, from its start to its end: a value, and a copy of it stands where it stood.
+    /// A call where it stands, from its start to its end.
     pub use crate::proved::driver::Call;
     /// A message that was found; its payload of `len` bytes is at the front of the lent buffer.
     pub use crate::proved::driver::Found;
-    /// What the loop does now: sends the first `n` bytes of `tx` and receives `want`; waits for 500 microseconds; is at its end; or cannot
-    /// send, as `tx` or `lent` is too short and no byte was put: that is answered `Failed`.
+    /// What the loop does now: `Transfer` sends the first `n` bytes of `tx` and receives `want`; `Wait` is 500 microseconds; `Over` is the
+    /// end; where it is `Short`, `tx` or `lent` is too short and no byte was put: that is answered `Failed`.
     pub use crate::proved::driver::Next;
-    /// A call without its bytes: see [`numbers`].
+    /// A call without its bytes.
     pub use crate::proved::driver::Numbers;
     /// How a call ended; `Running` where it has not.
     pub use crate::proved::driver::Outcome;

@@ -1,6 +1,6 @@
 //! The Rust user's side: one loop over the user's SPI, and a method for each call.
 use crate::calls;
-use crate::calls::{answer_lent, body, finish_lent, next_lent, numbers, Answer, Call, Next, Outcome};
+use crate::calls::{answer_lent, body_of, finish_lent, next_lent, numbers_of, Answer, Call, Next, Outcome};
 use crate::{
     BitTimeConfiguration, FifoConfiguration, FilterConfiguration, Header, IoConfiguration, OscillatorConfiguration, Refusal, Settings,
     Stamp,
@@ -50,7 +50,7 @@ const WAIT: u32 = 500;
 /// as if its exchange had failed, with nothing sent: 74 and 64 bytes are enough for all calls but `verify_long` (130 and 128), a RAM
 /// write of n bytes (2 + n and 0) and a RAM read of n (2 and n).
 pub fn run<L: Line>(line: &mut L, call: Call, lent: &[u8], buf: &mut [u8], tx: &mut [u8], rx: &mut [u8]) -> Outcome {
-    let (mut call, mut own) = (numbers(call), body(call));
+    let (mut call, mut own) = (numbers_of(call), body_of(call));
     let mut got = 0;
     loop {
         let answered;

@@ -177,8 +177,8 @@ static void failing(void)
     }
 }
 
-/* A transmit tells whether the message is in the chip: not where one of the push's five exchanges failed, but where one of the request's two
- * did; then a request sends it. */
+/* A transmit tells whether the message is in the chip: not where one of the push's five exchanges failed, but where one of the request's
+ * two did; then a request sends it. */
 static void transmitted(void)
 {
     for (unsigned k = 0; k <= 7; k++) {

@@ -347,7 +347,8 @@ fn refusals() {
     for n in [0, 32, 255, 256, 257, 0x1_0001, u32::MAX] {
         assert_eq!((told(m.peek(n, &mut buf[..63])), told(m.get(n, &mut buf[..63])), told(m.has_next(n))), (20, 20, 20));
         assert_eq!((told(m.push(n, HEADER, 5, &BYTES)), told(m.request(n)), told(m.configure_fifo(n, sender()))), (20, 20, 20));
-        assert_eq!((told(m.transmit(n, HEADER, 5, &BYTES)), told(m.configure_filter(0, FilterConfiguration { fifo: n, ..filter() }))), (20, 20));
+        let to = FilterConfiguration { fifo: n, ..filter() };
+        assert_eq!((told(m.transmit(n, HEADER, 5, &BYTES)), told(m.configure_filter(0, to))), (20, 20));
         assert_eq!(m.line.chip.send(n).0, Sending::Refused(Refusal::BadNumber));
         assert_eq!(m.line.chip.deliver(n, HEADER, 0, &BYTES), Delivery::Refused(Refusal::BadNumber));
         assert_eq!((told(m.line.chip.held(n)), told(m.line.chip.held_at(n, 0))), (20, 20));

@@ -38,11 +38,11 @@ impl Junk {
 
     /// Small numbers, edges and wild ones.
     fn number(&mut self) -> u32 {
-        const EDGES: [u32; 15] =
-            [257, 0x3FF, 0x400, 0x7FF, 0x800, 0xBFC, 0xC00, 0xFBFF, 0xFFFF, 0x1000, 0x105C, 0x7F_FFFF, 0x1FFF_FFFF, 0xFFFF_FC00, 0xFFFF_FFFF];
+        const EDGES: [u32; 14] =
+            [257, 0x3FF, 0x400, 0x7FF, 0x800, 0xBFC, 0xC00, 0xFBFF, 0xFFFF, 0x105C, 0x7F_FFFF, 0x1FFF_FFFF, 0xFFFF_FC00, 0xFFFF_FFFF];
         match self.below(4) {
             0 => self.below(36) as u32,
-            1 => EDGES[self.below(15)],
+            1 => EDGES[self.below(14)],
             2 => self.below(0x1000) as u32,
             _ => self.next() as u32,
         }
