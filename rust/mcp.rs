@@ -33,12 +33,22 @@ pub struct Received {
 }
 
 /// Why [`Mcp::transmit`] was refused, and whether its message is in the chip all the same. `?` makes it a [`Refusal`].
+///
+/// ```
+/// # use masevuru::*;
+/// # fn command<L: Line>(mcp: &mut Mcp<L>, header: Header, torque: &[u8]) -> Result<(), Refusal> {
+/// match mcp.transmit(1, header, 5, torque) {
+///     Err(refused) if refused.accepted => mcp.request(1), // the FIFO holds it: ask again, do not transmit again
+///     other => Ok(other?),
+/// }
+/// # }
+/// ```
 #[derive(Clone, Copy, Debug, PartialEq, Eq)]
 pub struct TransmitRefusal {
     /// What the push, or behind it the request, was refused for.
     pub refusal: Refusal,
-    /// The push was done and the request refused: the FIFO holds the message, and [`Mcp::request`] asks again for it to be sent, where
-    /// another transmit would send it twice. Otherwise the FIFO holds what it held.
+    /// The push was done and the request refused: the FIFO holds the message, [`Mcp::request`] asks again for it to be sent, and another
+    /// transmit would send it twice. Otherwise the FIFO holds what it held.
     pub accepted: bool,
 }
 
