@@ -229,6 +229,19 @@ fn a_loop_of_ones_own() {
     }
 }
 
+/// What the calls of the rows, in their order, ask for at most: a mode's poll is five reads and four waits, the PLL's three and two;
+/// has-next, peek and get say what a get with a timestamp does.
+const TURNS: [u32; 28] = [1, 1, 1, 2, 3, 1, 1, 64, 2, 11, 1, 93, 102, 2, 7, 2, 6, 2, 8, 2, 5, 2, 7, 9, 9, 9, 9, 9];
+
+#[test]
+fn turns_at_the_start() {
+    for ((name, _, start, ..), n) in ROWS.iter().zip(TURNS) {
+        assert_eq!(turns(start()), n, "{name}");
+    }
+    let refused = [push(257, HEADER, 5, &BYTES), read_register(0x1000), set_op_mode(8), request(0), get(1, 63), write_ram(0x400, 7)];
+    assert_eq!(refused.map(turns), [0; 6]);
+}
+
 /// What is copied at each exchange.
 #[test]
 fn a_call_is_small() {
