@@ -37,29 +37,29 @@ impl Chip {
     }
 
     /// The chip sends the oldest message of a FIFO, if sending is requested there. The frame has no content but beside `Sending::Frame`.
-    pub fn send(&mut self, fifo: u8) -> (Sending, Frame) {
+    pub fn send(&mut self, fifo: u32) -> (Sending, Frame) {
         let sent = bus::send(self.model, fifo);
         self.model = sent.model;
         (sent.sending, sent.frame)
     }
 
     /// A frame arrives for a FIFO, at this time.
-    pub fn deliver(&mut self, fifo: u8, header: Header, time: u32, payload: &[u8]) -> Delivery {
+    pub fn deliver(&mut self, fifo: u32, header: Header, time: u32, payload: &[u8]) -> Delivery {
         let delivered = bus::deliver(self.model, fifo, header, time, payload);
         self.model = delivered.model;
         delivered.delivery
     }
 
     /// How many messages a FIFO holds. Refused: 20.
-    pub fn held(&self, fifo: u8) -> Result<u8, Refusal> {
-        match fifos::is_fifo(fifo as u32) {
+    pub fn held(&self, fifo: u32) -> Result<u8, Refusal> {
+        match fifos::is_fifo(fifo) {
             true => Ok(bus::held_len(self.model, fifo)),
             false => Err(Refusal::BadNumber),
         }
     }
 
     /// The message `k` places behind a FIFO's oldest, decoded from RAM, or `None` where it holds fewer. Refused: 20.
-    pub fn held_at(&self, fifo: u8, k: u8) -> Result<Option<Decoded>, Refusal> {
+    pub fn held_at(&self, fifo: u32, k: u8) -> Result<Option<Decoded>, Refusal> {
         Ok((k < self.held(fifo)?).then(|| bus::held_at(self.model, fifo, k)))
     }
 }

@@ -1,8 +1,9 @@
 //! Masevuru: a proved driver for Microchip's CAN FD controller MCP2518FD.
 //!
 //! [`Mcp`] is the side to use: give it your SPI as a [`Line`], and call its methods. Behind it is the proved text: a call is a value
-//! that says what it asks for, is given the answer and becomes the next, until it asks for nothing. `src/proved` has it line by
-//! line as it was proved, with the contracts as comments (`//@`). *Document 01* is the project's specification, docs/01-scope.md.
+//! that says what it asks for, is given the answer and becomes the next, until it is over; [`calls`] has it, for a loop of your own.
+//! `src/proved` is that text line by line as it was proved, with the contracts as comments (`//@`). *Document 01* is the project's
+//! specification, docs/01-scope.md.
 //!
 //! # A line over embedded-hal 1.0
 //!
@@ -19,7 +20,7 @@
 compile_error!("a usize of 16 bits is too small for the modelled chip's sums, and was never tried");
 
 mod mcp;
-#[allow(dead_code, unused_imports, missing_docs, clippy::all)]
+#[allow(dead_code, unused_imports, unused_variables, missing_docs, clippy::all)]
 mod proved;
 
 pub use mcp::run;
@@ -27,39 +28,40 @@ pub use mcp::Failed;
 pub use mcp::Line;
 pub use mcp::Mcp;
 pub use mcp::Received;
+pub use mcp::TransmitRefusal;
 /// What a FIFO is set up with: `size` messages (1 to 32; above 32 is 32) of up to 8, 12, 16, 20, 24, 32, 48 or 64 bytes (`plsize` 0 to 7).
-pub use proved::areas::FifoConfiguration;
+pub use proved::driver::FifoConfiguration;
 /// Whether a FIFO sends or receives.
-pub use proved::areas::FifoMode;
+pub use proved::driver::FifoMode;
 /// What a filter is set up with: frames that match `object` where `mask` has ones go to `fifo`.
-pub use proved::areas::FilterConfiguration;
+pub use proved::driver::FilterConfiguration;
 /// Which frames a filter takes.
-pub use proved::areas::FilterMode;
+pub use proved::driver::FilterMode;
 /// A standard identifier, 0 to 0x7FF, or an extended one, 0 to 0x1FFF_FFFF.
-pub use proved::areas::Identifier;
+pub use proved::driver::Identifier;
 /// Of a FIFO that receives: timestamps (RXTSEN), and its interrupt enables.
-pub use proved::areas::RxFifo;
+pub use proved::driver::RxFifo;
 /// Of a FIFO that sends: priority 0 to 31, TXAT (0 no retransmission, 1 three attempts, 2 and 3 unlimited), RTREN, interrupt enables.
-pub use proved::areas::TxFifo;
+pub use proved::driver::TxFifo;
 /// Both bit rates.
-pub use proved::changes::BitTimeConfiguration;
+pub use proved::driver::BitTimeConfiguration;
 /// Fields of CiDBTCFG as the register has them, one less than what they count, and TDCO, -64 to 63.
-pub use proved::changes::DataBitTime;
+pub use proved::driver::DataBitTime;
 /// Fields of IOCON.
-pub use proved::changes::IoConfiguration;
+pub use proved::driver::IoConfiguration;
 /// Fields of CiNBTCFG as the register has them, one less than what they count.
-pub use proved::changes::NominalBitTime;
+pub use proved::driver::NominalBitTime;
 /// The PLL, and whether the system clock is halved.
-pub use proved::changes::OscillatorConfiguration;
+pub use proved::driver::OscillatorConfiguration;
 /// What [`Mcp::configure`] sets up. `counter` turns the time base counter on; `dncnt` is DNCNT, 0 to leave it; `canerrors`, `spierror`
 /// and `eccerror` enable interrupts beside those of transmit and receive.
-pub use proved::changes::Settings;
+pub use proved::driver::Settings;
 /// A message's identifier and flags. A payload has 0 to 8 bytes, with `fdf` also 12, 16, 20, 24, 32, 48 or 64.
-pub use proved::header::Header;
+pub use proved::driver::Header;
 /// A timestamp, or none.
-pub use proved::message::Stamp;
+pub use proved::driver::Stamp;
 /// Document 01's number of a refusal.
-pub use proved::numbers::number;
+pub use proved::driver::number;
 /// Why a call was refused, by document 01's table. 3 carries the address, 4 and 5 the length.
 ///
 /// | number | | given exactly when |
@@ -83,31 +85,104 @@ pub use proved::numbers::number;
 /// | 23 | `BadDlc` | a classic frame was received with a DLC above 8 |
 /// | 24 | `BadSetting` | FIFO size 0, or a number wider than its field |
 /// | 25 | `BadUserAddress` | the chip's user address is above 0xFBFF |
-/// | 26 | `WrongAnswer` | an answer of another length or kind than asked for: only in a loop of your own |
+/// | 26 | `WrongAnswer` | an answer of another length or kind than asked for, at the end of a RAM read too: only in a loop of your own |
 /// | 27 | `NoLayout` | the modelled chip did not leave Configuration: never of a call |
 /// | 28 | `BufferTooSmall` | the buffer for a payload has fewer than 64 bytes, or a RAM read is not for a part inside its buffer |
-pub use proved::spi::Refusal;
+pub use proved::driver::Refusal;
 
-/// The calls themselves, for a loop of your own ([`run`] is one): none of these functions has a precondition.
+/// The calls themselves, for a loop of your own, with interrupts or DMA perhaps. No function here has a precondition.
 ///
-/// A call is started by its family (`push_start` and so on), made a `Call` by one of `of_..`, and run: `ask` says what it wants now, `send`
-/// puts the bytes to send together, `step` takes the answer, until `ask` is `Ask::Nothing`; then `fill` and `outcome`.
+/// A call is a value. The function of its name starts it, from any numbers: what is wrong with them is refused before any exchange, and
+/// the call is then over. [`next`](calls::next) says what it asks for and puts the bytes to send together, [`answer`](calls::answer) takes
+/// how that went and gives the next value, until it is over; [`finish`](calls::finish) says how it ended and fills the lent buffer. One
+/// loop serves every call; `transfer`, which is true where every byte went and came, and `wait_500_microseconds` are yours:
+///
+/// ```
+/// use masevuru::calls::{answer, finish, next, push, Answer, Next, Outcome};
+/// # fn transfer(_: &[u8], rx: &mut [u8]) -> bool { rx.is_empty() }
+/// # fn wait_500_microseconds() {}
+/// # let header = masevuru::Header { extended: false, id: 0x123, rtr: false, brs: false, fdf: false, esi: false };
+/// # let (lent, mut buf) = ([0u8; 0], [0u8; 0]);
+/// let (mut tx, mut rx, mut got) = ([0; 130], [0; 128], 0);
+/// let mut call = push(1, header, 5, &[0x00, 0xC8, 0xFF, 0x38]);
+/// let outcome = loop {
+///     let answered = match next(call, &lent, &mut tx) {
+///         Next::Transfer { n, want } => {
+///             got = want;
+///             if transfer(&tx[..n], &mut rx[..got]) { Answer::Exchanged } else { Answer::Failed }
+///         }
+///         Next::Wait => {
+///             got = 0;
+///             wait_500_microseconds();
+///             Answer::Waited
+///         }
+///         Next::Short => {
+///             got = 0; // tx or lent is too short: nothing may be sent
+///             Answer::Failed
+///         }
+///         Next::Over => break finish(call, &rx[..got], &mut buf),
+///     };
+///     call = answer(call, answered, &rx[..got]);
+/// };
+/// # assert_eq!(outcome, Outcome::Refused(masevuru::Refusal::SpiRead));
+/// ```
+///
+/// `lent` is what a RAM write sends, `buf` what a RAM read, a peek or a get fills. `tx` needs 74 bytes, 130 for `verify_long`, 2 + n for a
+/// RAM write of n; `rx` needs 64, 128 for `verify_long`, n for a RAM read of n. The loop ends, whatever is answered:
+/// [`turns`](calls::turns) falls at every answer. Between two exchanges of a call nobody else may use the chip.
+///
+/// Each answer copies a [`Call`](calls::Call), some 150 bytes. Where that is too dear, [`numbers_of`](calls::numbers_of) and
+/// [`body_of`](calls::body_of) take a call apart, and the functions named `_lent` do the same with the numbers by value and the body lent;
+/// so does [`run`].
 pub mod calls {
-    pub use crate::proved::call::{Found, Outcome};
-    pub use crate::proved::configure::{
-        configure_all, configure_bit_timing, configure_fifo, configure_filter, configure_io, configure_osc, disable_filter, set_op_mode,
-    };
+    /// What a call asks for now, its bytes put at the front of `tx`. `lent` is what a RAM write was started with, otherwise not looked at.
+    pub use crate::proved::driver::next;
+    /// Where an answer takes a call. `rx` is what the exchange received: as many bytes as [`next`] wanted, and none beside a wait; any
+    /// other number is 26. Of a failed exchange they are not looked at. A call is given one answer for each `next`, the answer to its own.
+    pub use crate::proved::driver::answer;
+    /// How a call ended, once [`next`] says that it is over; what it received is put into `buf`. `rx` is what the last exchange received.
+    /// 28 where `buf` is too small for what was received, 26 where a RAM read is given another number of bytes than it received: then no
+    /// byte of `buf` is changed, and the call may be finished again.
+    pub use crate::proved::driver::finish;
+    /// The most exchanges and waits that are left: it falls at every answer, and is 0 exactly where the call is over.
+    pub use crate::proved::driver::turns;
+    /// Whether the message of a push or a transmit is in the chip: also where the transmit's request was refused.
+    pub use crate::proved::driver::accepted;
+
+    /// A call without its bytes.
+    pub use crate::proved::driver::numbers_of;
+    /// A call's own bytes, to lie in memory of the caller's: nobody else changes them until the call is over.
+    pub use crate::proved::driver::body_of;
+    /// As [`next`], [`answer`] or [`finish`], of a call's numbers and its body.
+    pub use crate::proved::driver::{answer_lent, finish_lent, next_lent};
+
+    /// As the method of [`Mcp`](crate::Mcp) of this name, to the part of a buffer of `room` bytes that begins at `place` and has `count`:
+    /// that buffer is lent to [`finish`]. Refused also: 28 where the part does not lie inside it.
+    pub use crate::proved::driver::read_ram;
+    /// As the method of [`Mcp`](crate::Mcp) of this name. `count` is how many bytes will be lent to [`next`].
+    pub use crate::proved::driver::write_ram;
+    /// As the method of [`Mcp`](crate::Mcp) of this name. `room` is the length of the buffer that will be lent to [`finish`].
+    pub use crate::proved::driver::{get, peek};
+    /// As the method of [`Mcp`](crate::Mcp) of this name.
     pub use crate::proved::driver::{
-        ask, fill, of_fetch, of_plan, of_push, of_ram, of_register, of_transmit, outcome, send, step, Call,
+        checked_read, configure, configure_bit_timing, configure_fifo, configure_filter, configure_io, configure_osc, disable_filter,
+        get_op_mode, has_next, modify_register, push, read_register, request, reset, set_op_mode, transmit, verify, verify_long,
+        write_register,
     };
-    pub use crate::proved::plan::{modify_start, verify_start};
-    pub use crate::proved::ram::{read_ram_start, verify_long_start, write_ram_start};
-    pub use crate::proved::register::{checked_start, get_op_mode_start, read_start, reset_start, write_start};
-    pub use crate::proved::rx_fifo::{get_start, has_next_start, peek_start};
-    pub use crate::proved::send::Sent;
-    pub use crate::proved::spi::{exchange_of, Answer, Ask, Exchange};
-    pub use crate::proved::transmit::{request_start, transmit_start};
-    pub use crate::proved::tx_fifo::push_start;
+
+    /// How an exchange or a wait went: `Failed` says that nothing was carried out.
+    pub use crate::proved::driver::Answer;
+    /// A call where it stands, from its start to its end.
+    pub use crate::proved::driver::Call;
+    /// A message that was found; its payload of `len` bytes is at the front of the lent buffer.
+    pub use crate::proved::driver::Found;
+    /// What the loop does now: `Transfer` sends the first `n` bytes of `tx` and receives `want`; `Wait` is 500 microseconds; `Over` is the
+    /// end; where it is `Short`, `tx` or `lent` is too short and no byte was put: that is answered `Failed`.
+    pub use crate::proved::driver::Next;
+    /// A call without its bytes.
+    pub use crate::proved::driver::Numbers;
+    /// How a call ended; `Running` where it has not.
+    pub use crate::proved::driver::Outcome;
 }
 
 #[cfg(feature = "chip")]

@@ -1,5 +1,6 @@
 //! The Rust user's side: one loop over the user's SPI, and a method for each call.
-use crate::calls::*;
+use crate::calls;
+use crate::calls::{answer_lent, body_of, finish_lent, next_lent, numbers_of, Answer, Call, Next, Outcome};
 use crate::{
     BitTimeConfiguration, FifoConfiguration, FilterConfiguration, Header, IoConfiguration, OscillatorConfiguration, Refusal, Settings,
     Stamp,
@@ -31,52 +32,62 @@ pub struct Received {
     pub len: usize,
 }
 
+/// Why [`Mcp::transmit`] was refused, and whether its message is in the chip all the same. `?` makes it a [`Refusal`].
+///
+/// ```
+/// # use masevuru::*;
+/// # fn command<L: Line>(mcp: &mut Mcp<L>, header: Header, torque: &[u8]) -> Result<(), Refusal> {
+/// match mcp.transmit(1, header, 5, torque) {
+///     Err(refused) if refused.accepted => mcp.request(1), // the FIFO holds it: ask again, do not transmit again
+///     other => Ok(other?),
+/// }
+/// # }
+/// ```
+#[derive(Clone, Copy, Debug, PartialEq, Eq)]
+pub struct TransmitRefusal {
+    /// What the push, or behind it the request, was refused for.
+    pub refusal: Refusal,
+    /// The push was done and the request refused: the FIFO holds the message, [`Mcp::request`] asks again for it to be sent, and another
+    /// transmit would send it twice. Otherwise the FIFO holds what it held.
+    pub accepted: bool,
+}
+
 /// The length of a wait that a call asks for.
 const WAIT: u32 = 500;
 
-/// Runs a call over a line to its end, whatever the line answers. `lent` is what a RAM write sends; `buf` is what a RAM read, a peek or
-/// a get fills, once it is done; `tx` and `rx` are scratch, and a call for which one of them is too short is answered as if its exchange
-/// had failed, with nothing sent: 74 and 64 bytes are enough for all calls but `verify_long` (130 and 128) and those on RAM.
+/// Runs a call over a line to its end, whatever the line answers, and says how it ended. `lent` is what a RAM write sends; `buf` is what a
+/// RAM read, a peek or a get fills, once it is done; `tx` and `rx` are scratch, and a call for which one of them is too short is answered
+/// as if its exchange had failed, with nothing sent: 74 and 64 bytes are enough for all calls but `verify_long` (130 and 128), a RAM
+/// write of n bytes (2 + n and 0) and a RAM read of n (2 and n).
 pub fn run<L: Line>(line: &mut L, call: Call, lent: &[u8], buf: &mut [u8], tx: &mut [u8], rx: &mut [u8]) -> Outcome {
-    let mut call = call;
-    let mut want = 0;
+    let (mut call, mut own) = (numbers_of(call), body_of(call));
+    let mut got = 0;
     loop {
-        let asked = ask(call);
-        let answer = match asked {
-            Ask::Nothing => break,
-            Ask::Wait => {
-                want = 0;
+        let answered;
+        (got, answered) = match next_lent(call, &own, lent, tx) {
+            Next::Transfer { n, want } => match rx.get_mut(..want) {
+                Some(rx) => (want, line.transfer(&tx[..n], rx).map_or(Answer::Failed, |()| Answer::Exchanged)),
+                None => (0, Answer::Failed),
+            },
+            Next::Wait => {
                 line.wait(WAIT);
-                Answer::Waited
+                (0, Answer::Waited)
             }
-            _ => {
-                want = exchange_of(asked).want;
-                match (send(call, lent, tx), rx.get_mut(..want)) {
-                    (Sent::Bytes(n), Some(rx)) => match line.transfer(&tx[..n], rx) {
-                        Ok(()) => Answer::Exchanged,
-                        Err(Failed) => Answer::Failed,
-                    },
-                    _ => {
-                        want = 0;
-                        Answer::Failed
-                    }
-                }
-            }
+            Next::Short => (0, Answer::Failed),
+            Next::Over => return finish_lent(call, &own, &rx[..got], buf),
         };
-        call = step(call, answer, &rx[..want]);
+        call = answer_lent(call, answered, &rx[..got], &mut own);
     }
-    fill(call, &rx[..want], buf);
-    outcome(call)
 }
 
 /// The driver over a line.
 ///
 /// A method runs its call to the end: it is done, or refused for a reason of document 01's table, whose number [`crate::number`] gives.
 /// A refused call has asked for no exchange after the one that it was refused at, and has changed no byte of what was lent to it. What
-/// is wrong with a call's own numbers is found before its first exchange (20, 21, 22, 24, 28, and 3, 4, 5 of RAM calls). A failed
-/// exchange is 1, of a RAM write or the reset 2, and 11 instead in `configure`, `configure_osc`, `configure_io`, `configure_bit_timing`,
-/// `set_op_mode` and the two echo tests. 26 and 27 are no method's: the loop gives every answer as it was asked for, and 27 is the
-/// modelled chip's.
+/// is wrong with a call's own numbers is found before its first exchange (20, 21, 22, 24, 28, and 3, 4, 5 of RAM calls): any number may
+/// be given, of a FIFO, a filter or a register too. A failed exchange is 1, of a RAM write or the reset 2, and 11 instead in
+/// `configure`, `configure_osc`, `configure_io`, `configure_bit_timing`, `set_op_mode` and the two echo tests. 26 and 27 are no
+/// method's: the loop gives every answer as it was asked for, and 27 is the modelled chip's.
 ///
 /// Between two exchanges of a call nobody else may use the chip; nothing is kept here from one call to the next.
 #[derive(Debug)]
@@ -124,119 +135,120 @@ impl<L: Line> Mcp<L> {
 
     /// Resets the chip, which is then in Configuration. Refused: 2.
     pub fn reset(&mut self) -> Result<(), Refusal> {
-        self.done(of_register(reset_start()))
+        self.done(calls::reset())
     }
 
     /// The word of a register. Refused: 24 for an address of more than 12 bits; 1.
-    pub fn read_register(&mut self, address: u16) -> Result<u32, Refusal> {
-        self.word(of_register(read_start(address)))
+    pub fn read_register(&mut self, address: u32) -> Result<u32, Refusal> {
+        self.word(calls::read_register(address))
     }
 
     /// Writes the word of a register. Refused: 24 for an address of more than 12 bits; 1.
-    pub fn write_register(&mut self, address: u16, word: u32) -> Result<(), Refusal> {
-        self.done(of_register(write_start(address, word)))
+    pub fn write_register(&mut self, address: u32, word: u32) -> Result<(), Refusal> {
+        self.done(calls::write_register(address, word))
     }
 
     /// Reads a register and writes it with the bits of `clear` at 0, then those of `set` at 1. Refused as a write is.
-    pub fn modify_register(&mut self, address: u16, clear: u32, set: u32) -> Result<(), Refusal> {
-        self.done(of_plan(modify_start(address, clear, set)))
+    pub fn modify_register(&mut self, address: u32, clear: u32, set: u32) -> Result<(), Refusal> {
+        self.done(calls::modify_register(address, clear, set))
     }
 
     /// The word of a register, whose CRC is tested, in at most three tries. Refused: 24; 1; 10 where the third try mismatched too.
-    pub fn checked_read(&mut self, address: u16) -> Result<u32, Refusal> {
-        self.word(of_register(checked_start(address)))
+    pub fn checked_read(&mut self, address: u32) -> Result<u32, Refusal> {
+        self.word(calls::checked_read(address))
     }
 
     /// Fills `buf` from the chip's RAM at 0x400 to 0xBFF, all of it, or where it is refused none. It has 2,048 bytes of scratch on the
     /// stack. Refused: 3 where the part is not in RAM; 4 for a length that is no multiple of 4; 1.
     pub fn read_ram(&mut self, address: u32, buf: &mut [u8]) -> Result<(), Refusal> {
-        let call = of_ram(read_ram_start(address, buf.len(), 0, buf.len()));
+        let call = calls::read_ram(address, buf.len(), 0, buf.len());
         done(run(&mut self.line, call, &[], buf, &mut [0; 2], &mut [0; 2048]))
     }
 
     /// Writes bytes to the chip's RAM. It has 2,050 bytes of scratch on the stack. Refused: 3, as a read; 5 for the length; 2.
     pub fn write_ram(&mut self, address: u32, bytes: &[u8]) -> Result<(), Refusal> {
-        let call = of_ram(write_ram_start(address, bytes.len()));
+        let call = calls::write_ram(address, bytes.len());
         done(run(&mut self.line, call, bytes, &mut [], &mut [0; 2050], &mut []))
     }
 
     /// The short echo test, each bit by itself through the RAM's first word: 64 exchanges. Refused: 11; 13 where a word differed.
     pub fn verify(&mut self) -> Result<(), Refusal> {
-        self.done(of_plan(verify_start()))
+        self.done(calls::verify())
     }
 
     /// The long echo test, 32 words through RAM at once: 2 exchanges. Refused: 11; 13 where a byte differed.
     pub fn verify_long(&mut self) -> Result<(), Refusal> {
-        done(run(&mut self.line, of_ram(verify_long_start()), &[], &mut [], &mut [0; 130], &mut [0; 128]))
+        done(run(&mut self.line, calls::verify_long(), &[], &mut [], &mut [0; 130], &mut [0; 128]))
     }
 
     /// Asks for a mode and polls for it: 0 CAN FD, 1 Sleep, 2 internal loopback, 3 listen only, 4 Configuration, 5 external loopback,
     /// 6 CAN 2.0, 7 restricted. Refused: 24 above 7; 11; 12 where five polls did not show it.
     pub fn set_op_mode(&mut self, mode: u32) -> Result<(), Refusal> {
-        self.done(of_plan(set_op_mode(mode)))
+        self.done(calls::set_op_mode(mode))
     }
 
     /// The mode that the chip is in. Refused: 1.
     pub fn get_op_mode(&mut self) -> Result<u32, Refusal> {
-        self.word(of_register(get_op_mode_start()))
+        self.word(calls::get_op_mode())
     }
 
     /// Takes the chip to Configuration, tries the RAM (`verify`) and sets up all but FIFOs and filters; transmit queue and event FIFO are
     /// turned off. Refused: 24; 11, also where five polls did not show the mode; 13; 14 where three polls did not show the PLL ready.
     pub fn configure(&mut self, settings: Settings) -> Result<(), Refusal> {
-        self.done(of_plan(configure_all(settings)))
+        self.done(calls::configure(settings))
     }
 
     /// Sets the oscillator. Refused: 11; 14.
     pub fn configure_osc(&mut self, c: OscillatorConfiguration) -> Result<(), Refusal> {
-        self.done(of_plan(configure_osc(c)))
+        self.done(calls::configure_osc(c))
     }
 
     /// Sets the IO pins. Refused: 11.
     pub fn configure_io(&mut self, c: IoConfiguration) -> Result<(), Refusal> {
-        self.done(of_plan(configure_io(c)))
+        self.done(calls::configure_io(c))
     }
 
     /// Sets both bit rates and the transmitter delay compensation. Refused: 24; 11.
     pub fn configure_bit_timing(&mut self, c: BitTimeConfiguration) -> Result<(), Refusal> {
-        self.done(of_plan(configure_bit_timing(c)))
+        self.done(calls::configure_bit_timing(c))
     }
 
     /// Sets a FIFO up, 1 to 31. Size, payload size, direction and RXTSEN take effect only in Configuration. Refused: 20; 24; 1.
-    pub fn configure_fifo(&mut self, fifo: u8, c: FifoConfiguration) -> Result<(), Refusal> {
-        self.done(of_plan(configure_fifo(fifo, c)))
+    pub fn configure_fifo(&mut self, fifo: u32, c: FifoConfiguration) -> Result<(), Refusal> {
+        self.done(calls::configure_fifo(fifo, c))
     }
 
     /// Sets a filter up, 0 to 31, and turns it on. Refused: 20, also for the FIFO that it gives to; 21; 1.
-    pub fn configure_filter(&mut self, filter: u8, c: FilterConfiguration) -> Result<(), Refusal> {
-        self.done(of_plan(configure_filter(filter, c)))
+    pub fn configure_filter(&mut self, filter: u32, c: FilterConfiguration) -> Result<(), Refusal> {
+        self.done(calls::configure_filter(filter, c))
     }
 
     /// Turns a filter off. Refused: 20; 1.
-    pub fn disable_filter(&mut self, filter: u8) -> Result<(), Refusal> {
-        self.done(of_plan(disable_filter(filter)))
+    pub fn disable_filter(&mut self, filter: u32) -> Result<(), Refusal> {
+        self.done(calls::disable_filter(filter))
     }
 
     /// Puts a message into a FIFO that sends. Refused: 20, 21, 24 (SEQ has 23 bits), 22; then 6, 7, 8, 25, 3, and 1 or 2 for a failed
     /// exchange. Done says that the message is in the chip; where it is refused the FIFO holds what it held.
-    pub fn push(&mut self, fifo: u8, header: Header, seq: u32, payload: &[u8]) -> Result<(), Refusal> {
-        self.done(of_push(push_start(fifo, header, seq, payload)))
+    pub fn push(&mut self, fifo: u32, header: Header, seq: u32, payload: &[u8]) -> Result<(), Refusal> {
+        self.done(calls::push(fifo, header, seq, payload))
     }
 
     /// Asks for what a FIFO holds to be sent. Refused: 20; 1.
-    pub fn request(&mut self, fifo: u8) -> Result<(), Refusal> {
-        self.done(of_plan(request_start(fifo)))
+    pub fn request(&mut self, fifo: u32) -> Result<(), Refusal> {
+        self.done(calls::request(fifo))
     }
 
-    /// Push, then request. Refused as these are. 1 does not say whether the message was accepted before the request failed: where that
-    /// matters, push and request.
-    pub fn transmit(&mut self, fifo: u8, header: Header, seq: u32, payload: &[u8]) -> Result<(), Refusal> {
-        self.done(of_transmit(transmit_start(fifo, header, seq, payload)))
+    /// Push, then request. Refused as these are; the error says whether the message is in the chip all the same. Then only the request
+    /// was refused, and it is what to try again.
+    pub fn transmit(&mut self, fifo: u32, header: Header, seq: u32, payload: &[u8]) -> Result<(), TransmitRefusal> {
+        self.push(fifo, header, seq, payload).map_err(|refusal| TransmitRefusal { refusal, accepted: false })?;
+        self.request(fifo).map_err(|refusal| TransmitRefusal { refusal, accepted: true })
     }
 
     /// Whether a receive FIFO holds a message. Refused: 20; 9; 1.
-    pub fn has_next(&mut self, fifo: u8) -> Result<bool, Refusal> {
-        match self.short(of_fetch(has_next_start(fifo)), &mut []) {
+    pub fn has_next(&mut self, fifo: u32) -> Result<bool, Refusal> {
+        match self.short(calls::has_next(fifo), &mut []) {
             Outcome::Yes => Ok(true),
             Outcome::No => Ok(false),
             other => Err(refusal(other)),
@@ -245,13 +257,13 @@ impl<L: Line> Mcp<L> {
 
     /// The oldest message of a receive FIFO, which stays there, or `None` where it holds none. The payload goes to the front of `buf`,
     /// which needs 64 bytes, also for shorter ones; every other byte stays. Refused: 20, 28; then 9, 25, 3, 23, 3, and 1.
-    pub fn peek(&mut self, fifo: u8, buf: &mut [u8]) -> Result<Option<Received>, Refusal> {
-        self.message(of_fetch(peek_start(fifo, buf.len())), buf)
+    pub fn peek(&mut self, fifo: u32, buf: &mut [u8]) -> Result<Option<Received>, Refusal> {
+        self.message(calls::peek(fifo, buf.len()), buf)
     }
 
     /// As `peek`, and the message is taken from the FIFO. Where it is refused, the FIFO still holds it.
-    pub fn get(&mut self, fifo: u8, buf: &mut [u8]) -> Result<Option<Received>, Refusal> {
-        self.message(of_fetch(get_start(fifo, buf.len())), buf)
+    pub fn get(&mut self, fifo: u32, buf: &mut [u8]) -> Result<Option<Received>, Refusal> {
+        self.message(calls::get(fifo, buf.len()), buf)
     }
 }
 
@@ -278,3 +290,18 @@ impl core::fmt::Display for Refusal {
 }
 
 impl core::error::Error for Refusal {}
+
+/// The refusal, and behind it where the message is.
+impl core::fmt::Display for TransmitRefusal {
+    fn fmt(&self, f: &mut core::fmt::Formatter<'_>) -> core::fmt::Result {
+        write!(f, "{}; the message was {}", self.refusal, if self.accepted { "accepted" } else { "not accepted" })
+    }
+}
+
+impl core::error::Error for TransmitRefusal {}
+
+impl From<TransmitRefusal> for Refusal {
+    fn from(refused: TransmitRefusal) -> Refusal {
+        refused.refusal
+    }
+}

@@ -80,7 +80,7 @@ void entry(void)
     answers += mcp_configure(&line, &settings) + mcp_configure_osc(&line, &settings.oscillator) + mcp_configure_io(&line, &settings.io);
     answers += mcp_configure_bit_timing(&line, &settings.bittime) + mcp_configure_fifo(&line, 1, &fifo);
     answers += mcp_configure_filter(&line, 0, &filter) + mcp_disable_filter(&line, 0);
-    answers += mcp_push(&line, 1, &header, 0, buf, 8) + mcp_request(&line, 1) + mcp_transmit(&line, 1, &header, 0, buf, 8);
+    answers += mcp_push(&line, 1, &header, 0, buf, 8) + mcp_request(&line, 1) + mcp_transmit(&line, 1, &header, 0, buf, 8, &next);
     answers += mcp_has_next(&line, 2, &next) + mcp_peek(&line, 2, buf, 64, &message) + mcp_get(&line, 2, buf, 64, &message);
     for (;;)
         ;

@@ -32,7 +32,7 @@ static struct {
     mcp_message message;
     mcp_frame frame;
     uint32_t word, value;
-    uint8_t next;
+    uint8_t next, accepted;
 } out, before;
 
 static const mcp_line line = { .transfer = transfer, .wait = mcp_chip_wait, .context = &chip, .value = &out.value };
@@ -107,7 +107,7 @@ CALL(a_filter, mcp_configure_filter(l, 0, &filter))
 CALL(a_disable, mcp_disable_filter(l, 0))
 CALL(a_push, mcp_push(l, 1, &header, 5, bytes, 8))
 CALL(a_request, mcp_request(l, 1))
-CALL(a_transmit, mcp_transmit(l, 1, &header, 5, bytes, 8))
+CALL(a_transmit, mcp_transmit(l, 1, &header, 5, bytes, 8, NULL))
 CALL(a_next, mcp_has_next(l, 2, &out.next))
 CALL(a_peek_2, mcp_peek(l, 2, out.buf, 72, &out.message))
 CALL(a_peek_3, mcp_peek(l, 3, out.buf, 72, &out.message))
@@ -177,6 +177,27 @@ static void failing(void)
     }
 }
 
+/* A transmit tells whether the message is in the chip: not where one of the push's five exchanges failed, but where one of the request's
+ * two did; then a request sends it. */
+static void transmitted(void)
+{
+    for (unsigned k = 0; k <= 7; k++) {
+        const unsigned accepted = k == 0 || k > 5;
+        prepare();
+        fail_at = k;
+        IS(mcp_transmit(&line, 1, &header, 5, bytes, 8, &out.accepted) == (k == 0 ? 0 : k == 4 ? 2 : 1));
+        IS(out.accepted == accepted && held(1) == accepted);
+        out.accepted = before.accepted;
+        IS(untouched());
+        IS(mcp_request(&line, 1) == 0 && mcp_chip_send(&chip, 1, &out.frame) == 0);
+        IS(out.frame.kind == (accepted ? MCP_FRAME : MCP_NOTHING) && out.frame.seq == (accepted ? 5 : 0) && held(1) == 0);
+    }
+    prepare();
+    IS(mcp_transmit(&line, 257, &header, 5, bytes, 8, &out.accepted) == 20 && out.accepted == 0 && exchanges == 0);
+    out.accepted = 0x5A;
+    IS(mcp_transmit(&line, 2, &header, 5, bytes, 8, &out.accepted) == 6 && out.accepted == 0);
+}
+
 /* The chip as its registers of FIFO 1 to 3 and its RAM show it. */
 typedef struct { uint8_t registers[36], ram[2048]; } view;
 
@@ -228,9 +249,9 @@ static void nulls(void)
     NOTHING_DONE(mcp_push(&line, 1, &header, 5, NULL, 8));
     NOTHING_DONE(mcp_push(&line, 1, &header, 5, bytes, too_long));
     NOTHING_DONE(mcp_push(&line, 257, &header, 5, NULL, 8)); /* before 20 */
-    NOTHING_DONE(mcp_transmit(&line, 1, NULL, 5, bytes, 8));
-    NOTHING_DONE(mcp_transmit(&line, 1, &header, 5, NULL, 8));
-    NOTHING_DONE(mcp_transmit(&line, 1, &header, 5, bytes, too_long));
+    NOTHING_DONE(mcp_transmit(&line, 1, NULL, 5, bytes, 8, &out.accepted));
+    NOTHING_DONE(mcp_transmit(&line, 1, &header, 5, NULL, 8, &out.accepted));
+    NOTHING_DONE(mcp_transmit(&line, 1, &header, 5, bytes, too_long, &out.accepted));
     NOTHING_DONE(mcp_has_next(&line, 2, NULL));
     NOTHING_DONE(mcp_peek(&line, 2, NULL, 64, &out.message));
     NOTHING_DONE(mcp_peek(&line, 2, out.buf, too_long, &out.message));
@@ -279,7 +300,7 @@ static void numbers(void)
     for (size_t i = 0; i < sizeof no_fifo / sizeof *no_fifo; i++) {
         uint32_t n = no_fifo[i];
         IS(mcp_configure_fifo(&line, n, &sender) == 20);
-        IS(mcp_push(&line, n, &header, 5, bytes, 8) == 20 && mcp_transmit(&line, n, &header, 5, bytes, 8) == 20);
+        IS(mcp_push(&line, n, &header, 5, bytes, 8) == 20 && mcp_transmit(&line, n, &header, 5, bytes, 8, NULL) == 20);
         IS(mcp_request(&line, n) == 20 && mcp_has_next(&line, n, &out.next) == 20);
         IS(mcp_peek(&line, n, out.buf, 72, &out.message) == 20 && mcp_get(&line, n, out.buf, 72, &out.message) == 20);
         IS(mcp_peek(&line, n, out.buf, 63, &out.message) == 20 && mcp_get(&line, n, out.buf, 63, &out.message) == 20);
@@ -454,7 +475,7 @@ static void header_fields(void)
         IS(mcp_chip_new(&chip) == 0 && mcp_configure(&line, &plain) == 0);
         IS(mcp_configure_fifo(&line, 1, &wide) == 0 && mcp_configure_fifo(&line, 2, &stamped) == 0 && mcp_set_op_mode(&line, 0) == 0);
         fresh();
-        IS(mcp_transmit(&line, 1, h, fields[i].seq, bytes, len) == 0);
+        IS(mcp_transmit(&line, 1, h, fields[i].seq, bytes, len, &out.accepted) == 0 && out.accepted == 1);
         IS(mcp_read_ram(&line, 0x400, object, 72) == 0);
         for (size_t b = 0; b < 8; b++)
             IS(object[b] == (uint8_t)(fields[i].words[b / 4] >> 8 * (b % 4)));
@@ -538,6 +559,7 @@ static void the_chip(void)
 int main(void)
 {
     failing();
+    transmitted();
     nulls();
     numbers();
     fifo_fields();

@@ -1,5 +1,5 @@
 //! The modelled chip from C: memory of the caller's that `mcp_chip_new` makes a chip of.
-use crate::{bytes, fifo_number, layout, lent, there, CHeader, NULL};
+use crate::{bytes, layout, lent, there, CHeader, NULL};
 use core::ffi::{c_int, c_void};
 use core::mem::{align_of, offset_of, size_of};
 use masevuru::chip::{Chip, Decoded, Delivery, Frame, Reading, Sending};
@@ -118,7 +118,7 @@ pub unsafe extern "C" fn mcp_chip_wait(_: *mut c_void, _: u32) {}
 pub unsafe extern "C" fn mcp_chip_send(p: *mut CChip, fifo: u32, frame: *mut CFrame) -> c_int {
     (|| {
         there(frame)?;
-        let sent = match chip(p)?.send(fifo_number(fifo)) {
+        let sent = match chip(p)?.send(fifo) {
             (Sending::Frame, f) => Ok(CFrame::of(f)),
             (Sending::NoFrame, _) => Ok(CFrame::none(NO_FRAME)),
             (Sending::Nothing, _) => Ok(CFrame::none(NOTHING)),
@@ -142,7 +142,7 @@ pub unsafe extern "C" fn mcp_chip_deliver(
     (|| {
         there(turned_down)?;
         let (header, payload) = (header.as_ref()?.header(), bytes(payload, len)?);
-        let why = match chip(p)?.deliver(fifo_number(fifo), header, time, payload) {
+        let why = match chip(p)?.deliver(fifo, header, time, payload) {
             Delivery::Delivered => Ok(0),
             Delivery::Configuration => Ok(1),
             Delivery::NotReceiving => Ok(2),
@@ -159,7 +159,7 @@ pub unsafe extern "C" fn mcp_chip_deliver(
 pub unsafe extern "C" fn mcp_chip_held(p: *const CChip, fifo: u32, count: *mut u32) -> c_int {
     (|| {
         there(count)?;
-        Some(told(looked_at(p)?.held(fifo_number(fifo)).map(u32::from), count))
+        Some(told(looked_at(p)?.held(fifo).map(u32::from), count))
     })()
     .unwrap_or(NULL)
 }
@@ -170,7 +170,7 @@ pub unsafe extern "C" fn mcp_chip_held_at(p: *const CChip, fifo: u32, k: u32, fr
     (|| {
         there(frame)?;
         let k = u8::try_from(k).unwrap_or(u8::MAX);
-        Some(told(looked_at(p)?.held_at(fifo_number(fifo), k).map(CFrame::held), frame))
+        Some(told(looked_at(p)?.held_at(fifo, k).map(CFrame::held), frame))
     })()
     .unwrap_or(NULL)
 }

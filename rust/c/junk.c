@@ -27,7 +27,7 @@ static uint64_t next(void)
 /* Small numbers, edges and wild ones. */
 static uint32_t number(void)
 {
-    static const uint32_t edges[] = { 0x3FF, 0x400, 0x7FF, 0x800, 0xBFC, 0xC00, 0xFBFF, 0xFFFF, 0x1000, 257, 0x7FFFFF, 0x800000,
+    static const uint32_t edges[] = { 0x3FF, 0x400, 0x7FF, 0x800, 0xBFC, 0xC00, 0xFBFF, 0xFFFF, 0x105C, 257, 0x7FFFFF, 0x800000,
                                       0x1FFFFFFF, 0x20000000, 0xFFFFFC00, 0xFFFFFFFF };
     uint64_t r = next();
     switch (r % 4) {
@@ -134,7 +134,7 @@ static struct {
     mcp_message message;
     mcp_frame frame;
     uint32_t word, value;
-    uint8_t flag;
+    uint8_t flag, accepted;
 } out, before;
 
 int main(int argc, char **argv)
@@ -163,6 +163,7 @@ int main(int argc, char **argv)
         mcp_message *m = next() % 32 ? &out.message : NULL;
         mcp_frame *f = next() % 32 ? &out.frame : NULL;
         uint32_t *w = next() % 32 ? &out.word : NULL;
+        uint8_t *x = next() % 4 ? &out.accepted : NULL;
         int call = (int)(next() % KINDS), none, no_to, no_from, r;
         if (next() % 64 == 0) line.transfer = NULL;
         if (next() % 64 == 0) line.wait = NULL;
@@ -216,7 +217,7 @@ int main(int argc, char **argv)
         case DISABLE: r = mcp_disable_filter(l, a); break;
         case PUSH: r = mcp_push(l, a, h, b, q, lent); none |= !h || no_from; break;
         case REQUEST: r = mcp_request(l, a); break;
-        case TRANSMIT: r = mcp_transmit(l, a, h, b, q, lent); none |= !h || no_from; break;
+        case TRANSMIT: r = mcp_transmit(l, a, h, b, q, lent, x); none |= !h || no_from; break;
         case HAS_NEXT: r = mcp_has_next(l, a, &out.flag); break;
         case PEEK: r = mcp_peek(l, a, p, lent, m); none |= !m || no_to; break;
         case GET: r = mcp_get(l, a, p, lent, m); none |= !m || no_to; break;
@@ -232,6 +233,10 @@ int main(int argc, char **argv)
             /* the caller's own, or where an object of at most 72 bytes is not inside RAM */
             IS(r != 3 ? out.value == len : is_first(call, r) ? out.value == c : out.value > 0xC00 - 72 && out.value < 0x10010);
             out.value = before.value;
+        }
+        if (call == TRANSMIT && x && r != MCP_NULL) { /* also where it is refused; a push's exchanges are five */
+            IS(out.accepted == (asked > 5));
+            out.accepted = before.accepted;
         }
         if (r) {
             IS(!memcmp(&out, &before, sizeof out));

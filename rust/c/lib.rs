@@ -279,34 +279,21 @@ impl CIdentifier {
 
 impl CFilter {
     fn settings(self, mode: FilterMode) -> FilterConfiguration {
-        FilterConfiguration { fifo: fifo_number(self.fifo), mode, object: self.object.identifier(), mask: self.mask.identifier() }
+        FilterConfiguration { fifo: self.fifo, mode, object: self.object.identifier(), mask: self.mask.identifier() }
     }
 
     /// A mode that there is not is 24, behind what else is wrong with the call (20, 21).
-    fn configure(self, m: &mut Mcp<CLine>, filter: u8) -> Result<(), Refusal> {
+    fn configure(self, m: &mut Mcp<CLine>, filter: u32) -> Result<(), Refusal> {
         match self.mode {
             0 => m.configure_filter(filter, self.settings(FilterMode::Standard)),
             1 => m.configure_filter(filter, self.settings(FilterMode::Extended)),
             2 => m.configure_filter(filter, self.settings(FilterMode::Both)),
-            _ => match calls::outcome(calls::of_plan(calls::configure_filter(filter, self.settings(FilterMode::Both)))) {
+            _ => match calls::finish(calls::configure_filter(filter, self.settings(FilterMode::Both)), &[], &mut []) {
                 calls::Outcome::Refused(r) => Err(r),
                 _ => Err(Refusal::BadSetting),
             },
         }
     }
-}
-
-/// A number that is wider than Rust's is one that the driver refuses (20, 20, 24).
-fn fifo_number(n: u32) -> u8 {
-    u8::try_from(n).unwrap_or(0)
-}
-
-fn filter_number(n: u32) -> u8 {
-    u8::try_from(n).unwrap_or(0xFF)
-}
-
-fn register_address(a: u32) -> u16 {
-    u16::try_from(a).unwrap_or(0xFFFF)
 }
 
 /// Whether a pointer and a length are a buffer: not where it is NULL and the length isn't 0, nor where no object is so long.
@@ -333,13 +320,13 @@ fn there<T>(p: *mut T) -> Option<()> {
     (!p.is_null()).then_some(())
 }
 
-/// A RAM read as `Mcp::read_ram` makes it, with the bytes received going from its scratch to `buf` where it is done.
+/// A RAM read as `Mcp::read_ram` makes it, but with nothing lent to be filled: it ends in 28 where its bytes were received, as no RAM read
+/// of the length of its buffer does before, and they go from the scratch to `buf`.
 unsafe fn read_ram(m: &mut Mcp<CLine>, address: u32, buf: *mut u8, len: usize) -> Result<(), Refusal> {
     let mut rx = [0; 2048];
-    let call = calls::of_ram(calls::read_ram_start(address, len, 0, len));
-    match (run(&mut m.line, call, &[], &mut [], &mut [0; 2], &mut rx), rx.get(..len)) {
-        (calls::Outcome::Done, Some([])) => Ok(()), // `buf` may be NULL
-        (calls::Outcome::Done, Some(received)) => {
+    match (run(&mut m.line, calls::read_ram(address, len, 0, len), &[], &mut [], &mut [0; 2], &mut rx), rx.get(..len)) {
+        (calls::Outcome::Done, _) => Ok(()), // of length 0: `buf` may be NULL
+        (calls::Outcome::Refused(Refusal::BufferTooSmall), Some(received)) => {
             buf.copy_from_nonoverlapping(received.as_ptr(), len);
             Ok(())
         }
@@ -400,13 +387,13 @@ exported! {
     mcp_reset(m) = m.reset();
     mcp_read_register(m, address: u32, word: *mut u32) = {
         there(word)?;
-        m.read_register(register_address(address)).map(|w| word.write(w))
+        m.read_register(address).map(|w| word.write(w))
     };
-    mcp_write_register(m, address: u32, word: u32) = m.write_register(register_address(address), word);
-    mcp_modify_register(m, address: u32, clear: u32, set: u32) = m.modify_register(register_address(address), clear, set);
+    mcp_write_register(m, address: u32, word: u32) = m.write_register(address, word);
+    mcp_modify_register(m, address: u32, clear: u32, set: u32) = m.modify_register(address, clear, set);
     mcp_checked_read(m, address: u32, word: *mut u32) = {
         there(word)?;
-        m.checked_read(register_address(address)).map(|w| word.write(w))
+        m.checked_read(address).map(|w| word.write(w))
     };
     mcp_read_ram(m, address: u32, buf: *mut u8, len: usize) = {
         lent(buf, len)?;
@@ -424,24 +411,28 @@ exported! {
     mcp_configure_osc(m, oscillator: *const COscillator) = m.configure_osc(oscillator.as_ref()?.settings());
     mcp_configure_io(m, io: *const CIo) = m.configure_io(io.as_ref()?.settings());
     mcp_configure_bit_timing(m, bittime: *const CBittime) = m.configure_bit_timing(bittime.as_ref()?.settings());
-    mcp_configure_fifo(m, fifo: u32, settings: *const CFifo) = m.configure_fifo(fifo_number(fifo), settings.as_ref()?.settings());
-    mcp_configure_filter(m, filter: u32, settings: *const CFilter) = settings.as_ref()?.configure(&mut m, filter_number(filter));
-    mcp_disable_filter(m, filter: u32) = m.disable_filter(filter_number(filter));
+    mcp_configure_fifo(m, fifo: u32, settings: *const CFifo) = m.configure_fifo(fifo, settings.as_ref()?.settings());
+    mcp_configure_filter(m, filter: u32, settings: *const CFilter) = settings.as_ref()?.configure(&mut m, filter);
+    mcp_disable_filter(m, filter: u32) = m.disable_filter(filter);
     mcp_push(m, fifo: u32, header: *const CHeader, seq: u32, payload: *const u8, len: usize) = {
-        m.push(fifo_number(fifo), header.as_ref()?.header(), seq, bytes(payload, len)?)
+        m.push(fifo, header.as_ref()?.header(), seq, bytes(payload, len)?)
     };
-    mcp_request(m, fifo: u32) = m.request(fifo_number(fifo));
-    mcp_transmit(m, fifo: u32, header: *const CHeader, seq: u32, payload: *const u8, len: usize) = {
-        m.transmit(fifo_number(fifo), header.as_ref()?.header(), seq, bytes(payload, len)?)
+    mcp_request(m, fifo: u32) = m.request(fifo);
+    mcp_transmit(m, fifo: u32, header: *const CHeader, seq: u32, payload: *const u8, len: usize, accepted: *mut u8) = {
+        let answer = m.transmit(fifo, header.as_ref()?.header(), seq, bytes(payload, len)?);
+        if !accepted.is_null() {
+            accepted.write(answer.map_or_else(|refused| refused.accepted, |()| true) as u8);
+        }
+        answer.map_err(Refusal::from)
     };
     mcp_has_next(m, fifo: u32, next: *mut u8) = {
         there(next)?;
-        m.has_next(fifo_number(fifo)).map(|n| next.write(n as u8))
+        m.has_next(fifo).map(|n| next.write(n as u8))
     };
     mcp_peek(m, fifo: u32, buf: *mut u8, room: usize, message: *mut CMessage) = {
-        fetch(buf, room, message, |own| m.peek(fifo_number(fifo), own))?
+        fetch(buf, room, message, |own| m.peek(fifo, own))?
     };
     mcp_get(m, fifo: u32, buf: *mut u8, room: usize, message: *mut CMessage) = {
-        fetch(buf, room, message, |own| m.get(fifo_number(fifo), own))?
+        fetch(buf, room, message, |own| m.get(fifo, own))?
     };
 }

@@ -2,8 +2,9 @@
  *
  * A call runs to its end over the two functions of a line. It answers 0 where it is done; document 01's number where it is refused; or
  * MCP_NULL, which is none of these. A refused call has asked for no exchange after the one that it was refused at, and has changed no
- * byte that was lent to it; what a call writes elsewhere (*word, *message and so on) is written only where it answers 0. What a call writes
- * to need not be initialised.
+ * byte that was lent to it; what a call writes elsewhere (*word, *message and so on) is written only where it answers 0, but for *accepted
+ * of mcp_transmit. What a call writes to need not be initialised. Any number may be given, of a FIFO, a filter or a register too: what
+ * there is not is refused before any exchange.
  *
  * What the caller keeps to:
  * - A pointer is NULL or points to what its type says, as many as the length beside it, and aligned.
@@ -157,9 +158,10 @@ int mcp_push(const mcp_line *line, uint32_t fifo, const mcp_header *header, uint
              const uint8_t *payload, size_t len);                                                       /* 20, 21, 24, 22; 6, 7, 8, 25, 3 */
 /* What the FIFO holds is to be sent. */
 int mcp_request(const mcp_line *line, uint32_t fifo);                                                   /* 20 */
-/* Push, then request. 1 does not say whether the message was accepted before the request failed. */
+/* Push, then request. Where accepted is not NULL, *accepted is 1 where the message is in the chip, else 0: also where the call is refused.
+ * Refused and accepted, only the request was refused: mcp_request is what to try again, another transmit would send the message twice. */
 int mcp_transmit(const mcp_line *line, uint32_t fifo, const mcp_header *header, uint32_t seq,
-                 const uint8_t *payload, size_t len);                                                   /* as push */
+                 const uint8_t *payload, size_t len, uint8_t *accepted);                                /* as push */
 
 /* *next is 1 where the FIFO holds a message, else 0. */
 int mcp_has_next(const mcp_line *line, uint32_t fifo, uint8_t *next);                                   /* 20; 9 */

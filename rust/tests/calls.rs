@@ -1,5 +1,6 @@
-//! Call by call on the modelled chip: exchanges that fail one after the other, answers that come late or wrong, what lent buffers hold
-//! afterwards, scratch that is too short. What is expected was written down from document 01.
+//! Call by call on the modelled chip: exchanges that fail one after the other, answers that come late or wrong, numbers that there are
+//! not, what lent buffers hold afterwards, scratch that is too short, turns that are left. What is expected was written down from
+//! document 01.
 use masevuru::calls::*;
 use masevuru::chip::{Chip, Delivery, Reading, Sending};
 use masevuru::*;
@@ -90,13 +91,14 @@ fn twisted(twist: fn(u32, &mut [u8])) -> Driver {
     mcp
 }
 
-fn told<T>(answer: Result<T, Refusal>) -> u32 {
-    answer.map_or_else(number, |_| 0)
+fn told<T, R: Into<Refusal>>(answer: Result<T, R>) -> u32 {
+    answer.map_or_else(|r| number(r.into()), |_| 0)
 }
 
-/// A call's name, what it does with the driver and 72 lent bytes, and by what number each of its exchanges is refused that fails: so many
-/// times a number. Behind that a FIFO, the last exchange whose failing leaves it as it was, and how many messages it holds then and later.
-type Row = (&'static str, fn(&mut Driver, &mut [u8; 72]) -> u32, &'static [(u32, u32)], (u8, u32, u8, u8));
+/// A call's name, what it does with the driver and 72 lent bytes, how the same is started for a loop of one's own, and by what number each
+/// of its exchanges is refused that fails: so many times a number. Behind that a FIFO, the last exchange whose failing leaves it as it
+/// was, and how many messages it holds then and later.
+type Row = (&'static str, fn(&mut Driver, &mut [u8; 72]) -> u32, fn() -> Call, &'static [(u32, u32)], (u32, u32, u8, u8));
 
 /// Document 01: 1 where a read or a register write failed; 2 where a RAM write or the reset failed; 11 in place of both in any
 /// configuration, mode or echo call but `configure_fifo` and `configure_filter`; `get_op_mode` is a register read. The exchanges are
@@ -104,40 +106,62 @@ type Row = (&'static str, fn(&mut Driver, &mut [u8; 72]) -> u32, &'static [(u32,
 /// one poll. `configure`: mode 2, poll 1, echo 64, OSC 2, PLL's poll 1 if on, IOCON 2, bit timing 6, STEF 2, TXQEN 2, TSCON 2 if
 /// the counter is on, DNCNT 2 if not 0, RTXAT 2, CiINT 2.
 const ROWS: [Row; 28] = [
-    ("reset", |m, _| told(m.reset()), &[(1, 2)], (0, 0, 0, 0)),
-    ("read_register", |m, _| told(m.read_register(0x000)), &[(1, 1)], (0, 0, 0, 0)),
-    ("write_register", |m, _| told(m.write_register(0x004, 7)), &[(1, 1)], (0, 0, 0, 0)),
-    ("modify_register", |m, _| told(m.modify_register(0x004, 1, 2)), &[(2, 1)], (0, 0, 0, 0)),
-    ("checked_read", |m, _| told(m.checked_read(0xE00)), &[(1, 1)], (0, 0, 0, 0)),
-    ("read_ram", |m, buf| told(m.read_ram(0x400, buf)), &[(1, 1)], (0, 0, 0, 0)),
-    ("write_ram", |m, _| told(m.write_ram(0x800, &BYTES)), &[(1, 2)], (0, 0, 0, 0)),
-    ("verify", |m, _| told(m.verify()), &[(64, 11)], (0, 0, 0, 0)),
-    ("verify_long", |m, _| told(m.verify_long()), &[(2, 11)], (0, 0, 0, 0)),
-    ("set_op_mode", |m, _| told(m.set_op_mode(4)), &[(3, 11)], (0, 0, 0, 0)),
-    ("get_op_mode", |m, _| told(m.get_op_mode()), &[(1, 1)], (0, 0, 0, 0)),
-    ("configure", |m, _| told(m.configure(settings(false))), &[(85, 11)], (0, 0, 0, 0)),
-    ("configure, all on", |m, _| told(m.configure(settings(true))), &[(90, 11)], (0, 0, 0, 0)),
-    ("configure_osc", |m, _| told(m.configure_osc(settings(false).oscillator)), &[(2, 11)], (0, 0, 0, 0)),
-    ("configure_osc, PLL on", |m, _| told(m.configure_osc(settings(true).oscillator)), &[(3, 11)], (0, 0, 0, 0)),
-    ("configure_io", |m, _| told(m.configure_io(settings(false).io)), &[(2, 11)], (0, 0, 0, 0)),
-    ("configure_bit_timing", |m, _| told(m.configure_bit_timing(settings(false).bittime)), &[(6, 11)], (0, 0, 0, 0)),
-    ("configure_fifo", |m, _| told(m.configure_fifo(1, sender())), &[(2, 1)], (0, 0, 0, 0)),
-    ("configure_filter", |m, _| told(m.configure_filter(0, filter())), &[(8, 1)], (0, 0, 0, 0)),
-    ("disable_filter", |m, _| told(m.disable_filter(0)), &[(2, 1)], (0, 0, 0, 0)),
-    ("push", |m, _| told(m.push(1, HEADER, 5, &BYTES)), &[(3, 1), (1, 2), (1, 1)], (1, 5, 0, 1)),
-    ("request", |m, _| told(m.request(1)), &[(2, 1)], (1, 2, 0, 0)),
-    ("transmit", |m, _| told(m.transmit(1, HEADER, 5, &BYTES)), &[(3, 1), (1, 2), (3, 1)], (1, 5, 0, 1)),
-    ("has_next", |m, _| told(m.has_next(2)), &[(2, 1)], (2, 2, 1, 1)),
-    ("peek, with a timestamp", |m, buf| told(m.peek(2, buf)), &[(7, 1)], (2, 7, 1, 1)),
-    ("peek, without", |m, buf| told(m.peek(3, buf)), &[(6, 1)], (3, 6, 1, 1)),
-    ("get, with a timestamp", |m, buf| told(m.get(2, buf)), &[(9, 1)], (2, 9, 1, 0)),
-    ("get, without", |m, buf| told(m.get(3, buf)), &[(8, 1)], (3, 8, 1, 0)),
+    ("reset", |m, _| told(m.reset()), || reset(), &[(1, 2)], (0, 0, 0, 0)),
+    ("read_register", |m, _| told(m.read_register(0x000)), || read_register(0x000), &[(1, 1)], (0, 0, 0, 0)),
+    ("write_register", |m, _| told(m.write_register(0x004, 7)), || write_register(0x004, 7), &[(1, 1)], (0, 0, 0, 0)),
+    ("modify_register", |m, _| told(m.modify_register(0x004, 1, 2)), || modify_register(0x004, 1, 2), &[(2, 1)], (0, 0, 0, 0)),
+    ("checked_read", |m, _| told(m.checked_read(0xE00)), || checked_read(0xE00), &[(1, 1)], (0, 0, 0, 0)),
+    ("read_ram", |m, buf| told(m.read_ram(0x400, buf)), || read_ram(0x400, 72, 0, 72), &[(1, 1)], (0, 0, 0, 0)),
+    ("write_ram", |m, _| told(m.write_ram(0x800, &BYTES)), || write_ram(0x800, 8), &[(1, 2)], (0, 0, 0, 0)),
+    ("verify", |m, _| told(m.verify()), || verify(), &[(64, 11)], (0, 0, 0, 0)),
+    ("verify_long", |m, _| told(m.verify_long()), || verify_long(), &[(2, 11)], (0, 0, 0, 0)),
+    ("set_op_mode", |m, _| told(m.set_op_mode(4)), || set_op_mode(4), &[(3, 11)], (0, 0, 0, 0)),
+    ("get_op_mode", |m, _| told(m.get_op_mode()), || get_op_mode(), &[(1, 1)], (0, 0, 0, 0)),
+    ("configure", |m, _| told(m.configure(settings(false))), || configure(settings(false)), &[(85, 11)], (0, 0, 0, 0)),
+    ("configure, all on", |m, _| told(m.configure(settings(true))), || configure(settings(true)), &[(90, 11)], (0, 0, 0, 0)),
+    (
+        "configure_osc",
+        |m, _| told(m.configure_osc(settings(false).oscillator)),
+        || configure_osc(settings(false).oscillator),
+        &[(2, 11)],
+        (0, 0, 0, 0),
+    ),
+    (
+        "configure_osc, PLL on",
+        |m, _| told(m.configure_osc(settings(true).oscillator)),
+        || configure_osc(settings(true).oscillator),
+        &[(3, 11)],
+        (0, 0, 0, 0),
+    ),
+    ("configure_io", |m, _| told(m.configure_io(settings(false).io)), || configure_io(settings(false).io), &[(2, 11)], (0, 0, 0, 0)),
+    (
+        "configure_bit_timing",
+        |m, _| told(m.configure_bit_timing(settings(false).bittime)),
+        || configure_bit_timing(settings(false).bittime),
+        &[(6, 11)],
+        (0, 0, 0, 0),
+    ),
+    ("configure_fifo", |m, _| told(m.configure_fifo(1, sender())), || configure_fifo(1, sender()), &[(2, 1)], (0, 0, 0, 0)),
+    ("configure_filter", |m, _| told(m.configure_filter(0, filter())), || configure_filter(0, filter()), &[(8, 1)], (0, 0, 0, 0)),
+    ("disable_filter", |m, _| told(m.disable_filter(0)), || disable_filter(0), &[(2, 1)], (0, 0, 0, 0)),
+    ("push", |m, _| told(m.push(1, HEADER, 5, &BYTES)), || push(1, HEADER, 5, &BYTES), &[(3, 1), (1, 2), (1, 1)], (1, 5, 0, 1)),
+    ("request", |m, _| told(m.request(1)), || request(1), &[(2, 1)], (1, 2, 0, 0)),
+    ("transmit", |m, _| told(m.transmit(1, HEADER, 5, &BYTES)), || transmit(1, HEADER, 5, &BYTES), &[(3, 1), (1, 2), (3, 1)], (1, 5, 0, 1)),
+    ("has_next", |m, _| told(m.has_next(2)), || has_next(2), &[(2, 1)], (2, 2, 1, 1)),
+    ("peek, with a timestamp", |m, buf| told(m.peek(2, buf)), || peek(2, 72), &[(7, 1)], (2, 7, 1, 1)),
+    ("peek, without", |m, buf| told(m.peek(3, buf)), || peek(3, 72), &[(6, 1)], (3, 6, 1, 1)),
+    ("get, with a timestamp", |m, buf| told(m.get(2, buf)), || get(2, 72), &[(9, 1)], (2, 9, 1, 0)),
+    ("get, without", |m, buf| told(m.get(3, buf)), || get(3, 72), &[(8, 1)], (3, 8, 1, 0)),
 ];
+
+fn each_of(parts: &[(u32, u32)]) -> Vec<u32> {
+    parts.iter().flat_map(|&(times, n)| (0..times).map(move |_| n)).collect()
+}
 
 #[test]
 fn each_exchange_fails() {
-    for (name, call, parts, (fifo, last, then, after)) in ROWS {
-        let answers: Vec<u32> = parts.iter().flat_map(|&(times, n)| (0..times).map(move |_| n)).collect();
+    for (name, call, _, parts, (fifo, last, then, after)) in ROWS {
+        let answers = each_of(parts);
         for (k, n) in (1..).zip(&answers) {
             let (mut mcp, mut buf) = (prepared(), [0x5A; 72]);
             mcp.line.fail_at = k;
@@ -155,6 +179,125 @@ fn each_exchange_fails() {
             assert_eq!(mcp.line.chip.held(fifo), Ok(after), "{name}");
         }
     }
+}
+
+/// The loop of the documentation, by value, with turns that fall: the call at its end, and what its last exchange received.
+fn turned(line: &mut Bench, start: Call, lent: &[u8]) -> (Call, Vec<u8>) {
+    let (mut tx, mut rx, mut got, mut call) = ([0; 130], [0; 128], 0, start);
+    loop {
+        let answered = match next(call, lent, &mut tx) {
+            Next::Transfer { n, want } => {
+                got = want;
+                line.transfer(&tx[..n], &mut rx[..got]).map_or(Answer::Failed, |()| Answer::Exchanged)
+            }
+            Next::Wait => {
+                got = 0;
+                line.wait(500);
+                Answer::Waited
+            }
+            Next::Short => panic!("nothing was too short"),
+            Next::Over => {
+                assert_eq!(turns(call), 0);
+                return (call, rx[..got].to_vec());
+            }
+        };
+        let before = turns(call);
+        call = answer(call, answered, &rx[..got]);
+        assert!(turns(call) < before, "{} turns after {before}", turns(call));
+    }
+}
+
+/// A loop of one's own comes to what the method comes to, whichever exchange fails; the message of a push or a transmit is accepted exactly
+/// where the FIFO holds it.
+#[test]
+fn a_loop_of_ones_own() {
+    for (name, call, start, parts, (fifo, ..)) in ROWS {
+        for k in 0..=each_of(parts).len() as u32 {
+            let (mut mcp, mut buf) = (prepared(), [0x5A; 72]);
+            let (mut other, mut own) = (prepared().line, [0x5A; 72]);
+            (mcp.line.fail_at, other.fail_at) = (k, k);
+            let answer = call(&mut mcp, &mut buf);
+            let (end, received) = turned(&mut other, start(), &BYTES);
+            let outcome = finish(end, &received, &mut own);
+            assert_eq!(matches!(outcome, Outcome::Refused(r) if number(r) == answer), answer != 0, "{name}, exchange {k}: {outcome:?}");
+            assert!(outcome != Outcome::Running);
+            assert_eq!((other.exchanges, own), (mcp.line.exchanges, buf), "{name}, exchange {k}");
+            assert_eq!(other.chip, mcp.line.chip, "{name}, exchange {k}");
+            let is_message = matches!(name, "push" | "transmit");
+            assert_eq!(accepted(end), is_message && other.chip.held(fifo) == Ok(1), "{name}, exchange {k}");
+        }
+    }
+}
+
+/// What the calls of the rows, in their order, ask for at most: a mode's poll is five reads and four waits, the PLL's three and two;
+/// has-next, peek and get say what a get with a timestamp does.
+const TURNS: [u32; 28] = [1, 1, 1, 2, 3, 1, 1, 64, 2, 11, 1, 93, 102, 2, 7, 2, 6, 2, 8, 2, 5, 2, 7, 9, 9, 9, 9, 9];
+
+#[test]
+fn turns_at_the_start() {
+    for ((name, _, start, ..), n) in ROWS.iter().zip(TURNS) {
+        assert_eq!(turns(start()), n, "{name}");
+    }
+    let refused = [push(257, HEADER, 5, &BYTES), read_register(0x1000), set_op_mode(8), request(0), get(1, 63), write_ram(0x400, 7)];
+    assert_eq!(refused.map(turns), [0; 6]);
+}
+
+/// What is copied at each exchange.
+#[test]
+fn a_call_is_small() {
+    assert!(core::mem::size_of::<Call>() < 200, "{}", core::mem::size_of::<Call>());
+}
+
+/// A transmit whose request fails is refused, and the message is in the chip: a request sends it.
+#[test]
+fn transmitted() {
+    for k in 1..=7 {
+        let mut m = prepared();
+        m.line.fail_at = k;
+        let refusal = if k == 4 { Refusal::SpiWrite } else { Refusal::SpiRead };
+        assert_eq!(m.transmit(1, HEADER, 5, &BYTES), Err(TransmitRefusal { refusal, accepted: k > 5 }), "exchange {k}");
+        assert_eq!(m.request(1), Ok(()));
+        let (sending, frame) = m.line.chip.send(1);
+        assert_eq!((sending, frame.seq), if k > 5 { (Sending::Frame, 5) } else { (Sending::Nothing, 0) }, "exchange {k}");
+        assert_eq!(m.line.chip.send(1).0, Sending::Nothing);
+    }
+    let mut m = prepared();
+    let refused = m.transmit(257, HEADER, 5, &BYTES).unwrap_err();
+    assert_eq!(refused, TransmitRefusal { refusal: Refusal::BadNumber, accepted: false });
+    assert_eq!(refused.to_string(), "refused 20: BadNumber; the message was not accepted");
+    let asked = || -> Result<(), Refusal> { Ok(prepared().transmit(2, HEADER, 5, &BYTES)?) };
+    assert_eq!(asked(), Err(Refusal::FifoNotTx));
+}
+
+/// What is lent to `finish` is tested again: 28 and 26 change no byte, and the call may be finished again.
+#[test]
+fn finished_again() {
+    let mut line = prepared().line;
+    for (start, is_held) in [(peek(2, 64), 1), (get(2, 64), 0)] {
+        let (end, received) = turned(&mut line, start, &[]);
+        let mut buf = [0x5A; 72];
+        for room in [0, 5, 63] {
+            assert_eq!(finish(end, &received, &mut buf[..room]), Outcome::Refused(Refusal::BufferTooSmall));
+        }
+        assert_eq!((buf, line.chip.held(2)), ([0x5A; 72], Ok(is_held)));
+        let found = Found { header: HEADER, stamp: Stamp::At(0xA1B2_C3D4), len: 5 };
+        assert_eq!(finish(end, &received, &mut buf[..64]), Outcome::Message(found));
+        assert_eq!((&buf[..5], &buf[5..]), (&BYTES[..5], &[0x5A; 67][..]));
+    }
+    // 8 bytes, to the part from 3 on of a buffer of 12
+    line.chip.model.ram[..8].copy_from_slice(&BYTES);
+    let (end, received) = turned(&mut line, read_ram(0x400, 12, 3, 8), &[]);
+    let mut buf = [0x5A; 12];
+    for others in [&[][..], &received[..7], &[0; 9]] {
+        assert_eq!(finish(end, others, &mut buf), Outcome::Refused(Refusal::WrongAnswer));
+    }
+    assert_eq!(finish(end, &received, &mut buf[..10]), Outcome::Refused(Refusal::BufferTooSmall));
+    assert_eq!(buf, [0x5A; 12]);
+    assert_eq!(finish(end, &received, &mut buf), Outcome::Done);
+    assert_eq!(buf, [0x5A, 0x5A, 0x5A, 1, 2, 3, 4, 5, 6, 7, 8, 0x5A]);
+    // a call that is not over has no outcome yet, and an answer after the end is wrong
+    assert_eq!(finish(get(2, 64), &[], &mut buf), Outcome::Running);
+    assert_eq!(finish(answer(end, Answer::Exchanged, &[]), &received, &mut buf), Outcome::Refused(Refusal::WrongAnswer));
 }
 
 /// "After a failed exchange in a push only the free slot's bytes may differ": those of slot 0, RAM 0 to 15, and only where the last failed.
@@ -213,9 +356,23 @@ fn late_and_wrong_answers() {
 fn refusals() {
     let mut buf = [0x5A; 72];
     let mut m = prepared();
-    for n in [0, 32, 255] {
+    // 257 is 1 in a byte
+    for n in [0, 32, 255, 256, 257, 0x1_0001, u32::MAX] {
         assert_eq!((told(m.peek(n, &mut buf[..63])), told(m.get(n, &mut buf[..63])), told(m.has_next(n))), (20, 20, 20));
         assert_eq!((told(m.push(n, HEADER, 5, &BYTES)), told(m.request(n)), told(m.configure_fifo(n, sender()))), (20, 20, 20));
+        let to = FilterConfiguration { fifo: n, ..filter() };
+        assert_eq!((told(m.transmit(n, HEADER, 5, &BYTES)), told(m.configure_filter(0, to))), (20, 20));
+        assert_eq!(m.line.chip.send(n).0, Sending::Refused(Refusal::BadNumber));
+        assert_eq!(m.line.chip.deliver(n, HEADER, 0, &BYTES), Delivery::Refused(Refusal::BadNumber));
+        assert_eq!((told(m.line.chip.held(n)), told(m.line.chip.held_at(n, 0))), (20, 20));
+    }
+    for n in [32, 255, 256, 257, u32::MAX] {
+        assert_eq!((told(m.configure_filter(n, filter())), told(m.disable_filter(n))), (20, 20));
+    }
+    // 0x105C is CiFIFOCON1 in 12 bits, 0x1_0000 CiCON in 16
+    for a in [0x1000, 0x105C, 0xFFFF, 0x1_0000, u32::MAX] {
+        assert_eq!((told(m.read_register(a)), told(m.write_register(a, 0))), (24, 24));
+        assert_eq!((told(m.modify_register(a, 0, 0)), told(m.checked_read(a))), (24, 24));
     }
     for len in [0, 1, 63] {
         assert_eq!((told(m.peek(2, &mut buf[..len])), told(m.get(2, &mut buf[..len]))), (28, 28));
@@ -276,10 +433,10 @@ fn lent_bytes() {
 /// A call, how many bytes of `tx` and of `rx` it needs, and what it is refused by where `tx` is too short for its longest exchange.
 type Scratch = (fn() -> Call, [usize; 2], u32);
 const SCRATCH: [Scratch; 4] = [
-    (|| of_push(push_start(1, HEADER, 5, &BYTES)), [18, 4], 2), // the command's 2 and the object's 16
-    (|| of_fetch(get_start(3, 64)), [6, 8], 1),
-    (|| of_ram(write_ram_start(0x400, 8)), [10, 0], 2),
-    (|| of_ram(read_ram_start(0x400, 64, 3, 60)), [2, 60], 1),
+    (|| push(1, HEADER, 5, &BYTES), [18, 4], 2), // the command's 2 and the object's 16
+    (|| get(3, 64), [6, 8], 1),
+    (|| write_ram(0x400, 8), [10, 0], 2),
+    (|| read_ram(0x400, 64, 3, 60), [2, 60], 1),
 ];
 
 /// Scratch of every length: a call for which it is too short is refused as if the exchange had failed, with nothing sent.
@@ -301,7 +458,7 @@ fn short_scratch() {
     }
     // what a RAM write sends is lent when it is sent: shorter than it was started with, nothing goes out
     let mut m = prepared();
-    let end = run(&mut m.line, of_ram(write_ram_start(0x400, 8)), &BYTES[..7], &mut [], &mut [0; 80], &mut []);
+    let end = run(&mut m.line, write_ram(0x400, 8), &BYTES[..7], &mut [], &mut [0; 80], &mut []);
     assert_eq!((end, m.line.exchanges), (Outcome::Refused(Refusal::SpiWrite), 0));
 }
 

@@ -1,10 +1,11 @@
 //! Random calls with random numbers over a line that answers junk, fails and otherwise is the modelled chip. None may panic, send what is
-//! no instruction, go on after a failed exchange, change a byte where it is refused, or be refused for what document 01 does not have
-//! for it.
+//! no instruction, go on after a failed exchange, change a byte where it is refused, be refused for what document 01 does not have for it,
+//! or take more turns than it said.
 use masevuru::calls::*;
 use masevuru::chip::Chip;
 use masevuru::*;
 
+#[derive(Clone)]
 struct Junk {
     chip: Chip,
     seed: u64,
@@ -37,11 +38,11 @@ impl Junk {
 
     /// Small numbers, edges and wild ones.
     fn number(&mut self) -> u32 {
-        const EDGES: [u32; 13] =
-            [0x3FF, 0x400, 0x7FF, 0x800, 0xBFC, 0xC00, 0xFBFF, 0xFFFF, 0x1000, 0x7F_FFFF, 0x1FFF_FFFF, 0xFFFF_FC00, 0xFFFF_FFFF];
+        const EDGES: [u32; 14] =
+            [257, 0x3FF, 0x400, 0x7FF, 0x800, 0xBFC, 0xC00, 0xFBFF, 0xFFFF, 0x105C, 0x7F_FFFF, 0x1FFF_FFFF, 0xFFFF_FC00, 0xFFFF_FFFF];
         match self.below(4) {
             0 => self.below(36) as u32,
-            1 => EDGES[self.below(13)],
+            1 => EDGES[self.below(14)],
             2 => self.below(0x1000) as u32,
             _ => self.next() as u32,
         }
@@ -131,7 +132,7 @@ fn judge(call: usize, answer: Result<(), Refusal>, line: &Junk) {
 
 /// Arguments of a call: random, three times of four such as are taken.
 struct Given {
-    fifo: u8,
+    fifo: u32,
     a: u32,
     b: u32,
     c: u32,
@@ -154,7 +155,7 @@ fn given(l: &mut Junk) -> Given {
     let kind = [FilterMode::Standard, FilterMode::Extended, FilterMode::Both][l.below(3)];
     let (object, mask) = (Identifier { extended: flags[5], id: to(a, 0x800) }, Identifier { extended: flags[6], id: to(b, 0x800) });
     Given {
-        fifo: if fits { l.below(6) as u8 } else { l.number() as u8 },
+        fifo: if fits { l.below(6) as u32 } else { l.number() },
         a,
         b,
         c,
@@ -178,7 +179,7 @@ fn given(l: &mut Junk) -> Given {
             plsize: to(b, 8),
             mode: if flags[6] { FifoMode::Transmit(tx) } else { FifoMode::Receive(rx) },
         },
-        filter: FilterConfiguration { fifo: to(c, 32) as u8, mode: kind, object, mask },
+        filter: FilterConfiguration { fifo: to(c, 32), mode: kind, object, mask },
     }
 }
 
@@ -214,10 +215,10 @@ fn a_hundred_thousand() {
         let mut filled = 0;
         let answer = match call {
             0 => mcp.reset(),
-            1 => mcp.read_register(g.a as u16).map(|_| ()),
-            2 => mcp.write_register(g.a as u16, g.b),
-            3 => mcp.modify_register(g.a as u16, g.b, g.c),
-            4 => mcp.checked_read(g.a as u16).map(|_| ()),
+            1 => mcp.read_register(g.a).map(|_| ()),
+            2 => mcp.write_register(g.a, g.b),
+            3 => mcp.modify_register(g.a, g.b, g.c),
+            4 => mcp.checked_read(g.a).map(|_| ()),
             5 => mcp.read_ram(g.a, &mut buf[..g.len]).map(|()| filled = g.len),
             6 => mcp.write_ram(g.a, &bytes[..g.len]),
             7 => mcp.verify(),
@@ -229,11 +230,14 @@ fn a_hundred_thousand() {
             13 => mcp.configure_io(g.settings.io),
             14 => mcp.configure_bit_timing(g.settings.bittime),
             15 => mcp.configure_fifo(g.fifo, g.area),
-            16 => mcp.configure_filter(g.c as u8, g.filter),
-            17 => mcp.disable_filter(g.c as u8),
+            16 => mcp.configure_filter(g.c, g.filter),
+            17 => mcp.disable_filter(g.c),
             18 => mcp.push(g.fifo, g.header, g.b, &bytes[..g.len]),
             19 => mcp.request(g.fifo),
-            20 => mcp.transmit(g.fifo, g.header, g.b % 0x80_0000, &bytes[..g.len]),
+            20 => mcp.transmit(g.fifo, g.header, g.b % 0x80_0000, &bytes[..g.len]).map_err(|refused| {
+                assert_eq!(refused.accepted, mcp.line.asked > 5); // a push's exchanges are five
+                refused.refusal
+            }),
             21 => mcp.has_next(g.fifo).map(|_| ()),
             _ => {
                 let lent = &mut buf[..room];
@@ -259,28 +263,119 @@ fn a_hundred_thousand() {
     }
 }
 
-/// The loop by itself, with scratch and lent buffers of any length: none of these calls was started with what it is lent later.
+/// A call by its number.
+fn started(call: usize, g: &Given, bytes: &[u8]) -> Call {
+    match call {
+        0 => reset(),
+        1 => read_register(g.a),
+        2 => write_register(g.a, g.b),
+        3 => modify_register(g.a, g.b, g.c),
+        4 => checked_read(g.a),
+        5 => read_ram(0x400, 4096, g.len, g.len),
+        6 => write_ram(g.a, g.c as usize),
+        7 => verify(),
+        8 => verify_long(),
+        9 => set_op_mode(g.a % 9),
+        10 => get_op_mode(),
+        11 => configure(g.settings),
+        12 => configure_osc(g.settings.oscillator),
+        13 => configure_io(g.settings.io),
+        14 => configure_bit_timing(g.settings.bittime),
+        15 => configure_fifo(g.fifo, g.area),
+        16 => configure_filter(g.c % 33, g.filter),
+        17 => disable_filter(g.c),
+        18 => push(g.fifo, g.header, g.b, &bytes[..g.len]),
+        19 => request(g.fifo),
+        20 => transmit(g.fifo, g.header, g.b, &bytes[..g.len]),
+        21 => has_next(g.fifo),
+        22 => peek(g.fifo, g.len),
+        23 => get(g.fifo, 64),
+        _ => read_ram(g.a, g.b as usize, g.c as usize, g.len),
+    }
+}
+
+/// `run` by value, with turns that fall at every answer.
+fn by_value(line: &mut Junk, start: Call, lent: &[u8], buf: &mut [u8], tx: &mut [u8], rx: &mut [u8]) -> Outcome {
+    let (mut call, mut got) = (start, 0);
+    loop {
+        let answered;
+        (got, answered) = match next(call, lent, tx) {
+            Next::Transfer { n, want } => match rx.get_mut(..want) {
+                Some(rx) => (want, line.transfer(&tx[..n], rx).map_or(Answer::Failed, |()| Answer::Exchanged)),
+                None => (0, Answer::Failed),
+            },
+            Next::Wait => {
+                line.wait(500);
+                (0, Answer::Waited)
+            }
+            Next::Short => (0, Answer::Failed),
+            Next::Over => {
+                assert_eq!(turns(call), 0);
+                return finish(call, &rx[..got], buf);
+            }
+        };
+        let before = turns(call);
+        call = answer(call, answered, &rx[..got]);
+        assert!(turns(call) < before);
+    }
+}
+
+/// The loop by itself, with scratch and lent buffers of any length: none of these calls was started with what it is lent later. By value it
+/// comes to the same.
 #[test]
 fn any_buffers() {
-    let mut l = Junk::new(0x0123_4567_89AB_CDEF);
+    let mut mcp = Mcp::new(Junk::new(0x0123_4567_89AB_CDEF));
     let bytes: Vec<u8> = (0..4096).map(|i| i as u8).collect();
-    for _ in 0..20_000 {
-        let g = given(&mut l);
-        let call = match l.below(8) {
-            0 => of_push(push_start(g.fifo, g.header, g.b, &bytes[..g.len])),
-            1 => of_transmit(transmit_start(g.fifo, g.header, g.b, &bytes[..g.len])),
-            2 => of_fetch(peek_start(g.fifo, g.len)),
-            3 => of_fetch(get_start(g.fifo, 64)),
-            4 => of_ram(read_ram_start(g.a, g.b as usize, g.c as usize, g.len)),
-            5 => of_ram(read_ram_start(0x400, 4096, g.len, g.len)),
-            6 => of_ram(write_ram_start(g.a, g.c as usize)),
-            _ => of_ram(verify_long_start()),
-        };
+    for i in 0..20_000 {
+        if i % 64 == 0 {
+            settle(&mut mcp);
+        }
+        let l = &mut mcp.line;
+        l.rough = [4, 16, 64][l.below(3)];
+        let (g, number) = (given(l), l.below(25));
+        let call = started(number, &g, &bytes);
         let [lent, room, tx, rx] = core::array::from_fn(|_| if l.flag() { l.below(140) } else { l.below(4096) });
-        let (mut buf, before) = (vec![0x5Au8; room], vec![0x5Au8; room]);
+        let (mut buf, mut own, before) = (vec![0x5Au8; room], vec![0x5Au8; room], vec![0x5Au8; room]);
         (l.asked, l.failed) = (0, false);
-        let end = run(&mut l, call, &bytes[..lent], &mut buf, &mut vec![0; tx], &mut vec![0; rx]);
+        let mut other = l.clone();
+        let end = run(l, call, &bytes[..lent], &mut buf, &mut vec![0; tx], &mut vec![0; rx]);
         assert!(!matches!(end, Outcome::Running | Outcome::Refused(Refusal::WrongAnswer | Refusal::NoLayout)));
         assert!(matches!(end, Outcome::Message(_) | Outcome::Done) || buf == before, "{end:?} changed what was lent");
+        assert_eq!(by_value(&mut other, call, &bytes[..lent], &mut own, &mut vec![0; tx], &mut vec![0; rx]), end);
+        assert!(own == buf && other.chip == l.chip && other.asked == l.asked);
+    }
+}
+
+/// Answers of any kind and length, whatever was asked for: the call is over within the turns that it said, and says how it ended.
+#[test]
+fn any_answers() {
+    let mut l = Junk::new(0x0FED_CBA9_8765_4321);
+    let bytes: Vec<u8> = (0..4096).map(|i| i as u8).collect();
+    for _ in 0..20_000 {
+        let (g, number, wild) = (given(&mut l), l.below(25), l.flag());
+        let mut call = started(number, &g, &bytes);
+        let (mut tx, mut rx, mut left) = ([0; 2050], [0; 140], turns(call));
+        loop {
+            let mut got = l.below(140);
+            let mut answered = [Answer::Exchanged, Answer::Waited, Answer::Failed][l.below(3)];
+            match next(call, &bytes, &mut tx) {
+                Next::Over => break,
+                _ if wild => {}
+                Next::Transfer { want, .. } => (got, answered) = (want.min(140), Answer::Exchanged),
+                Next::Wait => (got, answered) = (0, Answer::Waited),
+                Next::Short => {}
+            }
+            rx.iter_mut().for_each(|b| *b = [0, 0xFF, l.next() as u8][l.below(3)]);
+            call = answer(call, answered, &rx[..got]);
+            assert!(turns(call) < left, "{} turns after {left}", turns(call));
+            left = turns(call);
+        }
+        assert_eq!(left, 0);
+        let (room, got) = (l.below(140), l.below(140));
+        let mut buf = vec![0x5Au8; room];
+        let end = finish(call, &rx[..got], &mut buf);
+        assert!(end != Outcome::Running);
+        assert!(matches!(end, Outcome::Message(_) | Outcome::Done) || buf == vec![0x5Au8; room], "{end:?} changed what was lent");
+        assert!(!accepted(call) || matches!(number, 18 | 20));
     }
 }
