@@ -1,12 +1,13 @@
 // How many exchanges and waits of a plan are left.
 ghost use mathlib.Core.Path.{_≡_};
-ghost use Prim.Native.Nat.{_<_};
+ghost use Prim.Native.Nat.{_^_, _<_};
 ghost use lib.ListN.{drop};
 ghost use Rattle.plan.specs.Step.{filled};
 ghost use Rattle.plan.specs.Talk.{listed, asksOf, allAsks, itemLeft, planLeft};
 ghost use Rattle.configure.specs.Numbers.{itemsIn, placeIn, planIn};
 use crate::PlanNumbers;
 use crate::PlanStage;
+use crate::listed::count_of;
 use crate::listed::item_of;
 use plan::Item;
 
@@ -23,11 +24,12 @@ fn item_turns(item: Item) -> u32
 
 // Of the items behind the one where the plan stands.
 fn turns_behind(c: PlanNumbers, body: &[u8; 76]) -> u32
-    ensures { λ r. ⌜ (r ≡ allAsks (listed (drop (c .next) (filled (itemsIn c (now (body .entry))))))) × (r < 100000) ⌝ }
+    ensures { λ r. ⌜ (r ≡ allAsks (listed (drop (c .next) (filled (itemsIn c (now (body .entry))))))) × (r < 2 ^ 17) ⌝ }
 {
+    let count = count_of(c);
     let mut sum = 0;
     let mut i = c.next;
-    while i < 15 {
+    while i < count {
         sum += item_turns(item_of(c, i, body));
         i += 1;
     }
@@ -36,7 +38,7 @@ fn turns_behind(c: PlanNumbers, body: &[u8; 76]) -> u32
 
 // Of the item where the plan stands, and what is behind; nothing comes after the end.
 fn place_turns(c: PlanNumbers, behind: u32) -> u32
-    requires { ⌜ behind < 100000 ⌝ }
+    requires { ⌜ behind < 2 ^ 17 ⌝ }
     ensures { λ r. ⌜ r ≡ itemLeft (placeIn c) behind ⌝ }
 {
     let stage = c.stage;

@@ -1,0 +1,20 @@
+-- `configure::turns::place_turns` meets its contract.
+-- Assumes nothing.
+use borrow.Author.Needs.{needs}
+use Rattle.configure.proofs.turns.place_turns.Statement.{statement}
+use Rattle.configure.proofs.turns.place_turns.Tie as tie
+
+pub place-turns-spec : {M : Type 1} → statement M
+place-turns-spec =
+    tie.close
+    (tie.spec (search needs) (search needs) (search needs) (search needs) (search needs) (search needs) (search needs) (search needs) (search needs)
+    (search needs) (search needs) (search needs) (search needs) (search needs) (search needs) (search needs) (search needs) (search needs)
+    (search needs) (search needs) (search needs) (search needs) (search needs) (search needs) (search needs) (search needs) (search needs)
+    (λ c. simp (c .enum-told .given .1))
+    (λ c. simp (c .enum-told2 .given .1))
+    (λ c. simp (c .enum-told3 .given .1))
+    (λ c. simp (c .enum-told4 .given .1))
+    (λ c. simp (c .enum-told5 .given .1))
+    (λ c. simp (c .enum-told6 .given .1))
+    (λ c. simp (c .enum-told7 .given .1))
+    (λ c. simp (c .enum-told8 .given .1)) (λ c. search needs) (λ c. search needs) (λ c. search needs))
