@@ -5,9 +5,8 @@ use mathlib.Core.Path.{_≡_, refl, sym, ap, _∙_}
 use mathlib.Core.Bool.{Bool, true, false}
 use mathlib.Core.List.{List, [], _∷_, _++_}
 use native.Mathlib.Omega.{arith}
-use lib.Dec.{eqb, ltb}
-use lib.ListN.{length, getD, drop, replicate, length-append, length-replicate, List·getD-eq-default, drop-of-length-le}
-use borrow.Author.Tests.{ltb-true, ltb-false}
+use lib.Dec.{eqb}
+use lib.ListN.{length, getD, drop, replicate, length-append, length-replicate, List·getD-eq-default}
 use Rattle.laws.specs.If.{if_then_else_}
 use Rattle.laws.proofs.Choice.{by-if}
 use Rattle.plan.specs.declared.change.Change.{Change}
@@ -17,9 +16,8 @@ use Rattle.plan.specs.declared.plan.Slot.{Slot}
 use Rattle.plan.specs.declared.plan.PlanAt.{PlanAt}
 use Rattle.plan.specs.declared.plan.Plan.{Plan}
 use Rattle.plan.specs.Item.{isThere}
-use Rattle.plan.specs.Talk.{listed, asksOf, allAsks}
 use Rattle.plan.specs.Step.{begun, placeFrom, arrivedAt, slots, filled}
-use Rattle.plan.proofs.Places.{cut, place-at, place-end, arrive-here, arrive-end}
+use Rattle.plan.proofs.Places.{place-at, place-end, arrive-here, arrive-end}
 use Rattle.configure.specs.declared.planned.PlanKind.{PlanKind}
 use Rattle.configure.specs.declared.planned.PlanNumbers.{PlanNumbers}
 use Rattle.configure.specs.Numbers.{failedIn, lateIn, changeIn, itemsFor, itemsIn, planIn}
@@ -179,34 +177,3 @@ module _ (c : PlanNumbers) (body : List ℕ) where
 
     pub ends-late : 15 ≤ i → planIn (atItem c i Item.Nothing) body ≡ arrival
     ends-late l = ended i (place-end (filled items) i (omega (arith, length-filled items most))) l
-
--- ---- how often the items from a place on ask
-
-abbrev pub asksFrom : List Item → ℕ → ℕ
-asksFrom items i = allAsks (listed (drop i (filled items)))
-
-module _ (items : List Item) (few : length items ≤ 15) where
-  asks-here : (i : ℕ) → i < 15 → asksFrom items i ≡ asksOf (getD items i Item.Nothing) + asksFrom items (i + 1)
-  asks-here i l =
-      ap (λ ss. allAsks (listed ss)) (cut (filled items) i nothing (omega (arith, length-filled items few)))
-      ∙ ap (λ item. asksOf item + asksFrom items (i + 1)) (slot items (15 - length items) i)
-
-  asks-past : (i : ℕ) → 15 ≤ i → asksFrom items i ≡ 0
-  asks-past i l = ap (λ ss. allAsks (listed ss)) (drop-of-length-le (filled items) {i = i} (omega (arith, length-filled items few)))
-
-  asks-behind : (k i : ℕ) → i + k ≡ 15 → length items ≤ i → asksFrom items i ≡ 0
-  asks-behind zero i e l = asks-past i (omega arith)
-  asks-behind (suc k) i e l =
-      let rest = asks-behind k (i + 1) (omega arith) (omega arith) in
-      asks-here i (omega arith) ∙ ap (λ item. asksOf item + asksFrom items (i + 1)) (List·getD-eq-default items Item.Nothing l) ∙ omega arith
-
-module _ (c : PlanNumbers) (body : List ℕ) (i : ℕ) where
-  pub asks-on : i < length (items c body) → asksFrom (items c body) i ≡ asksOf (getD (items c body) i Item.Nothing) + asksFrom (items c body) (i + 1)
-  asks-on l = asks-here (items c body) (most c body) i (omega (arith, most c body))
-
-  pub asks-none : length (items c body) ≤ i → asksFrom (items c body) i ≡ 0
-  asks-none l = go (ltb i 15) refl
-    where
-      go : (b : Bool) → ltb i 15 ≡ b → asksFrom (items c body) i ≡ 0
-      go true e = asks-behind (items c body) (most c body) (15 - i) i (omega (arith, ltb-true i 15 e)) l
-      go false e = asks-past (items c body) (most c body) i (ltb-false i 15 e)
