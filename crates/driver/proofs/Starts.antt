@@ -1,11 +1,13 @@
 -- A call as started is its whole talk, and is refused before any exchange by the first test that it fails.
 -- Assumes nothing.
-use Prim.Native.Nat.{ℕ, _%_, _^_}
-use mathlib.Core.Path.{_≡_, refl, ap, _∙_}
+use Prim.Native.Nat.{ℕ, _%_, _^_, _≤_}
+use mathlib.Core.Path.{_≡_, refl, sym, ap, _∙_}
 use mathlib.Core.Bool.{Bool, true, false, _&&_}
 use mathlib.Core.List.{List, []}
 use lib.ListN.{length}
 use lib.Dec.{eqb, ltb, leb}
+use native.Mathlib.Omega.{arith}
+use borrow.Author.Tests.{ltb-false, lt-leb}
 use Rattle.configuration.specs.CanControl.{REQOP, DNCNT}
 use Rattle.fifo.specs.Control.{isFifo}
 use Rattle.header.specs.declared.Header.{Header}
@@ -41,9 +43,44 @@ use Rattle.fetch.specs.declared.Want.{Want}
 use Rattle.rx_fifo.specs.Talk.{hasNextTalk, lentTalk}
 use Rattle.rx_fifo.proofs.Runs as fetch
 use Rattle.driver.specs.Talk.{told}
-use Rattle.driver.specs.Calls.{Plans, Modify, Verify, SetOpMode, Osc, Io, BitTiming, Fifo, Filter, FilterOff, Configure, Start, Reset, OpMode, VerifyLong, Read, Checked, Write, ReadRam, WriteRam, Planned, Push, Transmit, Request, HasNext, Peek, Get, prepared, started, wholeTalk, first, sendable, roomy, planTests, tests}
+use Rattle.driver.specs.Calls.{Plans, Modify, Verify, SetOpMode, Osc, Io, BitTiming, Fifo, Filter, FilterOff, Configure, Start, Reset, OpMode, VerifyLong, Read, Checked, Write, ReadRam, WriteRam, Planned, Push, Transmit, Request, HasNext, Peek, Get, prepared, fifoNumber, started, wholeTalk, first, sendable, roomy, planTests, tests}
 use Rattle.driver.specs.Demand1.{StartsAsTalk, RefusesFirst}
 use Rattle.driver.proofs.Runs.{outcome-talk, register-talk, ram-talk, plan-talk, push-talk, transmit-talk, fetch-talk}
+
+by-bool : {G : Type 0} (b : Bool) → (b ≡ true → G) → (b ≡ false → G) → G
+by-bool true f g = f refl
+by-bool false f g = g refl
+
+-- ---- a FIFO's number where a call keeps it
+
+high-is-none : (n : ℕ) → 256 ≤ n → isFifo n ≡ false
+unfolding isFifo
+high-is-none n h = let l : leb n 31 ≡ false = lt-leb 31 n (omega arith) in by-bool (leb 1 n) (λ e. simp (e, l)) (λ e. simp e)
+
+-- what is the same for every number that is no FIFO's is the same for the number that is kept
+as-kept : {A : Type 0} (f : ℕ → A) (r : A) → ((k : ℕ) → isFifo k ≡ false → f k ≡ r) → (n : ℕ) → f (fifoNumber n) ≡ f n
+unfolding isFifo
+as-kept f r none n =
+    by-bool (ltb n 256) (λ e. ap f (simp e))
+    (λ e. ap f (simp e) ∙ none 0 refl ∙ sym (none n (high-is-none n (ltb-false n 256 e))))
+
+push-kept : (n : ℕ) (header : Header) (seq : ℕ) (payload : List ℕ) → pushCall (fifoNumber n) header seq payload ≡ pushCall n header seq payload
+unfolding pushCall
+push-kept n header seq payload = as-kept (λ k. pushCall k header seq payload) (refused Refusal.BadNumber) (λ k e. simp e) n
+
+transmit-kept : (n : ℕ) (header : Header) (seq : ℕ) (payload : List ℕ) → transmitCall (fifoNumber n) header seq payload ≡ transmitCall n header seq payload
+unfolding transmitCall pushCall
+transmit-kept n header seq payload = as-kept (λ k. transmitCall k header seq payload) (refused Refusal.BadNumber) (λ k e. simp e) n
+
+next-kept : (n : ℕ) → hasNextTalk (fifoNumber n) ≡ hasNextTalk n
+unfolding hasNextTalk
+next-kept n = as-kept hasNextTalk (refused Refusal.BadNumber) (λ k e. simp e) n
+
+lent-kept : (want : Want) (n room : ℕ) → lentTalk want (fifoNumber n) room ≡ lentTalk want n room
+unfolding lentTalk
+lent-kept want n room = as-kept (λ k. lentTalk want k room) (refused Refusal.BadNumber) (λ k e. simp e) n
+
+-- ---- the whole talk
 
 pub starts-as-talk : StartsAsTalk
 starts-as-talk Reset = register-talk _
@@ -55,21 +92,17 @@ starts-as-talk (Write address word) = register-talk _ ∙ register.write-start-t
 starts-as-talk (ReadRam address room place count) = ram-talk _ ∙ ram.read-ram-start-talk address room place count
 starts-as-talk (WriteRam address count) = ram-talk _ ∙ ram.write-ram-start-talk address count
 starts-as-talk (Planned x) = plan-talk _ ∙ plan.call-talk (prepared x)
-starts-as-talk (Push n header seq payload) = push-talk _ ∙ push.start-talk n header seq payload
-starts-as-talk (Transmit n header seq payload) = transmit-talk _ ∙ transmit.start-talk n header seq payload
+starts-as-talk (Push n header seq payload) = push-talk _ ∙ push.start-talk (fifoNumber n) header seq payload ∙ push-kept n header seq payload
+starts-as-talk (Transmit n header seq payload) = transmit-talk _ ∙ transmit.start-talk (fifoNumber n) header seq payload ∙ transmit-kept n header seq payload
 starts-as-talk (Request n) = plan-talk _ ∙ transmit.request-talk n
-starts-as-talk (HasNext n) = fetch-talk _ ∙ ap told (fetch.has-next-start-talk n)
-starts-as-talk (Peek n room) = fetch-talk _ ∙ ap told (fetch.lent-start-talk Want.Peek n room)
-starts-as-talk (Get n room) = fetch-talk _ ∙ ap told (fetch.lent-start-talk Want.Get n room)
+starts-as-talk (HasNext n) = fetch-talk _ ∙ ap told (fetch.has-next-start-talk (fifoNumber n) ∙ next-kept n)
+starts-as-talk (Peek n room) = fetch-talk _ ∙ ap told (fetch.lent-start-talk Want.Peek (fifoNumber n) room ∙ lent-kept Want.Peek n room)
+starts-as-talk (Get n room) = fetch-talk _ ∙ ap told (fetch.lent-start-talk Want.Get (fifoNumber n) room ∙ lent-kept Want.Get n room)
 
 -- ---- refusals before any exchange
 
 abbrev answer : Talk Outcome → List ℕ
 answer t = outcomeNumbers (ended (λ o. o) t)
-
-by-bool : {G : Type 0} (b : Bool) → (b ≡ true → G) → (b ≡ false → G) → G
-by-bool true f g = f refl
-by-bool false f g = g refl
 
 by-dlc : {G : Type 0} (x : Dlc) → ((d : ℕ) → x ≡ Dlc.Is d → G) → (x ≡ Dlc.Bad → G) → G
 by-dlc (Dlc.Is d) f g = f d refl

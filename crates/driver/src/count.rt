@@ -4,7 +4,7 @@ ghost use Prim.Native.Nat.{_<_};
 ghost use Rattle.register.specs.Numbers.{registerOf};
 ghost use Rattle.ram.specs.Numbers.{ramOf};
 ghost use Rattle.tx_fifo.specs.Numbers.{pushAt};
-ghost use Rattle.transmit.specs.Numbers.{transmitIn};
+ghost use Rattle.transmit.specs.Numbers.{requestOf, transmitIn};
 ghost use Rattle.fetch.specs.Numbers.{fetchAt};
 ghost use Rattle.plan.specs.Talk.{planLeft};
 ghost use mathlib.Core.List.{[]};
@@ -40,7 +40,10 @@ fn register_turns(c: RegisterNumbers) -> u32
         RegisterStage::Write => 1,
         RegisterStage::Checked => c.more as u32 + 1,
         RegisterStage::Mode => 1,
-        _ => 0,
+        RegisterStage::Done => 0,
+        RegisterStage::Word => 0,
+        RegisterStage::OpMode => 0,
+        RegisterStage::Refused => 0,
     }
 }
 
@@ -50,10 +53,12 @@ fn ram_turns(c: RamNumbers) -> u32
     let stage = c.stage;
     match stage {
         RamStage::Read => 1,
+        RamStage::Received => 0,
         RamStage::Write => 1,
         RamStage::EchoWrite => 2,
         RamStage::EchoRead => 1,
-        _ => 0,
+        RamStage::Done => 0,
+        RamStage::Refused => 0,
     }
 }
 
@@ -74,6 +79,18 @@ fn push_turns(c: PushNumbers, behind: u32) -> u32
     }
 }
 
+fn stage_turns(p: PushNumbers, stage: RequestStage) -> u32
+    ensures { λ r. ⌜ (r ≡ planLeft (requestOf stage p)) × (r < 1000) ⌝ }
+{
+    match stage {
+        RequestStage::Read => 2,
+        RequestStage::Write => 1,
+        RequestStage::Done => 0,
+        RequestStage::Late => 0,
+        RequestStage::Refused => 0,
+    }
+}
+
 // A request that has begun is at its own stage; before that it reads and writes, where there is such a FIFO.
 fn request_turns(c: TransmitNumbers) -> u32
     ensures { λ r. ⌜ (r ≡ planLeft (transmitIn c [] .request)) × (r < 1000) ⌝ }
@@ -81,13 +98,7 @@ fn request_turns(c: TransmitNumbers) -> u32
     let p = c.push;
     let stage = c.request;
     if tx_fifo::push_done(p) {
-        match stage {
-            RequestStage::Read => 2,
-            RequestStage::Write => 1,
-            RequestStage::Done => 0,
-            RequestStage::Late => 0,
-            RequestStage::Refused => 0,
-        }
+        stage_turns(p, stage)
     } else {
         if is_fifo(p.fifo as u32) { 2 } else { 0 }
     }
@@ -115,7 +126,11 @@ fn fetch_turns(c: FetchNumbers) -> u32
         FetchStage::Body => 3,
         FetchStage::Next => 2,
         FetchStage::Commit => 1,
-        _ => 0,
+        FetchStage::Done => 0,
+        FetchStage::Empty => 0,
+        FetchStage::Yes => 0,
+        FetchStage::No => 0,
+        FetchStage::Refused => 0,
     }
 }
 

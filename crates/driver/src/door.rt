@@ -51,9 +51,12 @@ pub fn accepted(call: Call) -> bool
     let c = call.numbers;
     let at = c.at;
     match at {
+        At::Register(_) => false,
+        At::Ram(_) => false,
+        At::Plan(_, _) => false,
         At::Push(stage) => tx_fifo::push_done(parts_of::push_part(c, stage)),
         At::Transmit(stage, request) => transmit::accepted(parts_of::transmit_part(c, stage, request)),
-        _ => false,
+        At::Fetch(_, _) => false,
     }
 }
 

@@ -8,7 +8,7 @@ ghost use Rattle.driver.specs.Step.{askOf, stepOf, filledBy};
 ghost use Rattle.ram.specs.Echo.{echoBytes};
 ghost use Rattle.driver.specs.Send.{bodyOf};
 ghost use Rattle.driver.specs.Finish.{finishedAs};
-ghost use Rattle.driver.specs.Numbers.{modelOf, isOwn, isEcho};
+ghost use Rattle.driver.specs.Numbers.{modelOf, isOwn, isEcho, echoes};
 use crate::At;
 use crate::Numbers;
 use crate::parts_of::fetch_part;
@@ -51,16 +51,31 @@ fn next_echo(q: Ask, tx: &mut [u8]) -> Next
     send::put_next(q, &p, tx)
 }
 
+fn is_pattern(stage: RamStage) -> bool
+    ensures { λ r. ⌜ r ≡ echoes stage ⌝ }
+{
+    match stage {
+        RamStage::Read => false,
+        RamStage::Received => false,
+        RamStage::Write => false,
+        RamStage::EchoWrite => true,
+        RamStage::EchoRead => false,
+        RamStage::Done => false,
+        RamStage::Refused => false,
+    }
+}
+
 fn is_echo(c: Numbers) -> bool
     ensures { λ r. ⌜ r ≡ isEcho (c .at) ⌝ }
 {
     let at = c.at;
     match at {
-        At::Ram(stage) => match stage {
-            RamStage::EchoWrite => true,
-            _ => false,
-        },
-        _ => false,
+        At::Register(_) => false,
+        At::Ram(stage) => is_pattern(stage),
+        At::Plan(_, _) => false,
+        At::Push(_) => false,
+        At::Transmit(_, _) => false,
+        At::Fetch(_, _) => false,
     }
 }
 
@@ -69,9 +84,12 @@ fn is_own(c: Numbers) -> bool
 {
     let at = c.at;
     match at {
+        At::Register(_) => false,
+        At::Ram(_) => false,
+        At::Plan(_, _) => false,
         At::Push(_) => true,
         At::Transmit(_, _) => true,
-        _ => false,
+        At::Fetch(_, _) => false,
     }
 }
 
