@@ -1,6 +1,6 @@
 -- A call as started is its whole talk, and is refused before any exchange by the first test that it fails.
 -- Assumes nothing.
-use Prim.Native.Nat.{ℕ, _%_, _^_, _≤_}
+use Prim.Native.Nat.{ℕ, _%_, _^_, _≤_, _<_}
 use mathlib.Core.Path.{_≡_, refl, sym, ap, _∙_}
 use mathlib.Core.Bool.{Bool, true, false, _&&_}
 use mathlib.Core.List.{List, []}
@@ -55,7 +55,7 @@ by-bool false f g = g refl
 
 high-is-none : (n : ℕ) → 256 ≤ n → isFifo n ≡ false
 unfolding isFifo
-high-is-none n h = let l : leb n 31 ≡ false = lt-leb 31 n (omega arith) in by-bool (leb 1 n) (λ e. simp (e, l)) (λ e. simp e)
+high-is-none n h = let g : 31 < n = omega arith in let l : leb n 31 ≡ false = lt-leb _ _ g in by-bool (leb 1 n) (λ e. simp (e, l)) (λ e. simp e)
 
 -- what is the same for every number that is no FIFO's is the same for the number that is kept
 as-kept : {A : Type 0} (f : ℕ → A) (r : A) → ((k : ℕ) → isFifo k ≡ false → f k ≡ r) → (n : ℕ) → f (fifoNumber n) ≡ f n
@@ -69,7 +69,7 @@ unfolding pushCall
 push-kept n header seq payload = as-kept (λ k. pushCall k header seq payload) (refused Refusal.BadNumber) (λ k e. simp e) n
 
 transmit-kept : (n : ℕ) (header : Header) (seq : ℕ) (payload : List ℕ) → transmitCall (fifoNumber n) header seq payload ≡ transmitCall n header seq payload
-unfolding transmitCall pushCall
+unfolding transmitCall pushCall andThen
 transmit-kept n header seq payload = as-kept (λ k. transmitCall k header seq payload) (refused Refusal.BadNumber) (λ k e. simp e) n
 
 next-kept : (n : ℕ) → hasNextTalk (fifoNumber n) ≡ hasNextTalk n

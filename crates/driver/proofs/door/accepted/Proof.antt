@@ -1,3 +1,6 @@
+use Rattle.driver.specs.Start.{ofRegister, ofRam, ofPlan, ofPush, ofTransmit, ofFetch}
+use Rattle.driver.specs.Finish.{acceptedBy}
+use Rattle.driver.specs.Numbers.{modelOf, callOf}
 use borrow.Author.Needs.{needs}
 use Rattle.driver.proofs.door.accepted.Statement.{statement}
 use Rattle.driver.proofs.door.accepted.Tie as tie
@@ -50,27 +53,33 @@ enum-told-4 c = search needs
 
 -- src/door.rt:48:1
 returns : tie.Need-returns
-returns c = ?
+unfolding acceptedBy callOf modelOf ofRegister ofRam ofPlan ofPush ofTransmit ofFetch
+returns c = simp (c .enum-told .given .1)
 
 -- src/door.rt:48:1
 returns-2 : tie.Need-returns-2
-returns-2 c = ?
+unfolding acceptedBy callOf modelOf ofRegister ofRam ofPlan ofPush ofTransmit ofFetch
+returns-2 c = simp (c .enum-told2 .given .1)
 
 -- src/door.rt:48:1
 returns-3 : tie.Need-returns-3
-returns-3 c = ?
+unfolding acceptedBy callOf modelOf ofRegister ofRam ofPlan ofPush ofTransmit ofFetch
+returns-3 c = simp (c .enum-told3 .given .1)
 
 -- src/door.rt:48:1
 returns-4 : tie.Need-returns-4
-returns-4 c = ?
+unfolding acceptedBy callOf modelOf ofRegister ofRam ofPlan ofPush ofTransmit ofFetch
+returns-4 c = simp (c .push-done .ensures, c .before .push-part .ensures, c .before .before .before .at .given .1)
 
 -- src/door.rt:48:1
 returns-5 : tie.Need-returns-5
-returns-5 c = ?
+unfolding acceptedBy callOf modelOf ofRegister ofRam ofPlan ofPush ofTransmit ofFetch
+returns-5 c = simp (c .accepted .ensures, c .before .transmit-part .ensures, c .before .before .before .at2 .given .1)
 
 -- src/door.rt:48:1
 returns-6 : tie.Need-returns-6
-returns-6 c = ?
+unfolding acceptedBy callOf modelOf ofRegister ofRam ofPlan ofPush ofTransmit ofFetch
+returns-6 c = simp (c .enum-told4 .given .1)
 
 pub accepted-spec : {M : Type 1} → statement M
 accepted-spec =

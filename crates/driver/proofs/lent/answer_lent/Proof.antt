@@ -1,4 +1,5 @@
 use Rattle.driver.proofs.Answers.{by-register, by-ram, by-plan, by-push, by-transmit, by-fetch}
+use denote.Ref.{now}
 use borrow.Author.Needs.{needs}
 use Rattle.driver.proofs.lent.answer_lent.Statement.{statement}
 use Rattle.driver.proofs.lent.answer_lent.Tie as tie
@@ -133,11 +134,11 @@ returns-3 c = rw (c .with-plan .ensures) (by-plan _ _ _ _ _ _ _ _ (c .before .be
 
 -- src/lent.rt:90:1
 returns-4 : tie.Need-returns-4
-returns-4 c = rw (c .with-push .ensures) (by-push _ _ _ _ _ _ _ (c .before .before .before .before .at4 .given .1) (rw (c .before .before .push-part .ensures) at (c .before .push-step .ensures _)))
+returns-4 c = rw (c .with-push .ensures) (by-push _ _ _ _ _ _ _ (c .before .before .before .before .at4 .given .1) (rw (c .before .before .push-part .ensures) at (c .before .push-step .ensures (now (c .before .before .before .before .before .before .before .args .body)))))
 
 -- src/lent.rt:90:1
 returns-5 : tie.Need-returns-5
-returns-5 c = rw (c .with-transmit .ensures) (by-transmit _ _ _ _ _ _ _ _ (c .before .before .before .before .at5 .given .1) (rw (c .before .before .transmit-part .ensures) at (c .before .transmit-step .ensures _)))
+returns-5 c = rw (c .with-transmit .ensures) (by-transmit _ _ _ _ _ _ _ _ (c .before .before .before .before .at5 .given .1) (rw (c .before .before .transmit-part .ensures) at (c .before .transmit-step .ensures (now (c .before .before .before .before .before .before .before .args .body)))))
 
 -- src/lent.rt:90:1
 returns-6 : tie.Need-returns-6

@@ -39,7 +39,7 @@ returns c = search needs
 
 -- src/lent.rt:68:1
 returns-2 : tie.Need-returns-2
-returns-2 c = ?
+returns-2 c = simp (c .is-pattern .ensures, c .before .before .at .given .1)
 
 -- src/lent.rt:68:1
 returns-3 : tie.Need-returns-3
