@@ -34,20 +34,20 @@ impl Line for Bench {
 
 #[cfg(only_push)]
 fn called(mcp: &mut Mcp<Bench>, _kind: u32, fifo: u8, header: Header, seq: u32, payload: &[u8]) -> Result<(), Refusal> {
-    mcp.push(fifo, header, seq, payload)
+    mcp.push(fifo as u32, header, seq, payload)
 }
 
 /// A call of every family, whatever its arguments mean: what matters is that any of them may come.
 #[cfg(not(only_push))]
 fn called(mcp: &mut Mcp<Bench>, kind: u32, fifo: u8, header: Header, seq: u32, payload: &[u8]) -> Result<(), Refusal> {
-    let address = seq as u16;
+    let (fifo, address) = (fifo as u32, seq);
     let mut buf = [0; 64];
     match kind {
         0 => mcp.push(fifo, header, seq, payload),
         1 => mcp.get(fifo, &mut buf).map(drop),
         2 => mcp.peek(fifo, &mut buf).map(drop),
         3 => mcp.has_next(fifo).map(drop),
-        4 => mcp.transmit(fifo, header, seq, payload),
+        4 => mcp.transmit(fifo, header, seq, payload).map_err(Refusal::from),
         5 => mcp.request(fifo),
         6 => mcp.reset(),
         7 => mcp.read_register(address).map(drop),
