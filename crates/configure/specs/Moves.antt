@@ -27,6 +27,7 @@ phase c stage more w why = record { kind = c .kind; stage = stage; n = c .n; mor
 abbrev pub turned : PlanNumbers → PlanStage → ℕ → PlanNumbers
 turned c stage more = phase c stage more (c .w) (c .why)
 
+-- the stage of a poll, and of the wait before the next one
 abbrev pub polls : Poll → PlanStage
 polls (Poll.Mode m late) = PlanStage.ModePoll
 polls Poll.Pll = PlanStage.PllPoll
