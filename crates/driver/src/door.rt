@@ -7,8 +7,8 @@ ghost use Rattle.driver.specs.Send.{bodyOf};
 ghost use Rattle.driver.specs.Finish.{finishedAs, acceptedBy};
 ghost use Rattle.driver.specs.Demand1.{left};
 ghost use Rattle.driver.specs.Numbers.{callOf};
-use crate::Call;
 use crate::At;
+use crate::Call;
 use crate::Numbers;
 use crate::lent;
 use crate::parts_of;
@@ -55,7 +55,11 @@ pub fn accepted(call: Call) -> bool
         At::Ram(_) => false,
         At::Plan(_, _) => false,
         At::Push(stage) => tx_fifo::push_done(parts_of::push_part(c, stage)),
-        At::Transmit(stage, request) => transmit::accepted(parts_of::transmit_part(c, stage, request)),
+        At::Transmit(stage, request) => transmit::accepted(parts_of::transmit_part(
+            c,
+            stage,
+            request,
+        )),
         At::Fetch(_, _) => false,
     }
 }

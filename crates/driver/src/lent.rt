@@ -115,12 +115,24 @@ pub fn answer_lent(c: Numbers, answer: Answer, rx: &[u8], body: &mut [u8; 76]) -
 {
     let at = c.at;
     match at {
-        At::Register(stage) => with_register(c, register::register_step(register_part(c, stage), answer, rx)),
+        At::Register(stage) => with_register(
+            c,
+            register::register_step(register_part(c, stage), answer, rx),
+        ),
         At::Ram(stage) => with_ram(c, ram::ram_step(ram_part(c, stage), answer, rx)),
-        At::Plan(kind, stage) => with_plan(c, configure::plan_step(plan_part(c, kind, stage), answer, rx, body)),
+        At::Plan(kind, stage) => with_plan(
+            c,
+            configure::plan_step(plan_part(c, kind, stage), answer, rx, body),
+        ),
         At::Push(stage) => with_push(c, tx_fifo::push_step(push_part(c, stage), answer, rx)),
-        At::Transmit(stage, request) => with_transmit(c, transmit::transmit_step(transmit_part(c, stage, request), answer, rx)),
-        At::Fetch(want, stage) => with_fetch(c, rx_fifo::fetch_step(fetch_part(c, want, stage), answer, rx, body)),
+        At::Transmit(stage, request) => with_transmit(
+            c,
+            transmit::transmit_step(transmit_part(c, stage, request), answer, rx),
+        ),
+        At::Fetch(want, stage) => with_fetch(
+            c,
+            rx_fifo::fetch_step(fetch_part(c, want, stage), answer, rx, body),
+        ),
     }
 }
 
@@ -135,7 +147,11 @@ pub fn finish_lent(c: Numbers, body: &[u8; 76], rx: &[u8], buf: &mut [u8]) -> Ou
         At::Ram(stage) => ram::ram_finish(ram_part(c, stage), rx, buf),
         At::Plan(kind, stage) => configure::plan_outcome(plan_part(c, kind, stage)),
         At::Push(stage) => tx_fifo::push_outcome(push_part(c, stage)),
-        At::Transmit(stage, request) => transmit::transmit_outcome(transmit_part(c, stage, request)),
+        At::Transmit(stage, request) => transmit::transmit_outcome(transmit_part(
+            c,
+            stage,
+            request,
+        )),
         At::Fetch(want, stage) => rx_fifo::fetch_finish(fetch_part(c, want, stage), body, buf),
     }
 }

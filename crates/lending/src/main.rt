@@ -37,10 +37,7 @@ fn show(what: &[u8], s: &[u8]) {
 
 // A RAM read's part of a buffer of 8 bytes.
 fn part(what: &[u8], address: u32, place: usize, count: usize) {
-    tell(
-        what,
-        begun(driver::read_ram(address, 8, place, count)),
-    );
+    tell(what, begun(driver::read_ram(address, 8, place, count)));
 }
 
 fn parts() {
