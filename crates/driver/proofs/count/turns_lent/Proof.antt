@@ -1,13 +1,14 @@
 -- `driver::count::turns_lent` meets its contract.
 -- Assumes nothing.
 use borrow.Author.Needs.{needs}
+use Rattle.rx_fifo.specs.Numbers.{fetchOf}
 use Rattle.driver.specs.Start.{ofRegister, ofRam, ofPlan, ofPush, ofTransmit, ofFetch}
 use Rattle.driver.specs.Numbers.{modelOf}
 use Rattle.driver.proofs.count.turns_lent.Statement.{statement}
 use Rattle.driver.proofs.count.turns_lent.Tie as tie
 
 pub turns-lent-spec : {M : Type 1} → statement M
-unfolding modelOf ofRegister ofRam ofPlan ofPush ofTransmit ofFetch
+unfolding modelOf ofRegister ofRam ofPlan ofPush ofTransmit ofFetch fetchOf
 turns-lent-spec =
     tie.close
     (tie.spec (λ c. search needs) (λ c κs. search needs) (λ c κs. search needs) (λ c. search needs) (λ c κs. search needs) (λ c κs. search needs) (λ c. search needs) (λ c κs. search needs) (λ c κs. search needs) (λ c. search needs) (λ c κs. search needs) (λ c κs. search needs) (λ c. search needs) (λ c κs. search needs) (λ c κs. search needs) (λ c. search needs) (λ c κs. search needs) (λ c κs. search needs)
