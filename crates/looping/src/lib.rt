@@ -66,9 +66,10 @@ pub fn run(first: Line, start: Call, lent: &[u8], buf: &mut [u8]) -> Ran {
             Next::Transfer { n, want } => {
                 if want <= 128 {
                     let t = transfer(line, &tx[..n], &mut rx[..want]);
+                    let answer = t.answer;
                     line = t.line;
                     got = want;
-                    call = driver::answer(call, t.answer, &rx[..got]);
+                    call = driver::answer(call, answer, &rx[..got]);
                 } else {
                     got = 0;
                     call = driver::answer(call, Answer::Failed, &rx[..got]);
