@@ -1,5 +1,7 @@
 // One loop serves every call. The line is here the modelled chip, with a count of exchanges; of a board it is the SPI: `transfer` is an
 // exchange under one chip select, `wait` lasts 500 microseconds.
+ghost use Prim.Native.Nat.{_≤_};
+ghost use lib.ListN.{length};
 use driver::Answer;
 use driver::Call;
 use driver::Next;
@@ -12,10 +14,11 @@ pub struct Line {
     pub exchanges: u64,
 }
 
-// The line after an exchange, and how that went.
-pub struct Transferred {
+// The line after a turn, what the call is answered, and how many bytes were received.
+pub struct Turn {
     pub line: Line,
     pub answer: Answer,
+    pub got: usize,
 }
 
 // The line after a call, and how that ended.
@@ -35,23 +38,64 @@ fn answer_of(heard: Heard) -> Answer {
     }
 }
 
-fn transfer(line: Line, tx: &[u8], rx: &mut [u8]) -> Transferred {
+fn transfer(line: Line, tx: &[u8], rx: &mut [u8]) -> Turn
+    ensures { λ r. ⌜ r .got ≤ length (now (rx .entry)) ⌝ }
+{
+    let want = rx.len();
     let m = line.model;
-    let x = model::exchange(m, tx, rx.len(), rx);
+    let x = model::exchange(m, tx, want, rx);
     let next = x.model;
     let heard = x.heard;
     let after = Line {
         model: next,
         exchanges: one_more(line.exchanges),
     };
-    Transferred {
+    Turn {
         line: after,
         answer: answer_of(heard),
+        got: want,
     }
 }
 
-fn wait(line: Line) -> Line {
-    line
+fn wait(line: Line) -> Turn
+    ensures { λ r. ⌜ r .got ≤ 0 ⌝ }
+{
+    Turn {
+        line: line,
+        answer: Answer::Waited,
+        got: 0,
+    }
+}
+
+// Where a buffer is too short, nothing may be sent: that is a failed exchange.
+fn short(line: Line) -> Turn
+    ensures { λ r. ⌜ r .got ≤ 0 ⌝ }
+{
+    Turn {
+        line: line,
+        answer: Answer::Failed,
+        got: 0,
+    }
+}
+
+// What the call asks for, done on the line.
+fn turned(line: Line, next: Next, tx: &[u8], rx: &mut [u8]) -> Turn
+    ensures { λ r. ⌜ r .got ≤ length (now (rx .entry)) ⌝ }
+{
+    match next {
+        Next::Transfer { n, want } => {
+            if tx.len() < n {
+                return short(line);
+            }
+            if rx.len() < want {
+                return short(line);
+            }
+            transfer(line, &tx[..n], &mut rx[..want])
+        }
+        Next::Wait => wait(line),
+        Next::Short => short(line),
+        Next::Over => short(line),
+    }
 }
 
 // A call, run to its end. `lent` is what a RAM write sends; `buf` is what a RAM read, a peek or a get fills.
@@ -61,31 +105,13 @@ pub fn run(first: Line, start: Call, lent: &[u8], buf: &mut [u8]) -> Ran {
     let mut line = first;
     let mut call = start;
     let mut got = 0;
-    loop {
-        match driver::next(call, lent, &mut tx) {
-            Next::Transfer { n, want } => {
-                if want <= 128 {
-                    let t = transfer(line, &tx[..n], &mut rx[..want]);
-                    let answer = t.answer;
-                    line = t.line;
-                    got = want;
-                    call = driver::answer(call, answer, &rx[..got]);
-                } else {
-                    got = 0;
-                    call = driver::answer(call, Answer::Failed, &rx[..got]);
-                }
-            }
-            Next::Wait => {
-                line = wait(line);
-                got = 0;
-                call = driver::answer(call, Answer::Waited, &rx[..got]);
-            }
-            Next::Short => {
-                got = 0;
-                call = driver::answer(call, Answer::Failed, &rx[..got]);
-            }
-            Next::Over => break,
-        }
+    while 0 < driver::turns(call) {
+        let next = driver::next(call, lent, &mut tx);
+        let t = turned(line, next, &tx, &mut rx);
+        let answer = t.answer;
+        line = t.line;
+        got = t.got;
+        call = driver::answer(call, answer, &rx[..got]);
     }
     let outcome = driver::finish(call, &rx[..got], buf);
     Ran {
