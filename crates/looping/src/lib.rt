@@ -1,7 +1,5 @@
 // One loop serves every call. The line is here the modelled chip, with a count of exchanges; of a board it is the SPI: `transfer` is an
 // exchange under one chip select, `wait` lasts 500 microseconds.
-ghost use Prim.Native.Nat.{_≤_};
-ghost use lib.ListN.{length};
 use driver::Answer;
 use driver::Call;
 use driver::Next;
@@ -38,9 +36,7 @@ fn answer_of(heard: Heard) -> Answer {
     }
 }
 
-fn transfer(line: Line, tx: &[u8], rx: &mut [u8]) -> Turn
-    ensures { λ r. ⌜ r .got ≤ length (now (rx .entry)) ⌝ }
-{
+fn transfer(line: Line, tx: &[u8], rx: &mut [u8]) -> Turn {
     let want = rx.len();
     let m = line.model;
     let x = model::exchange(m, tx, want, rx);
@@ -57,9 +53,7 @@ fn transfer(line: Line, tx: &[u8], rx: &mut [u8]) -> Turn
     }
 }
 
-fn wait(line: Line) -> Turn
-    ensures { λ r. ⌜ r .got ≤ 0 ⌝ }
-{
+fn wait(line: Line) -> Turn {
     Turn {
         line: line,
         answer: Answer::Waited,
@@ -68,9 +62,7 @@ fn wait(line: Line) -> Turn
 }
 
 // Where a buffer is too short, nothing may be sent: that is a failed exchange.
-fn short(line: Line) -> Turn
-    ensures { λ r. ⌜ r .got ≤ 0 ⌝ }
-{
+fn short(line: Line) -> Turn {
     Turn {
         line: line,
         answer: Answer::Failed,
@@ -79,9 +71,7 @@ fn short(line: Line) -> Turn
 }
 
 // What the call asks for, done on the line.
-fn turned(line: Line, next: Next, tx: &[u8], rx: &mut [u8]) -> Turn
-    ensures { λ r. ⌜ r .got ≤ length (now (rx .entry)) ⌝ }
-{
+fn turned(line: Line, next: Next, tx: &[u8], rx: &mut [u8]) -> Turn {
     match next {
         Next::Transfer { n, want } => {
             if tx.len() < n {
@@ -98,22 +88,27 @@ fn turned(line: Line, next: Next, tx: &[u8], rx: &mut [u8]) -> Turn
     }
 }
 
-// A call, run to its end. `lent` is what a RAM write sends; `buf` is what a RAM read, a peek or a get fills.
-pub fn run(first: Line, start: Call, lent: &[u8], buf: &mut [u8]) -> Ran {
-    let mut tx = [0u8; 130];
-    let mut rx = [0u8; 128];
+// A call, run to its end. `lent` is what a RAM write sends; `buf` is what a RAM read, a peek or a get fills; `tx` and `rx` are scratch.
+pub fn run(
+    first: Line,
+    start: Call,
+    lent: &[u8],
+    tx: &mut [u8],
+    rx: &mut [u8],
+    buf: &mut [u8],
+) -> Ran {
     let mut line = first;
     let mut call = start;
     let mut got = 0;
     while 0 < driver::turns(call) {
-        let next = driver::next(call, lent, &mut tx);
-        let t = turned(line, next, &tx, &mut rx);
+        let next = driver::next(call, lent, tx);
+        let t = turned(line, next, tx, rx);
         let answer = t.answer;
         line = t.line;
         got = t.got;
-        call = driver::answer(call, answer, &rx[..got]);
+        call = driver::answer(call, answer, text::front(rx, got));
     }
-    let outcome = driver::finish(call, &rx[..got], buf);
+    let outcome = driver::finish(call, text::front(rx, got), buf);
     Ran {
         line: line,
         outcome: outcome,

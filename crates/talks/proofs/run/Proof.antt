@@ -13,6 +13,6 @@ abbrev μ-loop : tie.MeasureT-loop
 pub run-spec : {M : Type 1} → statement M
 run-spec =
     tie.close
-    (tie.spec Inv-loop μ-loop (λ c κs. tt) (λ c κs. tt) (λ c κs. tt) (λ c κs. tt) (λ c. tt) (λ c κs. tt) (λ c κs. tt) (λ c. tt) (λ c κs. tt)
+    (tie.spec Inv-loop μ-loop (λ c κs. tt) (λ c κs. tt) (λ c κs. tt) (λ c. tt) (λ c κs. tt) (λ c κs. tt) (λ c. tt) (λ c κs. tt)
     (λ c κs. tt) (λ c κs. tt) (λ c κs. tt) (λ c κs. tt) (λ c κs. tt) (λ c κs. tt) (λ c κs. tt) (λ c κs. tt) (λ c κs. tt) (λ c κs. tt)
     (λ c κs. tt) (λ c κs. tt) (λ c κs. tt) (λ c. tt) (λ c. fewer _ (c .if2 .left)) (λ c. tt))
