@@ -38,14 +38,7 @@ fn run(r: Stand, call: Call, buf: &mut [u8]) -> Done {
     let mut tx = [0u8; 130];
     let mut rx = [0u8; 128];
     let line = r.line;
-    let ran = looping::run(
-        line,
-        call,
-        text::front(&none, 0),
-        &mut tx,
-        &mut rx,
-        buf,
-    );
+    let ran = looping::run(line, call, text::front(&none, 0), &mut tx, &mut rx, buf);
     let after = ran.line;
     let outcome = ran.outcome;
     let stand = Stand {

@@ -1,3 +1,5 @@
+-- `driver::door::accepted` meets its contract.
+-- Assumes nothing.
 use Rattle.driver.specs.Start.{ofRegister, ofRam, ofPlan, ofPush, ofTransmit, ofFetch}
 use Rattle.driver.specs.Finish.{acceptedBy}
 use Rattle.driver.specs.Numbers.{modelOf, callOf}

@@ -1,3 +1,5 @@
+-- `driver::lent::answer_lent` meets its contract.
+-- Assumes nothing.
 use Rattle.driver.proofs.Answers.{by-register, by-ram, by-plan, by-push, by-transmit, by-fetch}
 use denote.Ref.{now}
 use borrow.Author.Needs.{needs}

@@ -1,3 +1,5 @@
+-- `driver::lent::ask` meets its contract.
+-- Assumes nothing.
 use Rattle.driver.specs.Start.{ofRegister, ofRam, ofPlan, ofPush, ofTransmit, ofFetch}
 use Rattle.driver.specs.Step.{askOf}
 use Rattle.driver.specs.Numbers.{modelOf}

@@ -1,3 +1,5 @@
+-- `driver::lent::finish_lent` meets its contract.
+-- Assumes nothing.
 use Rattle.configure.specs.Numbers as planned
 use Rattle.tx_fifo.specs.Step as push
 use Rattle.transmit.specs.Transmit.{transmitOutcome}

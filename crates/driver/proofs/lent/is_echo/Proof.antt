@@ -1,3 +1,5 @@
+-- `driver::lent::is_echo` meets its contract.
+-- Assumes nothing.
 use borrow.Author.Needs.{needs}
 use Rattle.driver.proofs.lent.is_echo.Statement.{statement}
 use Rattle.driver.proofs.lent.is_echo.Tie as tie

@@ -1,3 +1,5 @@
+-- `driver::lent::next_lent` meets its contract.
+-- Assumes nothing.
 use mathlib.Core.Path.{sym, _∙_}
 use denote.Ref.{now}
 use Rattle.driver.proofs.Bodies.{own-body, pattern-body, lent-body, ask-any}

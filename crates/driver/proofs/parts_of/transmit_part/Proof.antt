@@ -1,3 +1,5 @@
+-- `driver::parts_of::transmit_part` meets its contract.
+-- Assumes nothing.
 use borrow.Author.Needs.{needs}
 use Rattle.driver.proofs.parts_of.transmit_part.Statement.{statement}
 use Rattle.driver.proofs.parts_of.transmit_part.Tie as tie
