@@ -29,7 +29,7 @@ use Rattle.spi.specs.declared.refusal.Done.{Done}
 use Rattle.plan.specs.declared.change.Change.{Change}
 use Rattle.plan.specs.declared.item.Poll.{Poll}
 use Rattle.plan.specs.declared.item.Item.{Item}
-use Rattle.plan.specs.declared.plan.PlanAt.{PlanAt}
+use Rattle.plan.specs.PlanAt.{PlanAt}
 use Rattle.plan.specs.Change.{changeOf, changeTo}
 use Rattle.plan.specs.Step.{arrivedAt, filled, planOf}
 use Rattle.plan.proofs.Changes.{change-is}

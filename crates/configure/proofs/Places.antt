@@ -12,11 +12,10 @@ use Rattle.laws.proofs.Choice.{by-if}
 use Rattle.plan.specs.declared.change.Change.{Change}
 use Rattle.plan.specs.declared.item.Poll.{Poll}
 use Rattle.plan.specs.declared.item.Item.{Item}
-use Rattle.plan.specs.declared.plan.Slot.{Slot}
-use Rattle.plan.specs.declared.plan.PlanAt.{PlanAt}
-use Rattle.plan.specs.declared.plan.Plan.{Plan}
+use Rattle.plan.specs.PlanAt.{PlanAt}
+use Rattle.plan.specs.Plan.{Plan}
 use Rattle.plan.specs.Item.{isThere}
-use Rattle.plan.specs.Step.{begun, placeFrom, arrivedAt, slots, filled}
+use Rattle.plan.specs.Step.{begun, placeFrom, arrivedAt, filled}
 use Rattle.plan.proofs.Places.{place-at, place-end, arrive-here, arrive-end}
 use Rattle.configure.specs.declared.planned.PlanKind.{PlanKind}
 use Rattle.configure.specs.declared.planned.PlanNumbers.{PlanNumbers}
@@ -90,24 +89,20 @@ begins c body next (Item.Poll Poll.Pll more) (e, d) = refl
 begins c body next Item.Echo (e, d) = refl
 begins c body next Item.Nothing (e, d) = refl
 
--- ---- the array of a plan: its items, and nothing behind them
+-- ---- the fifteen items of a plan: those there are, and nothing behind them
 
-abbrev nothing : Slot
-nothing = record { item = Item.Nothing }
+abbrev nothing : Item
+nothing = Item.Nothing
 
 idle : (m i : ℕ) → getD (replicate m nothing) i nothing ≡ nothing
 idle zero i = refl
 idle (suc m) zero = refl
 idle (suc m) (suc i) = idle m i
 
-slot : (items : List Item) (m i : ℕ) → getD (slots items ++ replicate m nothing) i nothing .item ≡ getD items i Item.Nothing
-slot [] m i = ap (λ s. s .item) (idle m i)
+slot : (items : List Item) (m i : ℕ) → getD (items ++ replicate m nothing) i nothing ≡ getD items i Item.Nothing
+slot [] m i = idle m i
 slot (x ∷ xs) m zero = refl
 slot (x ∷ xs) m (suc i) = slot xs m i
-
-length-slots : (items : List Item) → length (slots items) ≡ length items
-length-slots [] = refl
-length-slots (x ∷ xs) = ap suc (length-slots xs)
 
 -- the place of the first item from place i on that does anything
 abbrev from : List Item → ℕ → ℕ
@@ -115,7 +110,7 @@ from items i = placeFrom i (drop i (filled items))
 
 module _ (items : List Item) (few : length items ≤ 15) where
   length-filled : length (filled items) ≡ 15
-  length-filled = simp (length-append, length-replicate, length-slots) (omega arith)
+  length-filled = simp (length-append, length-replicate) (omega arith)
 
   place : (i : ℕ) (b : Bool) → i < 15 → isThere (getD items i Item.Nothing) ≡ b → from items i ≡ (if b then i else from items (i + 1))
   place i b l e = place-at (filled items) i b nothing (omega (arith, length-filled)) (ap isThere (slot items (15 - length items) i) ∙ e)

@@ -14,9 +14,9 @@ use Rattle.spi.specs.declared.ask.Answer.{Answer}
 use Rattle.spi.specs.Reply.{wordReply, doneReply, waitReply}
 use Rattle.spi.specs.Talk.{onWord, onDone}
 use Rattle.plan.specs.declared.item.Poll.{Poll}
-use Rattle.plan.specs.declared.plan.PlanAt.{PlanAt}
-use Rattle.plan.specs.declared.plan.Plan.{Plan}
-use Rattle.plan.specs.declared.plan.Move.{Move}
+use Rattle.plan.specs.PlanAt.{PlanAt}
+use Rattle.plan.specs.Plan.{Plan}
+use Rattle.plan.specs.Move.{Move}
 use Rattle.plan.specs.Item.{shown, echoWord}
 use Rattle.plan.specs.Step.{afterPoll, afterEcho, stopped, nextAt, arrivedAt, filled, movedTo, stepOf}
 use Rattle.configure.specs.declared.planned.PlanStage.{PlanStage}

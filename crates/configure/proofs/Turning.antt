@@ -7,21 +7,17 @@ use native.Mathlib.Nat.{zero-add}
 use native.Mathlib.Numerals.{add-one}
 use lib.ListN.{length, getD, drop, replicate, drop-of-length-le}
 use Rattle.plan.specs.declared.item.Item.{Item}
-use Rattle.plan.specs.declared.plan.Slot.{Slot}
-use Rattle.plan.specs.Step.{slots, filled}
-use Rattle.plan.specs.Talk.{listed, asksOf, allAsks}
+use Rattle.plan.specs.Step.{filled}
+use Rattle.plan.specs.Talk.{asksOf, allAsks}
 
-abbrev nothing : Slot
-nothing = record { item = Item.Nothing }
-
-idle : (m i : ℕ) → allAsks (listed (drop i (replicate m nothing))) ≡ 0
+idle : (m i : ℕ) → allAsks (drop i (replicate m Item.Nothing)) ≡ 0
 idle zero zero = refl
 idle zero (suc i) = refl
 idle (suc m) zero = zero-add _ ∙ idle m zero
 idle (suc m) (suc i) = idle m i
 
--- those of the array are those of the items
-array : (items : List Item) (m i : ℕ) → allAsks (listed (drop i (slots items ++ replicate m nothing))) ≡ allAsks (drop i items)
+-- behind the items there are none
+array : (items : List Item) (m i : ℕ) → allAsks (drop i (items ++ replicate m Item.Nothing)) ≡ allAsks (drop i items)
 array [] m zero = idle m zero
 array [] m (suc i) = idle m (suc i)
 array (x ∷ xs) m zero = ap (λ (n : ℕ). asksOf x + n) (array xs m zero)
@@ -35,9 +31,9 @@ next (x ∷ xs) zero = refl
 next (x ∷ xs) (suc i) = next xs i
 
 module _ (items : List Item) (i : ℕ) where
-  -- how often those in the array ask from place i on
+  -- how often those of a plan ask from place i on
   abbrev pub left : ℕ
-  left = allAsks (listed (drop i (filled items)))
+  left = allAsks (drop i (filled items))
 
   pub left-end : length items ≤ i → left ≡ 0
   left-end l = array items (15 - length items) i ∙ ap allAsks (drop-of-length-le items l)

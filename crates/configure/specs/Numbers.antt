@@ -14,8 +14,8 @@ use Rattle.spi.specs.declared.refusal.Refusal.{Refusal}
 use Rattle.plan.specs.declared.change.Change.{Change}
 use Rattle.plan.specs.declared.item.Poll.{Poll}
 use Rattle.plan.specs.declared.item.Item.{Item}
-use Rattle.plan.specs.declared.plan.PlanAt.{PlanAt}
-use Rattle.plan.specs.declared.plan.Plan.{Plan}
+use Rattle.plan.specs.PlanAt.{PlanAt}
+use Rattle.plan.specs.Plan.{Plan}
 use Rattle.plan.specs.Step.{filled}
 use Rattle.changes.specs.Changes.{whenAsked, modeChange, oscillatorTo, ioTo, nominalTo, dataTo, delayTo, stefChange, txqenChange, counterChange, dncntTo, rtxatChange, interruptTo}
 use Rattle.areas.specs.Areas.{offChange, objectTo, maskTo, onTo}

@@ -2,8 +2,8 @@
 ghost use mathlib.Core.Path.{_≡_};
 ghost use mathlib.Core.List.{[]};
 ghost use Rattle.spi.specs.Talk.{onWord, onDone};
-ghost use Rattle.plan.specs.declared.plan.PlanAt.{PlanAt};
-ghost use Rattle.plan.specs.declared.plan.Move.{Move};
+ghost use Rattle.plan.specs.PlanAt.{PlanAt};
+ghost use Rattle.plan.specs.Move.{Move};
 ghost use Rattle.plan.specs.Change.{modified};
 ghost use Rattle.plan.specs.Step.{stopped, afterPoll, afterEcho, nextAt, arrivedAt, filled, stepOf, askOf, outcomeOf};
 ghost use Rattle.configure.specs.Numbers.{failedIn, changeIn, itemsIn, placeIn, planIn};

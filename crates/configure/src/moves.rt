@@ -1,6 +1,6 @@
 // The numbers of a plan at another place of it.
 ghost use mathlib.Core.Path.{_≡_};
-ghost use Rattle.plan.specs.declared.plan.PlanAt.{PlanAt};
+ghost use Rattle.plan.specs.PlanAt.{PlanAt};
 ghost use Rattle.configure.specs.Moves.{phase, turned, polls, waits, atPlace, passed, atItem, isNext};
 use crate::PlanNumbers;
 use crate::PlanStage;

@@ -3,7 +3,7 @@ ghost use mathlib.Core.Path.{_≡_};
 ghost use Prim.Native.Nat.{_<_};
 ghost use lib.ListN.{drop};
 ghost use Rattle.plan.specs.Step.{filled};
-ghost use Rattle.plan.specs.Talk.{listed, asksOf, allAsks, itemLeft, planLeft};
+ghost use Rattle.plan.specs.Talk.{asksOf, allAsks, itemLeft, planLeft};
 ghost use Rattle.configure.specs.Numbers.{itemsIn, placeIn, planIn};
 use crate::PlanNumbers;
 use crate::PlanStage;
@@ -24,7 +24,7 @@ fn item_turns(item: Item) -> u32
 
 // Of the items behind the one where the plan stands.
 fn turns_behind(c: PlanNumbers, body: &[u8; 76]) -> u32
-    ensures { λ r. ⌜ (r ≡ allAsks (listed (drop (c .next) (filled (itemsIn c (now (body .entry))))))) × (r < 0x20000) ⌝ }
+    ensures { λ r. ⌜ (r ≡ allAsks (drop (c .next) (filled (itemsIn c (now (body .entry)))))) × (r < 0x20000) ⌝ }
 {
     let count = count_of(c);
     let mut sum = 0;

@@ -7,7 +7,7 @@ use Rattle.driver.specs.Demand1.{after, FollowsTalk, Demand1}
 use Rattle.driver.proofs.Runs.{follows, run-talk, outcome-talk}
 use Rattle.driver.proofs.Ends.{turns-fall, over-at-none, every-call-ends}
 use Rattle.driver.proofs.Nodes.{over-agrees, wrong-answers}
-use Rattle.driver.proofs.Keeps.{refused-keeps}
+use Rattle.driver.proofs.Keeps.{refused-keeps, finish-keeps}
 use Rattle.driver.proofs.Starts.{starts-as-talk, refuses-first}
 use Rattle.driver.proofs.Exchanges.{addresses-below, exchanges-fit, room-enough}
 
@@ -22,6 +22,7 @@ demand1 = record {
   everyCallEnds = every-call-ends;
   overAgrees = over-agrees;
   refusedKeeps = refused-keeps;
+  finishKeeps = finish-keeps;
   refusesFirst = refuses-first;
   wrongAnswers = wrong-answers;
   startsAsTalk = starts-as-talk;

@@ -25,20 +25,19 @@ use Rattle.spi.specs.Reply.{wordReply, pairReply, doneReply, crcReply}
 use Rattle.spi.specs.Talk.{onWord, onDone, run}
 use Rattle.spi.proofs.Talks.{by-word, by-pair, by-done, by-checked, still-asks}
 use Rattle.call.specs.declared.Found.{Found}
-use Rattle.register.specs.declared.RegisterCall.{RegisterCall}
+use Rattle.register.specs.RegisterCall.{RegisterCall}
 use Rattle.register.specs.Step as register
-use Rattle.ram.specs.declared.RamCall.{RamCall}
+use Rattle.ram.specs.RamCall.{RamCall}
 use Rattle.ram.specs.Echo.{same, echoBytes}
 use Rattle.ram.specs.Step as ram
 use Rattle.plan.specs.Step as plan
 use Rattle.plan.specs.Talk.{planLeft}
 use Rattle.plan.proofs.Turns.{plan-falls, plan-over}
-use Rattle.tx_fifo.specs.declared.push.PushAt.{PushAt}
+use Rattle.tx_fifo.specs.PushAt.{PushAt}
 use Rattle.tx_fifo.specs.Step as push
-use Rattle.transmit.specs.declared.transmit.Transmit.{Transmit}
-use Rattle.transmit.specs.Transmit.{transmitAsk, transmitStep}
+use Rattle.transmit.specs.Transmit.{Transmit, transmitAsk, transmitStep}
 use Rattle.fetch.specs.declared.Want.{Want}
-use Rattle.fetch.specs.declared.FetchAt.{FetchAt}
+use Rattle.fetch.specs.FetchAt.{FetchAt}
 use Rattle.fetch.specs.Step as fetched
 use Rattle.rx_fifo.specs.Step as fetch
 use Rattle.driver.specs.CallAt.{CallAt}

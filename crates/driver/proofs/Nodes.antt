@@ -15,17 +15,17 @@ use Rattle.spi.proofs.Talks.{isNothing}
 use Rattle.call.specs.declared.Outcome.{Outcome}
 use Rattle.call.specs.Outcome.{ended}
 use Rattle.call.specs.Numbers.{outcomeNumbers}
-use Rattle.register.specs.declared.RegisterCall.{RegisterCall}
+use Rattle.register.specs.RegisterCall.{RegisterCall}
 use Rattle.register.specs.Talk as register-talks
-use Rattle.ram.specs.declared.RamCall.{RamCall}
+use Rattle.ram.specs.RamCall.{RamCall}
 use Rattle.ram.specs.Talk as ram-talks
-use Rattle.plan.specs.declared.plan.PlanAt.{PlanAt}
+use Rattle.plan.specs.PlanAt.{PlanAt}
 use Rattle.plan.specs.Talk as plan-talks
-use Rattle.tx_fifo.specs.declared.push.PushAt.{PushAt}
+use Rattle.tx_fifo.specs.PushAt.{PushAt}
 use Rattle.tx_fifo.specs.Talk as push-talks
 use Rattle.transmit.specs.Transmit.{transmitTalkOf}
 use Rattle.fetch.specs.declared.Want.{Want}
-use Rattle.fetch.specs.declared.FetchAt.{FetchAt}
+use Rattle.fetch.specs.FetchAt.{FetchAt}
 use Rattle.rx_fifo.specs.Talk.{Fetched, told, message, empty, outcomeBy, talkAt as fetchAt, talkOf as fetchOf}
 use Rattle.driver.specs.CallAt.{CallAt}
 use Rattle.driver.specs.Call.{Call}

@@ -8,13 +8,12 @@ use Rattle.spi.specs.Talk.{Talk, done, refused, ask, andThen, answered, asks, r
 use Rattle.spi.proofs.Talks.{runs}
 use Rattle.call.specs.declared.Outcome.{Outcome}
 use Rattle.call.specs.Outcome.{ended}
-use Rattle.register.specs.declared.RegisterCall.{RegisterCall}
-use Rattle.ram.specs.declared.RamCall.{RamCall}
-use Rattle.plan.specs.declared.plan.Plan.{Plan}
-use Rattle.tx_fifo.specs.declared.push.Push.{Push}
-use Rattle.transmit.specs.declared.transmit.Transmit.{Transmit}
-use Rattle.transmit.specs.Transmit.{transmitTalkOf}
-use Rattle.rx_fifo.specs.declared.Fetch.{Fetch}
+use Rattle.register.specs.RegisterCall.{RegisterCall}
+use Rattle.ram.specs.RamCall.{RamCall}
+use Rattle.plan.specs.Plan.{Plan}
+use Rattle.tx_fifo.specs.Push.{Push}
+use Rattle.transmit.specs.Transmit.{Transmit, transmitTalkOf}
+use Rattle.rx_fifo.specs.Fetch.{Fetch}
 use Rattle.register.specs.Talk as register-talks
 use Rattle.ram.specs.Talk as ram-talks
 use Rattle.plan.specs.Talk as plan-talks

@@ -1,8 +1,8 @@
 -- A call of any family, as the definitions speak of it.
 -- Assumes nothing.
-use Rattle.plan.specs.declared.plan.Plan.{Plan}
-use Rattle.tx_fifo.specs.declared.push.Push.{Push}
-use Rattle.rx_fifo.specs.declared.Fetch.{Fetch}
+use Rattle.plan.specs.Plan.{Plan}
+use Rattle.tx_fifo.specs.Push.{Push}
+use Rattle.rx_fifo.specs.Fetch.{Fetch}
 use Rattle.driver.specs.CallAt.{CallAt}
 
 -- `push` is that of a push or a transmit, `plan` that of a plan or of a transmit's request; the others of the three are idle

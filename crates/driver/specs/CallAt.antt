@@ -1,7 +1,7 @@
 -- Which family a call is of.
 -- Assumes nothing.
-use Rattle.register.specs.declared.RegisterCall.{RegisterCall}
-use Rattle.ram.specs.declared.RamCall.{RamCall}
+use Rattle.register.specs.RegisterCall.{RegisterCall}
+use Rattle.ram.specs.RamCall.{RamCall}
 
 pub data CallAt : Type 0 where
   Register : RegisterCall → CallAt

@@ -15,10 +15,10 @@ use Rattle.header.specs.Header.{topId}
 use Rattle.spi.specs.Ram.{inRange}
 use Rattle.spi.specs.Talk.{Talk}
 use Rattle.call.specs.declared.Outcome.{Outcome}
-use Rattle.register.specs.declared.RegisterCall.{RegisterCall}
+use Rattle.register.specs.RegisterCall.{RegisterCall}
 use Rattle.register.specs.Step as register
 use Rattle.register.specs.Talk.{resetTalk, readCall, writeCall, checkedCall, opModeTalk}
-use Rattle.ram.specs.declared.RamCall.{RamCall}
+use Rattle.ram.specs.RamCall.{RamCall}
 use Rattle.ram.specs.Step as ram
 use Rattle.ram.specs.Talk.{readRamTalk, writeRamTalk, verifyLongTalk}
 use Rattle.plan.specs.Prepared.{Prepared, planFor, talkFor, modify, verify}

@@ -16,14 +16,15 @@ use Rattle.spi.specs.Talk.{asks, answered, run}
 use Rattle.call.specs.declared.Outcome.{Outcome}
 use Rattle.call.specs.Outcome.{ended}
 use Rattle.call.specs.Numbers.{outcomeNumbers}
-use Rattle.register.specs.declared.RegisterCall.{RegisterCall}
-use Rattle.ram.specs.declared.RamCall.{RamCall}
+use Rattle.register.specs.RegisterCall.{RegisterCall}
+use Rattle.ram.specs.RamCall.{RamCall}
 use Rattle.plan.specs.Talk.{planLeft}
-use Rattle.tx_fifo.specs.declared.push.PushAt.{PushAt}
-use Rattle.fetch.specs.declared.FetchAt.{FetchAt}
+use Rattle.tx_fifo.specs.PushAt.{PushAt}
+use Rattle.fetch.specs.FetchAt.{FetchAt}
 use Rattle.driver.specs.CallAt.{CallAt}
 use Rattle.driver.specs.Call.{Call}
 use Rattle.driver.specs.Step.{askOf, stepOf, outcomeOf, filledBy}
+use Rattle.driver.specs.Finish.{finishedAs}
 use Rattle.driver.specs.Talk.{talkOf}
 use Rattle.driver.specs.Calls.{Start, Reset, OpMode, VerifyLong, Read, Checked, Write, ReadRam, WriteRam, Planned, Push, Transmit, Request, HasNext, Peek, Get, started, wholeTalk, first, tests}
 
@@ -117,6 +118,11 @@ abbrev pub RefusedKeeps : Type 0
 RefusedKeeps =
     (call : Call) (r : Refusal) → outcomeOf call ≡ Outcome.Refused r
     → (askOf call ≡ Ask.Nothing) × ((rx buf : List ℕ) → filledBy call rx buf ≡ buf)
+
+-- nor does an end that is refused, be it by 28 or 26 for what is lent to it
+abbrev pub FinishKeeps : Type 0
+FinishKeeps =
+    (call : Call) (rx buf : List ℕ) (r : Refusal) → finishedAs call (length rx) (length buf) ≡ Outcome.Refused r → filledBy call rx buf ≡ buf
 
 -- before any exchange, the first refusal in the order given; a call that meets none runs, and has no answer yet
 abbrev pub RefusesFirst : Type 0
@@ -235,6 +241,7 @@ pub record Demand1 : Type 0 where
   pub everyCallEnds : EveryCallEnds
   pub overAgrees : OverAgrees
   pub refusedKeeps : RefusedKeeps
+  pub finishKeeps : FinishKeeps
   pub refusesFirst : RefusesFirst
   pub wrongAnswers : WrongAnswers
   pub startsAsTalk : StartsAsTalk

@@ -2,7 +2,6 @@
 -- Assumes nothing.
 use Prim.Native.Nat.{ℕ}
 use mathlib.Core.Bool.{Bool, false}
-use mathlib.Core.List.{List}
 use Rattle.call.specs.declared.Outcome.{Outcome}
 use Rattle.ram.specs.Step as ram
 use Rattle.rx_fifo.specs.Outcome as fetch

@@ -5,15 +5,14 @@ use mathlib.Core.List.{List}
 use Rattle.spi.specs.declared.ask.Ask.{Ask}
 use Rattle.spi.specs.declared.ask.Answer.{Answer}
 use Rattle.call.specs.declared.Outcome.{Outcome}
-use Rattle.plan.specs.declared.plan.Plan.{Plan}
-use Rattle.tx_fifo.specs.declared.push.Push.{Push}
-use Rattle.transmit.specs.declared.transmit.Transmit.{Transmit}
-use Rattle.rx_fifo.specs.declared.Fetch.{Fetch}
+use Rattle.plan.specs.Plan.{Plan}
+use Rattle.tx_fifo.specs.Push.{Push}
+use Rattle.transmit.specs.Transmit.{Transmit, transmitAsk, transmitStep, transmitOutcome}
+use Rattle.rx_fifo.specs.Fetch.{Fetch}
 use Rattle.register.specs.Step as register
 use Rattle.ram.specs.Step as ram
 use Rattle.plan.specs.Step as plan
 use Rattle.tx_fifo.specs.Step as push
-use Rattle.transmit.specs.Transmit.{transmitAsk, transmitStep, transmitOutcome}
 use Rattle.rx_fifo.specs.Step as fetch
 use Rattle.rx_fifo.specs.Outcome as found
 use Rattle.driver.specs.CallAt.{CallAt}

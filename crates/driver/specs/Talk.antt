@@ -7,7 +7,7 @@ use Rattle.ram.specs.Talk as ram
 use Rattle.plan.specs.Talk as plan
 use Rattle.tx_fifo.specs.Talk as push
 use Rattle.transmit.specs.Transmit.{transmitTalkOf}
-use Rattle.rx_fifo.specs.declared.Fetch.{Fetch}
+use Rattle.rx_fifo.specs.Fetch.{Fetch}
 use Rattle.rx_fifo.specs.Talk as fetch
 use Rattle.driver.specs.CallAt.{CallAt}
 use Rattle.driver.specs.Call.{Call}

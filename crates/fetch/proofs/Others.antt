@@ -7,7 +7,7 @@ use types.Run.{OneOf, miss}
 use denote.Enum.Declared.{tagOf}
 use Rattle.spi.specs.declared.ask.Answer.{Answer}
 use Rattle.spi.specs.declared.refusal.Refusal.{Refusal}
-use Rattle.fetch.specs.declared.FetchAt.{FetchAt}
+use Rattle.fetch.specs.FetchAt.{FetchAt}
 use Rattle.fetch.specs.declared.FetchStage.{FetchStage}
 use Rattle.fetch.specs.declared.FetchNumbers.{FetchNumbers}
 use Rattle.fetch.specs.Step.{nextAt}

@@ -8,7 +8,7 @@ use Rattle.message.specs.declared.object.Stamp.{Stamp}
 use Rattle.spi.specs.declared.refusal.Refusal.{Refusal}
 use Rattle.call.specs.declared.Found.{Found}
 use Rattle.fetch.specs.declared.Want.{Want}
-use Rattle.fetch.specs.declared.FetchAt.{FetchAt}
+use Rattle.fetch.specs.FetchAt.{FetchAt}
 use Rattle.fetch.specs.declared.FetchStage.{FetchStage}
 use Rattle.fetch.specs.declared.FetchNumbers.{FetchNumbers}
 

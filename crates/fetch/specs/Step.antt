@@ -23,7 +23,7 @@ use Rattle.spi.specs.Reply.{wordReply, pairReply, doneReply}
 use Rattle.spi.specs.Talk.{onWord, onPair, onDone}
 use Rattle.call.specs.declared.Found.{Found}
 use Rattle.fetch.specs.declared.Want.{Want}
-use Rattle.fetch.specs.declared.FetchAt.{FetchAt}
+use Rattle.fetch.specs.FetchAt.{FetchAt}
 
 -- ---- one definition for each transition
 

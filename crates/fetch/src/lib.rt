@@ -4,7 +4,7 @@ ghost use Rattle.words.specs.Words.{roundUp};
 ghost use Rattle.spi.specs.Reply.{doneReply, wordReply};
 ghost use Rattle.spi.specs.Talk.{onWord, onPair, onDone};
 ghost use Rattle.spi.specs.declared.refusal.Refusal.{Refusal};
-ghost use Rattle.fetch.specs.declared.FetchAt.{FetchAt};
+ghost use Rattle.fetch.specs.FetchAt.{FetchAt};
 ghost use Rattle.fetch.specs.declared.FetchStage.{FetchStage};
 ghost use Rattle.fetch.specs.Step.{afterControl, toAddress, afterStatus, afterAddress, afterHeader, toTime, toBody, afterAgain, stamped, afterTime, afterBody, nextAt};
 ghost use Rattle.fetch.specs.Numbers.{foundIn, fetchAt, standing, started, movedTo};
@@ -22,28 +22,6 @@ pub enum Want {
     HasNext,
     Peek,
     Get,
-}
-
-// Where a call stands: the exchange that it asks for, with what was read before, or how it ended.
-pub enum FetchAt {
-    Control,
-    Status,
-    Address,
-    // The object's address.
-    Header(u16),
-    // Control again, for RXTSEN; the object's address.
-    Again(u16, Found),
-    // The timestamp's address.
-    Time(u16, Found),
-    // The payload's address.
-    Body(u16, Found),
-    // Control a third time, and that word to be written with UINC.
-    Next(Found),
-    Commit(u32, Found),
-    Done(Found),
-    Empty,
-    Told(bool),
-    Refused(Refusal),
 }
 
 // The exchange that a call asks for, or how it ended.

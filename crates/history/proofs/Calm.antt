@@ -7,7 +7,7 @@ use mathlib.Core.List.{List, [], _∷_, _++_, map, append-nil, append-assoc}
 use Rattle.fifo.specs.Control.{isFifo}
 use Rattle.message.specs.Message.{Message}
 use Rattle.call.specs.declared.Outcome.{Outcome}
-use Rattle.tx_fifo.specs.declared.push.PushAt.{PushAt}
+use Rattle.tx_fifo.specs.PushAt.{PushAt}
 use Rattle.state.specs.declared.Fixed.{Fixed}
 use Rattle.state.specs.declared.Model.{Model}
 use Rattle.reach.specs.Bus.{Bus, Send, Deliver, stepped}

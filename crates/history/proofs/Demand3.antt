@@ -2,6 +2,7 @@
 -- Assumes nothing.
 use Rattle.history.specs.Demand.{world}
 use Rattle.history.specs.Demand3.{Demand3}
+use Rattle.history.proofs.Door.{starts-at-door}
 use Rattle.history.proofs.Received.{answered-whole}
 use Rattle.history.proofs.PushExactly.{push-exactly, pushed-iff}
 use Rattle.history.proofs.Transmits.{request-exactly, transmit-refused, transmit-done, request-fails}
@@ -15,6 +16,7 @@ use Rattle.history.proofs.Example as example
 
 pub demand3 : Demand3
 demand3 = record {
+  startsAtDoor = starts-at-door;
   lists = λ c w g es. holds-always c w g es .lists;
   pushExactly = λ c w g es. push-exactly (world c w es) (fits c w g es);
   pushedIff = λ c w g es. pushed-iff (world c w es) (fits c w g es);

@@ -36,7 +36,7 @@ use Rattle.state.specs.declared.Model.{Model}
 use Rattle.state.specs.Model.{frozenAt}
 use Rattle.bus.specs.Held.{slotOf, itemAt}
 use Rattle.fetch.specs.declared.Want.{Want}
-use Rattle.fetch.specs.declared.FetchAt.{FetchAt}
+use Rattle.fetch.specs.FetchAt.{FetchAt}
 use Rattle.fetch.specs.Step.{byLength, afterHeader, toTime, toBody, afterAgain, afterTime, afterBody, nextAt}
 use Rattle.rx_fifo.specs.Step.{heldOf}
 use Rattle.rx_fifo.specs.Outcome.{messageOf, foundOf, filled}

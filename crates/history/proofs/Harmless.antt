@@ -23,13 +23,12 @@ use Rattle.spi.specs.Talk.{onWord, onDone}
 use Rattle.plan.specs.declared.change.Change.{Change}
 use Rattle.plan.specs.declared.item.Poll.{Poll}
 use Rattle.plan.specs.declared.item.Item.{Item}
-use Rattle.plan.specs.declared.plan.Slot.{Slot}
-use Rattle.plan.specs.declared.plan.PlanAt.{PlanAt}
-use Rattle.plan.specs.declared.plan.Plan.{Plan}
-use Rattle.plan.specs.declared.plan.Move.{Move}
+use Rattle.plan.specs.PlanAt.{PlanAt}
+use Rattle.plan.specs.Plan.{Plan}
+use Rattle.plan.specs.Move.{Move}
 use Rattle.plan.specs.Change.{modified}
 use Rattle.plan.specs.Item.{shown}
-use Rattle.plan.specs.Step.{begun, afterPoll, stopped, nextAt, placeFrom, standing, arrivedAt, slots, filled, planOf, refusedPlan, movedTo, stepOf}
+use Rattle.plan.specs.Step.{begun, afterPoll, stopped, nextAt, placeFrom, standing, arrivedAt, filled, planOf, refusedPlan, movedTo, stepOf}
 use Rattle.history.proofs.Replies.{Gentle, le-said}
 
 -- ---- what is harmless
@@ -82,9 +81,9 @@ module _ (X : ℕ → Type 0) where
   HarmlessItem Item.Echo = ⊥
   HarmlessItem Item.Nothing = Unit {0}
 
-  abbrev pub HarmlessSlots : List Slot → Type 0
-  HarmlessSlots [] = Unit {0}
-  HarmlessSlots (s ∷ ss) = HarmlessItem (s .item) × HarmlessSlots ss
+  abbrev pub HarmlessItems : List Item → Type 0
+  HarmlessItems [] = Unit {0}
+  HarmlessItems (x ∷ xs) = HarmlessItem x × HarmlessItems xs
 
   abbrev pub HarmlessAt : PlanAt → Type 0
   HarmlessAt (PlanAt.Read c) = HarmlessChange c
@@ -97,15 +96,15 @@ module _ (X : ℕ → Type 0) where
   HarmlessAt (PlanAt.Refused r) = Unit {0}
 
   pub record Harmless (p : Plan) : Type 0 where
-    pub items : HarmlessSlots (p .items)
+    pub items : HarmlessItems (p .items)
     pub at : HarmlessAt (p .at)
 
   -- ---- the items that are left
 
-  slots-drop : (i : ℕ) (ss : List Slot) → HarmlessSlots ss → HarmlessSlots (drop i ss)
-  slots-drop zero ss h = h
-  slots-drop (suc i) [] h = tt
-  slots-drop (suc i) (s ∷ ss) h = slots-drop i ss (h .1)
+  items-drop : (i : ℕ) (xs : List Item) → HarmlessItems xs → HarmlessItems (drop i xs)
+  items-drop zero xs h = h
+  items-drop (suc i) [] h = tt
+  items-drop (suc i) (x ∷ xs) h = items-drop i xs (h .1)
 
   begun-harmless : (x : Item) → HarmlessItem x → HarmlessAt (begun x)
   begun-harmless (Item.Change c) h = h
@@ -113,32 +112,28 @@ module _ (X : ℕ → Type 0) where
   begun-harmless Item.Echo h = absurd h
   begun-harmless Item.Nothing h = tt
 
-  standing-harmless : (failed : Refusal) (items : List Slot) (i : ℕ) (ss : List Slot) → HarmlessSlots items → HarmlessSlots ss → Harmless (standing failed items i ss)
+  standing-harmless : (failed : Refusal) (items : List Item) (i : ℕ) (xs : List Item) → HarmlessItems items → HarmlessItems xs → Harmless (standing failed items i xs)
   standing-harmless failed items i [] h l = record { items = h; at = tt }
-  standing-harmless failed items i (s ∷ ss) h l = record { items = h; at = begun-harmless (s .item) (l .0) }
+  standing-harmless failed items i (x ∷ xs) h l = record { items = h; at = begun-harmless x (l .0) }
 
-  pub arrived-harmless : (failed : Refusal) (items : List Slot) (from : ℕ) → HarmlessSlots items → Harmless (arrivedAt failed items from)
+  pub arrived-harmless : (failed : Refusal) (items : List Item) (from : ℕ) → HarmlessItems items → Harmless (arrivedAt failed items from)
   unfolding arrivedAt
   arrived-harmless failed items from h =
       let i = placeFrom from (drop from items) in
-      standing-harmless failed items i (drop i items) h (slots-drop i items h)
+      standing-harmless failed items i (drop i items) h (items-drop i items h)
 
   -- ---- starts
 
-  abbrev pub HarmlessItems : List Item → Type 0
-  HarmlessItems [] = Unit {0}
-  HarmlessItems (x ∷ xs) = HarmlessItem x × HarmlessItems xs
-
-  nothing-harmless : (n : ℕ) → HarmlessSlots (replicate n (record { item = Item.Nothing }))
+  nothing-harmless : (n : ℕ) → HarmlessItems (replicate n Item.Nothing)
   nothing-harmless zero = tt
   nothing-harmless (suc n) = (tt, nothing-harmless n)
 
-  slots-harmless : (n : ℕ) (xs : List Item) → HarmlessItems xs → HarmlessSlots (slots xs ++ replicate n (record { item = Item.Nothing }))
-  slots-harmless n [] h = nothing-harmless n
-  slots-harmless n (x ∷ xs) h = (h .0, slots-harmless n xs (h .1))
+  filled-harmless : (n : ℕ) (xs : List Item) → HarmlessItems xs → HarmlessItems (xs ++ replicate n Item.Nothing)
+  filled-harmless n [] h = nothing-harmless n
+  filled-harmless n (x ∷ xs) h = (h .0, filled-harmless n xs (h .1))
 
   pub plan-harmless : (failed : Refusal) (xs : List Item) → HarmlessItems xs → Harmless (planOf failed xs)
-  plan-harmless failed xs h = arrived-harmless failed (filled xs) 0 (slots-harmless (15 - length xs) xs h)
+  plan-harmless failed xs h = arrived-harmless failed (filled xs) 0 (filled-harmless (15 - length xs) xs h)
 
   pub refused-harmless : (r : Refusal) → Harmless (refusedPlan r)
   refused-harmless r = record { items = nothing-harmless 15; at = tt }
@@ -214,7 +209,7 @@ module _ (X : ℕ → Type 0) where
   next-harmless failed PlanAt.Done a rx h f = tt
   next-harmless failed (PlanAt.Refused r) a rx h f = tt
 
-  moved-harmless : (p : Plan) (m : Move) → HarmlessSlots (p .items) → HarmlessMove m → Harmless (movedTo p m)
+  moved-harmless : (p : Plan) (m : Move) → HarmlessItems (p .items) → HarmlessMove m → Harmless (movedTo p m)
   moved-harmless p (Move.To at) h l = record { items = h; at = l }
   moved-harmless p Move.Next h l = arrived-harmless (p .failed) (p .items) (p .next) h
 

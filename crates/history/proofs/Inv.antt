@@ -11,15 +11,15 @@ use Rattle.spi.specs.declared.refusal.Refusal.{Refusal}
 use Rattle.header.specs.declared.Header.{Header}
 use Rattle.message.specs.Message.{Message, Encoding, encoding}
 use Rattle.call.specs.declared.Outcome.{Outcome}
-use Rattle.plan.specs.declared.plan.Plan.{Plan}
+use Rattle.plan.specs.Plan.{Plan}
 use Rattle.plan.specs.Step as plan
-use Rattle.tx_fifo.specs.declared.push.Push.{Push as Pushes}
-use Rattle.tx_fifo.specs.declared.push.PushAt.{PushAt}
+use Rattle.tx_fifo.specs.Push.{Push as Pushes}
+use Rattle.tx_fifo.specs.PushAt.{PushAt}
 use Rattle.tx_fifo.specs.Step.{toSend}
 use Rattle.transmit.specs.Transmit.{requestStart}
 use Rattle.fetch.specs.declared.Want.{Want}
-use Rattle.fetch.specs.declared.FetchAt.{FetchAt}
-use Rattle.rx_fifo.specs.declared.Fetch.{Fetch}
+use Rattle.fetch.specs.FetchAt.{FetchAt}
+use Rattle.rx_fifo.specs.Fetch.{Fetch}
 use Rattle.driver.specs.Call.{Call}
 use Rattle.state.specs.declared.Model.{Model}
 use Rattle.bus.specs.Held.{held}

@@ -1,4 +1,5 @@
 pub mod Sound
+pub mod Door
 pub mod Few
 pub mod Bytes
 pub mod Received

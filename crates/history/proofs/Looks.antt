@@ -15,9 +15,9 @@ use Rattle.spi.specs.declared.reply.CheckedWord.{CheckedWord}
 use Rattle.spi.specs.Ram.{accessOf}
 use Rattle.spi.specs.Reply.{wordReply, doneReply, crcReply}
 use Rattle.spi.specs.Talk.{onWord, onDone, onChecked}
-use Rattle.register.specs.declared.RegisterCall.{RegisterCall}
+use Rattle.register.specs.RegisterCall.{RegisterCall}
 use Rattle.register.specs.Step as register
-use Rattle.ram.specs.declared.RamCall.{RamCall}
+use Rattle.ram.specs.RamCall.{RamCall}
 use Rattle.ram.specs.Step as ram
 use Rattle.state.specs.declared.Model.{Model}
 use Rattle.driver.specs.CallAt.{CallAt}

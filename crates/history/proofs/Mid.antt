@@ -10,9 +10,9 @@ use Rattle.fifo.specs.Control.{isFifo}
 use Rattle.header.specs.declared.Header.{Header}
 use Rattle.message.specs.Message.{Message, bodyAt, holds}
 use Rattle.call.specs.declared.Found.{Found}
-use Rattle.tx_fifo.specs.declared.push.PushAt.{PushAt}
+use Rattle.tx_fifo.specs.PushAt.{PushAt}
 use Rattle.fetch.specs.declared.Want.{Want}
-use Rattle.fetch.specs.declared.FetchAt.{FetchAt}
+use Rattle.fetch.specs.FetchAt.{FetchAt}
 use Rattle.rx_fifo.specs.Outcome.{messageOf, foundOf}
 use Rattle.ring.specs.Ring.{sending, depth}
 use Rattle.ring.specs.Layout.{stamped, size}

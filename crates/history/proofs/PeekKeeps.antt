@@ -24,10 +24,10 @@ use Rattle.spi.specs.Ram.{inRange}
 use Rattle.spi.specs.Reply.{doneReply}
 use Rattle.spi.specs.Talk.{onWord, onPair, onDone}
 use Rattle.call.specs.declared.Found.{Found}
-use Rattle.plan.specs.declared.plan.Plan.{Plan}
-use Rattle.tx_fifo.specs.declared.push.Push.{Push as Pushes}
+use Rattle.plan.specs.Plan.{Plan}
+use Rattle.tx_fifo.specs.Push.{Push as Pushes}
 use Rattle.fetch.specs.declared.Want.{Want}
-use Rattle.fetch.specs.declared.FetchAt.{FetchAt}
+use Rattle.fetch.specs.FetchAt.{FetchAt}
 use Rattle.fetch.specs.Step.{afterControl, afterStatus, afterAddress, byLength, afterHeader, toTime, toBody, afterAgain, afterTime, stamped, nextBy, nextAt}
 use Rattle.rx_fifo.specs.Step as fetch
 use Rattle.driver.specs.Call.{Call}

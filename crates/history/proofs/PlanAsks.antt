@@ -19,8 +19,8 @@ use Rattle.state.specs.declared.Model.{Model}
 use Rattle.state.specs.Model.{withSetup}
 use Rattle.bank.specs.Registers.{wordOf, controlWritten, registerWritten}
 use Rattle.model.specs.Exchange.{performed, exchange}
-use Rattle.plan.specs.declared.plan.PlanAt.{PlanAt}
-use Rattle.plan.specs.declared.plan.Plan.{Plan}
+use Rattle.plan.specs.PlanAt.{PlanAt}
+use Rattle.plan.specs.Plan.{Plan}
 use Rattle.plan.specs.Item.{addressOf}
 use Rattle.plan.specs.Step.{askAt, askOf}
 use Rattle.history.specs.History.{Heard}

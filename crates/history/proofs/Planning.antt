@@ -7,12 +7,12 @@ use mathlib.Core.Bool.{Bool, true, false}
 use mathlib.Core.List.{List, [], _∷_, _++_}
 use Rattle.spi.specs.declared.ask.Answer.{Answer}
 use Rattle.call.specs.declared.Outcome.{Outcome}
-use Rattle.plan.specs.declared.plan.Plan.{Plan}
+use Rattle.plan.specs.Plan.{Plan}
 use Rattle.plan.specs.Step as plan
-use Rattle.tx_fifo.specs.declared.push.Push.{Push as Pushes}
+use Rattle.tx_fifo.specs.Push.{Push as Pushes}
 use Rattle.tx_fifo.specs.Step as push
 use Rattle.transmit.specs.Transmit.{transmitAsk, transmitStep, transmitOutcome}
-use Rattle.rx_fifo.specs.declared.Fetch.{Fetch}
+use Rattle.rx_fifo.specs.Fetch.{Fetch}
 use Rattle.driver.specs.CallAt.{CallAt}
 use Rattle.driver.specs.Call.{Call}
 use Rattle.driver.specs.Step.{askOf, stepOf, outcomeOf, filledBy}

@@ -21,10 +21,10 @@ use Rattle.header.specs.declared.Header.{Header}
 use Rattle.message.specs.Message.{Message, Encoding, encoding}
 use Rattle.operation.specs.declared.place.Register.{Register}
 use Rattle.call.specs.declared.Outcome.{Outcome}
-use Rattle.plan.specs.declared.plan.Plan.{Plan}
-use Rattle.tx_fifo.specs.declared.push.PushAt.{PushAt}
+use Rattle.plan.specs.Plan.{Plan}
+use Rattle.tx_fifo.specs.PushAt.{PushAt}
 use Rattle.tx_fifo.specs.Step as push
-use Rattle.rx_fifo.specs.declared.Fetch.{Fetch}
+use Rattle.rx_fifo.specs.Fetch.{Fetch}
 use Rattle.driver.specs.Call.{Call}
 use Rattle.driver.specs.Start.{idlePlan, idleFetch, ofPush}
 use Rattle.ring.specs.Ring.{sending, depth}

@@ -16,9 +16,9 @@ use Rattle.header.specs.declared.Header.{Header}
 use Rattle.message.specs.Message.{Encoding, encoding}
 use Rattle.operation.specs.declared.place.Register.{Register}
 use Rattle.call.specs.declared.Outcome.{Outcome}
-use Rattle.tx_fifo.specs.declared.push.PushAt.{PushAt}
+use Rattle.tx_fifo.specs.PushAt.{PushAt}
 use Rattle.tx_fifo.specs.Step as push
-use Rattle.plan.specs.declared.plan.Plan.{Plan}
+use Rattle.plan.specs.Plan.{Plan}
 use Rattle.transmit.specs.Transmit.{requestStart, transmitStart}
 use Rattle.driver.specs.Start.{idlePlan, idleFetch, ofPush, ofTransmit}
 use Rattle.driver.specs.Step.{askOf, outcomeOf}

@@ -29,12 +29,12 @@ use Rattle.message.specs.Laws.{Suits}
 use Rattle.message.proofs.Round.{lengths-hold}
 use Rattle.operation.specs.declared.place.Register.{Register}
 use Rattle.call.specs.declared.Outcome.{Outcome}
-use Rattle.plan.specs.declared.plan.Plan.{Plan}
-use Rattle.tx_fifo.specs.declared.push.PushAt.{PushAt}
+use Rattle.plan.specs.Plan.{Plan}
+use Rattle.tx_fifo.specs.PushAt.{PushAt}
 use Rattle.tx_fifo.specs.Step as push
 use Rattle.transmit.specs.Transmit.{requestStart, transmitStart}
 use Rattle.driver.specs.Start.{idlePlan, idleFetch, ofPush, ofTransmit}
-use Rattle.rx_fifo.specs.declared.Fetch.{Fetch}
+use Rattle.rx_fifo.specs.Fetch.{Fetch}
 use Rattle.driver.specs.Call.{Call}
 use Rattle.ring.specs.declared.ring.Fifo.{Fifo}
 use Rattle.ring.specs.Ring.{sending, depth, claimed, increased}

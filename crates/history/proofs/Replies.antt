@@ -26,10 +26,10 @@ use Rattle.spi.specs.declared.reply.OneWord.{OneWord}
 use Rattle.spi.specs.Reply.{wordReply}
 use Rattle.operation.specs.declared.place.Register.{Register}
 use Rattle.call.specs.declared.Found.{Found}
-use Rattle.tx_fifo.specs.declared.push.PushAt.{PushAt}
+use Rattle.tx_fifo.specs.PushAt.{PushAt}
 use Rattle.tx_fifo.specs.Step.{afterControl, afterStatus, afterAddress, nextAt}
 use Rattle.fetch.specs.declared.Want.{Want}
-use Rattle.fetch.specs.declared.FetchAt.{FetchAt}
+use Rattle.fetch.specs.FetchAt.{FetchAt}
 use Rattle.fetch.specs.Step.{byStatus, afterControl as fetchedControl, afterStatus as fetchedStatus, afterAddress as fetchedAddress, nextAt as fetchAt}
 use Rattle.ring.specs.declared.ring.Fifo.{Fifo}
 use Rattle.ring.specs.Ring.{sending, depth, shown, increased, controlled, commanded}

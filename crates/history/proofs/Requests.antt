@@ -13,8 +13,8 @@ use Rattle.field.proofs.Sets.{settings-lt}
 use Rattle.spi.specs.declared.refusal.Refusal.{Refusal}
 use Rattle.spi.specs.declared.ask.Answer.{Answer}
 use Rattle.plan.specs.declared.item.Item.{Item}
-use Rattle.plan.specs.declared.plan.PlanAt.{PlanAt}
-use Rattle.plan.specs.declared.plan.Plan.{Plan}
+use Rattle.plan.specs.PlanAt.{PlanAt}
+use Rattle.plan.specs.Plan.{Plan}
 use Rattle.plan.specs.Change.{modified}
 use Rattle.plan.specs.Step.{filled, arrivedAt, refusedPlan, stepOf, askAt, askOf, outcomeAt, outcomeOf}
 use Rattle.plan.proofs.Changes.{change-sets}

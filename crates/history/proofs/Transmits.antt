@@ -15,15 +15,15 @@ use Rattle.message.specs.Message.{Encoding}
 use Rattle.operation.specs.declared.place.Register.{Register}
 use Rattle.call.specs.declared.Outcome.{Outcome}
 use Rattle.call.specs.Numbers.{outcomeNumbers}
-use Rattle.plan.specs.declared.plan.PlanAt.{PlanAt}
-use Rattle.plan.specs.declared.plan.Plan.{Plan}
+use Rattle.plan.specs.PlanAt.{PlanAt}
+use Rattle.plan.specs.Plan.{Plan}
 use Rattle.plan.specs.Step as plan
 use Rattle.plan.specs.Change.{modified}
-use Rattle.tx_fifo.specs.declared.push.Push.{Push as Pushes}
-use Rattle.tx_fifo.specs.declared.push.PushAt.{PushAt}
+use Rattle.tx_fifo.specs.Push.{Push as Pushes}
+use Rattle.tx_fifo.specs.PushAt.{PushAt}
 use Rattle.tx_fifo.specs.Step as push
 use Rattle.transmit.specs.Transmit.{requestChange, requestStart, transmitStart}
-use Rattle.rx_fifo.specs.declared.Fetch.{Fetch}
+use Rattle.rx_fifo.specs.Fetch.{Fetch}
 use Rattle.driver.specs.Start.{idlePush, idleFetch, ofPlan, ofTransmit}
 use Rattle.state.specs.declared.Model.{Model}
 use Rattle.bank.specs.Registers.{wordOf, controlWritten}

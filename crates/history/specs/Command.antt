@@ -4,7 +4,7 @@ use Prim.Native.Nat.{ℕ}
 use mathlib.Core.List.{List, []}
 use lib.ListN.{length}
 use Rattle.header.specs.declared.Header.{Header}
-use Rattle.register.specs.declared.RegisterCall.{RegisterCall}
+use Rattle.register.specs.RegisterCall.{RegisterCall}
 use Rattle.register.specs.Step as register
 use Rattle.ram.specs.Step as ram
 use Rattle.plan.specs.Prepared.{Prepared, planFor}

@@ -3,9 +3,11 @@
 use Rattle.history.specs.Demand.{Lists, PushExactly, PushedIff, GetExactly, GotIff, GetHandsOut, PeekExactly, PeekKeeps}
 use Rattle.history.specs.Demand.{HasNextExactly, PushFails, TransmitFails, RequestExactly, TransmitRefused, TransmitDone}
 use Rattle.history.specs.Demand.{RequestFails, OldestGoes, RequestSends, TransmitSends, NeverCaused, AnsweredWhole}
+use Rattle.history.specs.Door.{StartsAtDoor}
 use Rattle.history.specs.Example.{Begins, Sends, SendsNot}
 
 pub record Demand3 : Type 0 where
+  pub startsAtDoor : StartsAtDoor
   pub lists : Lists
   pub pushExactly : PushExactly
   pub pushedIff : PushedIff

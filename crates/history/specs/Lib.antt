@@ -1,4 +1,5 @@
 pub mod Command
+pub mod Door
 pub mod History
 pub mod Lists
 pub mod Demand

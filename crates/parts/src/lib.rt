@@ -1,5 +1,4 @@
-// Parts of bytes: storing some in the middle of others, and comparing.
-ghost use mathlib.Core.Bool.{true};
+// Parts of bytes: storing some in the middle of others.
 ghost use mathlib.Core.List.{_++_};
 ghost use mathlib.Core.Path.{_≡_};
 ghost use Prim.Native.Nat.{_+_, _≤_};
@@ -25,21 +24,4 @@ pub fn put_at(buf: &mut [u8], at: usize, src: &[u8])
 {
     let end = at + src.len();
     copy(src, &mut buf[at..end]);
-}
-
-// Whether both are the same bytes, and as many.
-pub fn same(a: &[u8], b: &[u8]) -> bool
-    ensures { λ r. ⌜ (r ≡ true → now (a .entry) ≡ now (b .entry)) × (now (a .entry) ≡ now (b .entry) → r ≡ true) ⌝ }
-{
-    if a.len() != b.len() {
-        return false;
-    }
-    let mut i = a.len();
-    while 0 < i {
-        i -= 1;
-        if a[i] != b[i] {
-            return false;
-        }
-    }
-    true
 }

@@ -20,15 +20,14 @@ use Rattle.call.specs.declared.Outcome.{Outcome}
 use Rattle.call.specs.Outcome.{ended}
 use Rattle.plan.specs.declared.item.Poll.{Poll}
 use Rattle.plan.specs.declared.item.Item.{Item}
-use Rattle.plan.specs.declared.plan.Slot.{Slot}
-use Rattle.plan.specs.declared.plan.PlanAt.{PlanAt}
-use Rattle.plan.specs.declared.plan.Plan.{Plan}
-use Rattle.plan.specs.declared.plan.Move.{Move}
+use Rattle.plan.specs.PlanAt.{PlanAt}
+use Rattle.plan.specs.Plan.{Plan}
+use Rattle.plan.specs.Move.{Move}
 use Rattle.plan.specs.Change.{modified}
 use Rattle.plan.specs.Item.{addressOf, shown, lateOf, echoWord, isThere}
-use Rattle.plan.specs.Step.{begun, afterPoll, afterEcho, stopped, nextAt, placeFrom, standing, arrivedAt, slots, filled, planOf, movedTo, stepOf, askAt, askOf, outcomeAt, outcomeOf}
+use Rattle.plan.specs.Step.{begun, afterPoll, afterEcho, stopped, nextAt, placeFrom, standing, arrivedAt, filled, planOf, movedTo, stepOf, askAt, askOf, outcomeAt, outcomeOf}
 use Rattle.plan.specs.Prepared.{Prepared, ready, turnedDown, planFor, talkFor, asksFor, modify, verify}
-use Rattle.plan.specs.Talk.{pollTalk, readBack, echoRest, echoTalk, talkAt, itemTalk, planTalk, listed, talkOf, asksOf, allAsks}
+use Rattle.plan.specs.Talk.{pollTalk, readBack, echoRest, echoTalk, talkAt, itemTalk, planTalk, talkOf, asksOf, allAsks}
 
 -- the talk after a move: of the phase, or of the items that are left
 module _ (failed : Refusal) (k : Talk Outcome) where
@@ -98,38 +97,38 @@ idle-talk failed (Item.Poll p n) k e = absurd (false≢true (sym e))
 idle-talk failed Item.Echo k e = absurd (false≢true (sym e))
 idle-talk failed Item.Nothing k e = refl
 
-module _ (failed : Refusal) (items : List Slot) where
+module _ (failed : Refusal) (items : List Item) where
   -- these items, the first of them apart, are there from place i on
-  tail-of : (i : ℕ) (s : Slot) (ss : List Slot) → drop i items ≡ s ∷ ss → drop (i + 1) items ≡ ss
-  tail-of i s ss e = sym (drop-drop 1 i items) ∙ ap (drop 1) e
+  tail-of : (i : ℕ) (x : Item) (xs : List Item) → drop i items ≡ x ∷ xs → drop (i + 1) items ≡ xs
+  tail-of i x xs e = sym (drop-drop 1 i items) ∙ ap (drop 1) e
 
   -- what is said of a place with what comes behind it, and of the items that are left
-  module _ {B : Type 0} (at : Refusal → PlanAt → B → B) (left : Refusal → List Slot → B) (end : (k : B) → at failed PlanAt.Done k ≡ left failed [])
-      (begins : (s : Slot) (ss : List Slot) → isThere (s .item) ≡ true → at failed (begun (s .item)) (left failed ss) ≡ left failed (s ∷ ss))
-      (idles : (s : Slot) (ss : List Slot) → isThere (s .item) ≡ false → left failed ss ≡ left failed (s ∷ ss)) where
+  module _ {B : Type 0} (at : Refusal → PlanAt → B → B) (left : Refusal → List Item → B) (end : (k : B) → at failed PlanAt.Done k ≡ left failed [])
+      (begins : (x : Item) (xs : List Item) → isThere x ≡ true → at failed (begun x) (left failed xs) ≡ left failed (x ∷ xs))
+      (idles : (x : Item) (xs : List Item) → isThere x ≡ false → left failed xs ≡ left failed (x ∷ xs)) where
     abbrev said : Plan → B
     said p = at (p .failed) (p .at) (left (p .failed) (drop (p .next) (p .items)))
 
-    abbrev standing-at : ℕ → List Slot → B
-    standing-at i ss = said (standing failed items i ss)
+    abbrev standing-at : ℕ → List Item → B
+    standing-at i xs = said (standing failed items i xs)
 
-    stands : (i : ℕ) (ss : List Slot) → drop i items ≡ ss → standing-at (placeFrom i ss) (drop (placeFrom i ss) items) ≡ left failed ss
+    stands : (i : ℕ) (xs : List Item) → drop i items ≡ xs → standing-at (placeFrom i xs) (drop (placeFrom i xs) items) ≡ left failed xs
     stands i [] e = ap (standing-at i) e ∙ end _
-    stands i (s ∷ ss) e =
-        by-if (λ j. standing-at j (drop j items) ≡ left failed (s ∷ ss)) (isThere (s .item))
-        (λ h. ap (standing-at i) e ∙ ap (λ l. at failed (begun (s .item)) (left failed l)) (tail-of i s ss e) ∙ begins s ss h)
-        (λ h. stands (i + 1) ss (tail-of i s ss e) ∙ idles s ss h)
+    stands i (x ∷ xs) e =
+        by-if (λ j. standing-at j (drop j items) ≡ left failed (x ∷ xs)) (isThere x)
+        (λ h. ap (standing-at i) e ∙ ap (λ l. at failed (begun x) (left failed l)) (tail-of i x xs e) ∙ begins x xs h)
+        (λ h. stands (i + 1) xs (tail-of i x xs e) ∙ idles x xs h)
 
     pub arrives : (i : ℕ) → said (arrivedAt failed items i) ≡ left failed (drop i items)
     unfolding arrivedAt
     arrives i = stands i (drop i items) refl
 
-  arrive-talk : (i : ℕ) → talkOf (arrivedAt failed items i) ≡ planTalk failed (listed (drop i items))
+  arrive-talk : (i : ℕ) → talkOf (arrivedAt failed items i) ≡ planTalk failed (drop i items)
   unfolding planTalk
   arrive-talk =
-      arrives talkAt (λ r ss. planTalk r (listed ss)) (λ k. refl) (λ s ss h. begun-talk failed (s .item) _ h) (λ s ss h. idle-talk failed (s .item) _ h)
+      arrives talkAt planTalk (λ k. refl) (λ x xs h. begun-talk failed x _ h) (λ x xs h. idle-talk failed x _ h)
 
-moved : (s : Plan) (m : Move) → talkOf (movedTo s m) ≡ moveTalk (s .failed) (planTalk (s .failed) (listed (drop (s .next) (s .items)))) m
+moved : (s : Plan) (m : Move) → talkOf (movedTo s m) ≡ moveTalk (s .failed) (planTalk (s .failed) (drop (s .next) (s .items))) m
 moved s (Move.To at) = refl
 moved s Move.Next = arrive-talk (s .failed) (s .items) (s .next)
 
@@ -148,18 +147,18 @@ outcome-talk s = shows (s .failed) _ (s .at) .1
 
 -- ---- a plan begins with its items
 
-listed-nothing : (failed : Refusal) (n : ℕ) → planTalk failed (listed (replicate n (record { item = Item.Nothing }))) ≡ done Outcome.Done
+nothing-talk : (failed : Refusal) (n : ℕ) → planTalk failed (replicate n Item.Nothing) ≡ done Outcome.Done
 unfolding planTalk
-listed-nothing failed zero = refl
-listed-nothing failed (suc n) = listed-nothing failed n
+nothing-talk failed zero = refl
+nothing-talk failed (suc n) = nothing-talk failed n
 
-listed-slots : (failed : Refusal) (n : ℕ) (items : List Item) → planTalk failed (listed (slots items ++ replicate n (record { item = Item.Nothing }))) ≡ planTalk failed items
+filled-talk : (failed : Refusal) (n : ℕ) (items : List Item) → planTalk failed (items ++ replicate n Item.Nothing) ≡ planTalk failed items
 unfolding planTalk
-listed-slots failed n [] = listed-nothing failed n
-listed-slots failed n (i ∷ is) = ap (itemTalk failed i) (listed-slots failed n is)
+filled-talk failed n [] = nothing-talk failed n
+filled-talk failed n (i ∷ is) = ap (itemTalk failed i) (filled-talk failed n is)
 
 pub start-talk : (failed : Refusal) (items : List Item) → talkOf (planOf failed items) ≡ planTalk failed items
-start-talk failed items = arrive-talk failed (filled items) 0 ∙ listed-slots failed (15 - length items) items
+start-talk failed items = arrive-talk failed (filled items) 0 ∙ filled-talk failed (15 - length items) items
 
 -- ---- how often a plan asks
 

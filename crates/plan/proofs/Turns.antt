@@ -16,13 +16,12 @@ use Rattle.spi.specs.declared.ask.Answer.{Answer}
 use Rattle.spi.specs.Reply.{wordReply, doneReply, waitReply}
 use Rattle.spi.proofs.Talks.{by-word, by-done, still-asks}
 use Rattle.plan.specs.declared.item.Item.{Item}
-use Rattle.plan.specs.declared.plan.Slot.{Slot}
-use Rattle.plan.specs.declared.plan.PlanAt.{PlanAt}
-use Rattle.plan.specs.declared.plan.Plan.{Plan}
-use Rattle.plan.specs.declared.plan.Move.{Move}
+use Rattle.plan.specs.PlanAt.{PlanAt}
+use Rattle.plan.specs.Plan.{Plan}
+use Rattle.plan.specs.Move.{Move}
 use Rattle.plan.specs.Item.{shown, echoWord, isThere}
 use Rattle.plan.specs.Step.{begun, afterPoll, afterEcho, nextAt, arrivedAt, movedTo, stepOf, askAt, askOf}
-use Rattle.plan.specs.Talk.{listed, asksOf, allAsks, itemLeft, planLeft}
+use Rattle.plan.specs.Talk.{asksOf, allAsks, itemLeft, planLeft}
 use Rattle.plan.proofs.Runs.{arrives}
 
 -- ---- the next item has all the turns of the items that are left
@@ -39,9 +38,9 @@ idle-left (Item.Poll p more) n e = absurd (false≢true (sym e))
 idle-left Item.Echo n e = absurd (false≢true (sym e))
 idle-left Item.Nothing n e = omega arith
 
-arrive-left : (failed : Refusal) (items : List Slot) (i : ℕ) → planLeft (arrivedAt failed items i) ≡ allAsks (listed (drop i items))
+arrive-left : (failed : Refusal) (items : List Item) (i : ℕ) → planLeft (arrivedAt failed items i) ≡ allAsks (drop i items)
 arrive-left failed items =
-    arrives failed items (λ r. itemLeft) (λ r ss. allAsks (listed ss)) (λ k. refl) (λ s ss h. begun-left (s .item) _ h) (λ s ss h. idle-left (s .item) _ h)
+    arrives failed items (λ r. itemLeft) (λ r. allAsks) (λ k. refl) (λ x xs h. begun-left x _ h) (λ x xs h. idle-left x _ h)
 
 -- ---- an answer
 
@@ -73,7 +72,7 @@ module _ (n : ℕ) where
   move-left failed PlanAt.Done a rx = omega arith
   move-left failed (PlanAt.Refused r) a rx = omega arith
 
-moved-left : (s : Plan) (m : Move) → planLeft (movedTo s m) ≡ moveLeft (allAsks (listed (drop (s .next) (s .items)))) m
+moved-left : (s : Plan) (m : Move) → planLeft (movedTo s m) ≡ moveLeft (allAsks (drop (s .next) (s .items))) m
 moved-left s (Move.To at) = refl
 moved-left s Move.Next = arrive-left (s .failed) (s .items) (s .next)
 

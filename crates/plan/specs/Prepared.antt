@@ -8,7 +8,7 @@ use Rattle.spi.specs.declared.refusal.Refusal.{Refusal}
 use Rattle.spi.specs.Talk.{Talk, refused}
 use Rattle.call.specs.declared.Outcome.{Outcome}
 use Rattle.plan.specs.declared.item.Item.{Item}
-use Rattle.plan.specs.declared.plan.Plan.{Plan}
+use Rattle.plan.specs.Plan.{Plan}
 use Rattle.plan.specs.Step.{planOf, refusedPlan}
 use Rattle.plan.specs.Talk.{planTalk, allAsks}
 

@@ -14,10 +14,9 @@ use Rattle.call.specs.declared.Outcome.{Outcome}
 use Rattle.plan.specs.declared.change.Change.{Change}
 use Rattle.plan.specs.declared.item.Poll.{Poll}
 use Rattle.plan.specs.declared.item.Item.{Item}
-use Rattle.plan.specs.declared.plan.Slot.{Slot}
-use Rattle.plan.specs.declared.plan.PlanAt.{PlanAt}
-use Rattle.plan.specs.declared.plan.Plan.{Plan}
-use Rattle.plan.specs.declared.plan.Move.{Move}
+use Rattle.plan.specs.PlanAt.{PlanAt}
+use Rattle.plan.specs.Plan.{Plan}
+use Rattle.plan.specs.Move.{Move}
 use Rattle.plan.specs.Change.{modified}
 use Rattle.plan.specs.Item.{addressOf, shown, lateOf, echoWord, isThere}
 
@@ -55,26 +54,22 @@ nextAt failed PlanAt.Done a rx = stopped Refusal.WrongAnswer
 nextAt failed (PlanAt.Refused r) a rx = stopped Refusal.WrongAnswer
 
 -- the place of the first of these items, the first of them at place i, that does anything
-abbrev pub placeFrom : ℕ → List Slot → ℕ
+abbrev pub placeFrom : ℕ → List Item → ℕ
 placeFrom i [] = i
-placeFrom i (s ∷ ss) = if isThere (s .item) then i else placeFrom (i + 1) ss
+placeFrom i (x ∷ xs) = if isThere x then i else placeFrom (i + 1) xs
 
 -- the plan at the item at place i, these items being there from i on
-abbrev pub standing : Refusal → List Slot → ℕ → List Slot → Plan
+abbrev pub standing : Refusal → List Item → ℕ → List Item → Plan
 standing failed items i [] = record { failed = failed; items = items; next = i; at = PlanAt.Done }
-standing failed items i (s ∷ ss) = record { failed = failed; items = items; next = i + 1; at = begun (s .item) }
+standing failed items i (x ∷ xs) = record { failed = failed; items = items; next = i + 1; at = begun x }
 
 -- the plan at the first item from a place on that does anything, or at its end
-unfoldable pub arrivedAt : Refusal → List Slot → ℕ → Plan
+unfoldable pub arrivedAt : Refusal → List Item → ℕ → Plan
 arrivedAt failed items from = let i = placeFrom from (drop from items) in standing failed items i (drop i items)
 
--- items in the array of a plan
-abbrev pub slots : List Item → List Slot
-slots [] = []
-slots (i ∷ is) = record { item = i } ∷ slots is
-
-abbrev pub filled : List Item → List Slot
-filled items = slots items ++ replicate (15 - length items) (record { item = Item.Nothing })
+-- the fifteen items of a plan: these, and nothing behind them
+abbrev pub filled : List Item → List Item
+filled items = items ++ replicate (15 - length items) Item.Nothing
 
 -- a plan at its beginning
 abbrev pub planOf : Refusal → List Item → Plan

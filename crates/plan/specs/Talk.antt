@@ -11,9 +11,8 @@ use Rattle.call.specs.declared.Outcome.{Outcome}
 use Rattle.plan.specs.declared.change.Change.{Change}
 use Rattle.plan.specs.declared.item.Poll.{Poll}
 use Rattle.plan.specs.declared.item.Item.{Item}
-use Rattle.plan.specs.declared.plan.Slot.{Slot}
-use Rattle.plan.specs.declared.plan.PlanAt.{PlanAt}
-use Rattle.plan.specs.declared.plan.Plan.{Plan}
+use Rattle.plan.specs.PlanAt.{PlanAt}
+use Rattle.plan.specs.Plan.{Plan}
 use Rattle.plan.specs.Change.{modified}
 use Rattle.plan.specs.Item.{addressOf, shown, lateOf, echoWord}
 
@@ -61,14 +60,9 @@ unfoldable pub planTalk : Refusal → List Item → Talk Outcome
 planTalk failed [] = done Outcome.Done
 planTalk failed (item ∷ items) = itemTalk failed item (planTalk failed items)
 
--- the items in the array of a plan
-abbrev pub listed : List Slot → List Item
-listed [] = []
-listed (s ∷ ss) = s .item ∷ listed ss
-
 -- the rest of a plan
 abbrev pub talkOf : Plan → Talk Outcome
-talkOf s = talkAt (s .failed) (s .at) (planTalk (s .failed) (listed (drop (s .next) (s .items))))
+talkOf s = talkAt (s .failed) (s .at) (planTalk (s .failed) (drop (s .next) (s .items)))
 
 -- how often an item, and all of them, ask
 abbrev pub asksOf : Item → ℕ
@@ -93,4 +87,4 @@ itemLeft PlanAt.Done behind = 0
 itemLeft (PlanAt.Refused r) behind = 0
 
 abbrev pub planLeft : Plan → ℕ
-planLeft s = itemLeft (s .at) (allAsks (listed (drop (s .next) (s .items))))
+planLeft s = itemLeft (s .at) (allAsks (drop (s .next) (s .items)))

@@ -1,7 +1,6 @@
 // What modify, request and every mode, configuration and short echo call do: a list of items, carried out one after the other.
 mod change;
 mod item;
-mod plan;
 
 pub use change::Change;
 pub use change::keeping;
@@ -12,7 +11,3 @@ pub use item::echo_word;
 pub use item::is_shown;
 pub use item::is_there;
 pub use item::late;
-pub use plan::Move;
-pub use plan::Plan;
-pub use plan::PlanAt;
-pub use plan::Slot;

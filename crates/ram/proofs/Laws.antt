@@ -13,7 +13,7 @@ use Rattle.laws.proofs.Table.{both}
 use Rattle.words.specs.Words.{beBytes}
 use Rattle.spi.specs.Instruction.{commandOf}
 use Rattle.spi.specs.Ask.{sent}
-use Rattle.ram.specs.declared.RamCall.{RamCall}
+use Rattle.ram.specs.RamCall.{RamCall}
 use Rattle.ram.specs.Echo.{bitWords, echoBytes, same}
 use Rattle.ram.specs.Step.{askOf}
 use Rattle.ram.proofs.Pattern.{length-words}

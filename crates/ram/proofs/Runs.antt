@@ -16,7 +16,7 @@ use Rattle.spi.specs.Talk.{Talk, done, refused, onDone, asks, answered, run, Wi
 use Rattle.spi.proofs.Talks.{if-ap, on-done, runs, done-within, if-within}
 use Rattle.call.specs.declared.Outcome.{Outcome}
 use Rattle.call.specs.Outcome.{ended}
-use Rattle.ram.specs.declared.RamCall.{RamCall}
+use Rattle.ram.specs.RamCall.{RamCall}
 use Rattle.ram.specs.Echo.{echoBytes, same}
 use Rattle.ram.specs.Step.{inside, readStart, writeStart, afterEcho, stepOf, askOf, outcomeOf, filledPart, filledBy}
 use Rattle.ram.specs.Talk.{readTalk, writeTalk, echoTalk, readRamTalk, writeRamTalk, verifyLongTalk, echoed, talkOf}

@@ -2,7 +2,7 @@
 -- Assumes nothing.
 use Prim.Native.Nat.{ℕ}
 use Rattle.spi.specs.declared.refusal.Refusal.{Refusal}
-use Rattle.ram.specs.declared.RamCall.{RamCall}
+use Rattle.ram.specs.RamCall.{RamCall}
 use Rattle.ram.specs.declared.RamStage.{RamStage}
 use Rattle.ram.specs.declared.RamNumbers.{RamNumbers}
 

@@ -14,7 +14,7 @@ use Rattle.spi.specs.declared.refusal.Refusal.{Refusal}
 use Rattle.spi.specs.declared.ask.Ask.{Ask}
 use Rattle.spi.specs.declared.ask.Answer.{Answer}
 use Rattle.call.specs.declared.Outcome.{Outcome}
-use Rattle.ram.specs.declared.RamCall.{RamCall}
+use Rattle.ram.specs.RamCall.{RamCall}
 use Rattle.ram.specs.Echo.{echoBytes, same}
 
 -- ---- starts

@@ -7,7 +7,7 @@ use Rattle.spi.specs.Ram.{accessOf}
 use Rattle.spi.specs.Talk.{Talk, done, refused, onDone, readBytes, writeBody}
 use Rattle.spi.specs.declared.refusal.Refusal.{Refusal}
 use Rattle.call.specs.declared.Outcome.{Outcome}
-use Rattle.ram.specs.declared.RamCall.{RamCall}
+use Rattle.ram.specs.RamCall.{RamCall}
 use Rattle.ram.specs.Echo.{echoBytes, same}
 use Rattle.ram.specs.Step.{inside}
 

@@ -8,7 +8,7 @@ ghost use Rattle.spi.specs.declared.refusal.Refusal.{Refusal};
 ghost use Rattle.ram.specs.Echo.{echoBytes, same};
 ghost use Rattle.ram.specs.Numbers.{atStage, ramOf};
 ghost use Rattle.ram.specs.Step.{inside, readStart, writeStart, afterEcho, stepOf, askOf, outcomeOf, filledPart, filledBy, finishedPart, finishedAs};
-ghost use Rattle.ram.specs.declared.RamCall.{RamCall};
+ghost use Rattle.ram.specs.RamCall.{RamCall};
 use call::Outcome;
 use spi::Answer;
 use spi::Ask;
@@ -19,20 +19,6 @@ use spi::Refusal;
 const ECHO_ADDRESS: u16 = 0x400;
 
 const ECHO_LEN: usize = 128;
-
-// Where a call stands, of which the definitions speak.
-pub enum RamCall {
-    // The address, the place in the lent buffer, how many bytes.
-    Read(u16, usize, usize),
-    // A read is done: the place that the received bytes go to, and how many they are.
-    Received(usize, usize),
-    // The address, how many bytes.
-    Write(u16, usize),
-    EchoWrite,
-    EchoRead,
-    Done,
-    Refused(Refusal),
-}
 
 pub enum RamStage {
     Read,

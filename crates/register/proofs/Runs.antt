@@ -15,7 +15,7 @@ use Rattle.spi.specs.Talk.{Talk, done, refused, asks, answered, run, Within, Fo
 use Rattle.spi.proofs.Talks.{if-ap, on-word, on-done, on-checked, runs, word-within, done-within, checked-within, if-within}
 use Rattle.call.specs.declared.Outcome.{Outcome}
 use Rattle.call.specs.Outcome.{ended}
-use Rattle.register.specs.declared.RegisterCall.{RegisterCall}
+use Rattle.register.specs.RegisterCall.{RegisterCall}
 use Rattle.register.specs.Step.{addressed, readStart, writeStart, checkedStart, afterMismatch, stepOf, askOf, outcomeOf}
 use Rattle.register.specs.Talk.{resetTalk, readTalk, writeTalk, checkedTalk, opModeTalk, atAddress, readCall, writeCall, checkedCall, talkOf}
 

@@ -2,7 +2,7 @@
 -- Assumes nothing.
 use Prim.Native.Nat.{ℕ}
 use Rattle.spi.specs.declared.refusal.Refusal.{Refusal}
-use Rattle.register.specs.declared.RegisterCall.{RegisterCall}
+use Rattle.register.specs.RegisterCall.{RegisterCall}
 use Rattle.register.specs.declared.RegisterStage.{RegisterStage}
 use Rattle.register.specs.declared.RegisterNumbers.{RegisterNumbers}
 

@@ -8,7 +8,7 @@ use Rattle.configuration.specs.CanControl.{CiCON, OPMOD}
 use Rattle.spi.specs.Talk.{Talk, done, refused, readWord, readChecked, writeWord, resetChip}
 use Rattle.spi.specs.declared.refusal.Refusal.{Refusal}
 use Rattle.call.specs.declared.Outcome.{Outcome}
-use Rattle.register.specs.declared.RegisterCall.{RegisterCall}
+use Rattle.register.specs.RegisterCall.{RegisterCall}
 
 -- the bytes 00 00; failed: 2
 abbrev pub resetTalk : Talk Outcome

@@ -4,7 +4,7 @@ ghost use Rattle.spi.specs.Talk.{onDone, onWord, onChecked};
 ghost use Rattle.spi.specs.declared.refusal.Refusal.{Refusal};
 ghost use Rattle.register.specs.Numbers.{atStage, registerOf};
 ghost use Rattle.register.specs.Step.{addressed, afterMismatch, afterMode, stepOf, askOf, outcomeOf, readStart, writeStart, checkedStart};
-ghost use Rattle.register.specs.declared.RegisterCall.{RegisterCall};
+ghost use Rattle.register.specs.RegisterCall.{RegisterCall};
 use call::Outcome;
 use configuration::CanControl;
 use spi::Answer;
@@ -13,20 +13,6 @@ use spi::CheckedWord;
 use spi::Done;
 use spi::OneWord;
 use spi::Refusal;
-
-// Where a call stands, of which the definitions speak.
-pub enum RegisterCall {
-    Reset,
-    Read(u16),
-    Write(u16, u32),
-    // How many mismatches more are followed by another try.
-    Checked(u16, u8),
-    Mode,
-    Done,
-    Word(u32),
-    OpMode(u32),
-    Refused(Refusal),
-}
 
 pub enum RegisterStage {
     Reset,

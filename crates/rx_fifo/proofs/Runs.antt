@@ -27,8 +27,8 @@ use Rattle.spi.proofs.Talks.{if-ap, on-word, on-pair, on-done, runs}
 use Rattle.call.specs.declared.Found.{Found}
 use Rattle.call.specs.Outcome.{ended}
 use Rattle.fetch.specs.declared.Want.{Want}
-use Rattle.rx_fifo.specs.declared.Fetch.{Fetch}
-use Rattle.fetch.specs.declared.FetchAt.{FetchAt}
+use Rattle.rx_fifo.specs.Fetch.{Fetch}
+use Rattle.fetch.specs.FetchAt.{FetchAt}
 use Rattle.rx_fifo.specs.Step.{heldOf, heldAt, stepOf, askFrom, askOf, firstAt, lentAt, hasNextStart, lentStart}
 use Rattle.fetch.specs.Step.{afterControl, afterStatus, byStatus, afterAddress, afterHeader, byLength, toTime, toBody, afterAgain, afterTime, stamped, afterBody, nextAt}
 use Rattle.rx_fifo.specs.Outcome.{messageOf, outcomeAt, outcomeOf, sizeAt, filled, filledBy}

@@ -1,5 +1,6 @@
-pub mod Step
-pub mod Outcome
-pub mod Numbers
-pub mod Talk
+pub mod Fetch
 pub mod Laws
+pub mod Numbers
+pub mod Outcome
+pub mod Step
+pub mod Talk

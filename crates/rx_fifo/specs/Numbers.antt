@@ -7,7 +7,7 @@ use lib.ListN.{length, take}
 use Rattle.call.specs.declared.Outcome.{Outcome}
 use Rattle.fetch.specs.declared.FetchNumbers.{FetchNumbers}
 use Rattle.fetch.specs.Numbers.{fetchAt}
-use Rattle.rx_fifo.specs.declared.Fetch.{Fetch}
+use Rattle.rx_fifo.specs.Fetch.{Fetch}
 use Rattle.rx_fifo.specs.Outcome.{outcomeOf}
 
 -- the payload is held in the first 64 bytes of the body

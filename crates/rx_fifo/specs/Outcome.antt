@@ -11,8 +11,8 @@ use Rattle.message.specs.Message.{Message}
 use Rattle.spi.specs.declared.refusal.Refusal.{Refusal}
 use Rattle.call.specs.declared.Found.{Found}
 use Rattle.call.specs.declared.Outcome.{Outcome}
-use Rattle.rx_fifo.specs.declared.Fetch.{Fetch}
-use Rattle.fetch.specs.declared.FetchAt.{FetchAt}
+use Rattle.rx_fifo.specs.Fetch.{Fetch}
+use Rattle.fetch.specs.FetchAt.{FetchAt}
 
 -- the message with the payload's bytes at the front of bs; no payload is longer than 64 bytes
 unfoldable pub messageOf : Found → List ℕ → Message

@@ -16,8 +16,8 @@ use Rattle.spi.specs.declared.refusal.Refusal.{Refusal}
 use Rattle.spi.specs.declared.ask.Ask.{Ask}
 use Rattle.spi.specs.declared.ask.Answer.{Answer}
 use Rattle.fetch.specs.declared.Want.{Want}
-use Rattle.rx_fifo.specs.declared.Fetch.{Fetch}
-use Rattle.fetch.specs.declared.FetchAt.{FetchAt}
+use Rattle.rx_fifo.specs.Fetch.{Fetch}
+use Rattle.fetch.specs.FetchAt.{FetchAt}
 use Rattle.fetch.specs.Step.{nextAt}
 
 -- ---- a step

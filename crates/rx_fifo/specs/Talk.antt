@@ -24,8 +24,8 @@ use Rattle.spi.specs.Talk.{Talk, done, refused, ask, readWord, readPair, readBy
 use Rattle.call.specs.declared.Found.{Found}
 use Rattle.call.specs.declared.Outcome.{Outcome}
 use Rattle.fetch.specs.declared.Want.{Want}
-use Rattle.rx_fifo.specs.declared.Fetch.{Fetch}
-use Rattle.fetch.specs.declared.FetchAt.{FetchAt}
+use Rattle.rx_fifo.specs.Fetch.{Fetch}
+use Rattle.fetch.specs.FetchAt.{FetchAt}
 use Rattle.fetch.specs.Step.{stamped}
 use Rattle.rx_fifo.specs.Outcome.{messageOf, foundOf, toldOf}
 

@@ -14,7 +14,6 @@ ghost use Rattle.rx_fifo.specs.Outcome.{filledBy, finishedAs};
 ghost use Rattle.rx_fifo.specs.Numbers.{fetchOf, FetchEnds};
 use call::Found;
 use call::Outcome;
-use fetch::FetchAt;
 use fetch::FetchNumbers;
 use fetch::FetchStage;
 use fetch::Want;
@@ -27,14 +26,6 @@ use spi::Ask;
 use spi::Refusal;
 
 mod held;
-
-// The payload is held here until the call is done: a get may still be refused after it has read it.
-pub struct Fetch {
-    pub fifo: u8,
-    pub want: Want,
-    pub held: [u8; 64],
-    pub at: FetchAt,
-}
 
 pub fn has_next_start(fifo: u8, body: &mut [u8; 76]) -> FetchNumbers
     ensures { λ r. ⌜ fetchOf r (now (body .exit)) ≡ hasNextStart fifo ⌝ }
@@ -163,15 +154,8 @@ pub fn fetch_outcome(c: FetchNumbers) -> Outcome
     }
 }
 
-// The payload of a call that is done with a message goes to the front of the lent buffer; no other byte is changed, and none
-// where the call is not done with a message or the buffer is too small.
-pub fn fetch_fill(c: FetchNumbers, body: &[u8; 76], buf: &mut [u8])
-    ensures { λ _. ⌜ now (buf .exit) ≡ filledBy (fetchOf c (now (body .entry))) (now (buf .entry)) ⌝ }
-{
-    held::fill(c, body, buf);
-}
-
-// How the call ended, with the lent buffer filled; 28 where that is too small for a message.
+// How the call ended. The payload of one that is done with a message goes to the front of the lent buffer, or 28 where that is too
+// small; no other byte is changed.
 pub fn fetch_finish(c: FetchNumbers, body: &[u8; 76], buf: &mut [u8]) -> Outcome
     ensures { λ r. ⌜ (r ≡ finishedAs (fetchOf c (now (body .entry))) (length (now (buf .entry)))) × (now (buf .exit) ≡ filledBy (fetchOf c (now (body .entry))) (now (buf .entry))) ⌝ }
 {

@@ -9,30 +9,21 @@ use Rattle.laws.specs.If.{if_then_else_}
 use Rattle.parts.specs.Parts.{put}
 use Rattle.spi.specs.declared.ask.Ask.{Ask}
 use Rattle.spi.specs.Ask.{headOf, bodyOf as bodyCount, wanted, sent}
-use Rattle.send.specs.declared.Sent.{Sent}
 use Rattle.send.specs.declared.next.Next.{Next}
 
 -- the body has the bytes that are asked for, and the buffer room for all that are sent
 abbrev pub whole : Ask → (body tx : List ℕ) → Bool
 whole q body tx = leb (bodyCount q) (length body) && leb (length (headOf q) + bodyCount q) (length tx)
 
--- how many bytes are put, and the buffer with them at its front
-unfoldable pub sentAs : Ask → (body tx : List ℕ) → Sent
-sentAs q body tx = if whole q body tx then Sent.Bytes (length (headOf q) + bodyCount q) else Sent.Short
-
+-- the buffer with them at its front
 unfoldable pub putInto : Ask → (body tx : List ℕ) → List ℕ
 putInto q body tx = if whole q body tx then put tx 0 (sent q body) else tx
 
 -- ---- what the caller's loop does now
 
--- so many bytes were put, and so many are wanted
-abbrev pub sentNext : Sent → ℕ → Next
-sentNext (Sent.Bytes n) want = Next.Transfer n want
-sentNext Sent.Short want = Next.Short
-
--- the exchange of an ask
-abbrev pub transferOf : Ask → (body tx : List ℕ) → Next
-transferOf q body tx = sentNext (sentAs q body tx) (wanted q)
+-- the exchange of an ask: how many bytes are put, and how many wanted
+unfoldable pub transferOf : Ask → (body tx : List ℕ) → Next
+transferOf q body tx = if whole q body tx then Next.Transfer (length (headOf q) + bodyCount q) (wanted q) else Next.Short
 
 -- what is to be done for an ask
 abbrev pub nextOf : Ask → (body tx : List ℕ) → Next

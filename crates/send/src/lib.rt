@@ -6,19 +6,13 @@ ghost use Rattle.laws.specs.If.{if_then_else_};
 ghost use Rattle.parts.specs.Parts.{put};
 ghost use Rattle.spi.specs.declared.ask.Ask.{Ask};
 ghost use Rattle.send.specs.declared.next.Next.the-variants.{Transfer, Short};
-ghost use Rattle.send.specs.Send.{sentAs, putInto, transferOf, nextOf};
+ghost use Rattle.send.specs.Send.{putInto, transferOf, nextOf};
 use spi::Ask;
 use spi::OpCode;
 
 mod next;
 
 pub use next::Next;
-
-// How many bytes were put at the front of the buffer, or that it, or what was lent, is too short: then no byte was put.
-pub enum Sent {
-    Bytes(usize),
-    Short,
-}
 
 // A head that no body follows; `want` bytes are received.
 fn put_head(head: &[u8], want: usize, tx: &mut [u8]) -> Next
@@ -64,18 +58,5 @@ pub fn put_next(q: Ask, body: &[u8], tx: &mut [u8]) -> Next
         Ask::Reset => put_head(&spi::command(OpCode::Reset, 0), 0, tx),
         Ask::Wait => Next::Wait,
         Ask::Nothing => Next::Over,
-    }
-}
-
-// The same as a number of bytes: none where nothing is sent.
-pub fn send_with(q: Ask, body: &[u8], tx: &mut [u8]) -> Sent
-    ensures { λ r. ⌜ (r ≡ sentAs q (now (body .entry)) (now (tx .entry))) × (now (tx .exit) ≡ putInto q (now (body .entry)) (now (tx .entry))) ⌝ }
-{
-    let next = put_next(q, body, tx);
-    match next {
-        Next::Transfer { n, want: _ } => Sent::Bytes(n),
-        Next::Wait => Sent::Bytes(0),
-        Next::Over => Sent::Bytes(0),
-        Next::Short => Sent::Short,
     }
 }

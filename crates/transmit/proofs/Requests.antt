@@ -11,14 +11,13 @@ use Rattle.fifo.specs.Control.{isFifo}
 use Rattle.spi.specs.declared.refusal.Refusal.{Refusal}
 use Rattle.plan.specs.Step.{arrivedAt, filled}
 use Rattle.plan.specs.declared.item.Item.{Item}
-use Rattle.plan.specs.declared.plan.PlanAt.{PlanAt}
+use Rattle.plan.specs.PlanAt.{PlanAt}
 use Rattle.tx_fifo.specs.Step.{doneAt, isDone}
 use Rattle.tx_fifo.specs.Numbers.{pushAt, pushOf}
-use Rattle.tx_fifo.specs.declared.push.Push.{Push}
-use Rattle.tx_fifo.specs.declared.push.PushAt.{PushAt}
+use Rattle.tx_fifo.specs.Push.{Push}
+use Rattle.tx_fifo.specs.PushAt.{PushAt}
 use Rattle.tx_fifo.specs.declared.push.PushNumbers.{PushNumbers}
-use Rattle.transmit.specs.declared.transmit.Transmit.{Transmit}
-use Rattle.transmit.specs.Transmit.{requestStart}
+use Rattle.transmit.specs.Transmit.{Transmit, requestStart}
 use Rattle.transmit.specs.Numbers.{requestItems}
 
 -- a push and the request as it starts

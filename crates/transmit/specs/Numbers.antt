@@ -10,16 +10,15 @@ use Rattle.spi.specs.declared.refusal.Refusal.{Refusal}
 use Rattle.spi.specs.declared.ask.Answer.{Answer}
 use Rattle.plan.specs.Step.{filled, stepOf}
 use Rattle.plan.specs.declared.item.Item.{Item}
-use Rattle.plan.specs.declared.plan.Plan.{Plan}
-use Rattle.plan.specs.declared.plan.PlanAt.{PlanAt}
-use Rattle.tx_fifo.specs.declared.push.PushAt.{PushAt}
+use Rattle.plan.specs.Plan.{Plan}
+use Rattle.plan.specs.PlanAt.{PlanAt}
+use Rattle.tx_fifo.specs.PushAt.{PushAt}
 use Rattle.tx_fifo.specs.declared.push.PushNumbers.{PushNumbers}
 use Rattle.tx_fifo.specs.Step.{isDone}
 use Rattle.tx_fifo.specs.Numbers.{standing, pushOf}
-use Rattle.transmit.specs.declared.transmit.Transmit.{Transmit}
+use Rattle.transmit.specs.Transmit.{Transmit, requestChange, requestStart, transmitStep}
 use Rattle.transmit.specs.declared.transmit.RequestStage.{RequestStage}
 use Rattle.transmit.specs.declared.transmit.TransmitNumbers.{TransmitNumbers}
-use Rattle.transmit.specs.Transmit.{requestChange, requestStart, transmitStep}
 
 -- ---- the request, once the push is done
 

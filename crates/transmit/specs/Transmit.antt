@@ -16,8 +16,8 @@ use Rattle.plan.specs.Step.{planOf, refusedPlan, stepOf as planStep, askOf as p
 use Rattle.plan.specs.Talk.{changeTalk, talkOf as planTalkOf}
 use Rattle.plan.specs.declared.change.Change.{Change}
 use Rattle.plan.specs.declared.item.Item.{Item}
-use Rattle.plan.specs.declared.plan.Plan.{Plan}
-use Rattle.transmit.specs.declared.transmit.Transmit.{Transmit}
+use Rattle.plan.specs.Plan.{Plan}
+use Rattle.tx_fifo.specs.Push.{Push}
 use Rattle.tx_fifo.specs.Step.{startOf, stepOf, askOf, outcomeOf, isDone}
 use Rattle.tx_fifo.specs.Talk.{pushCall, talkOf}
 
@@ -33,6 +33,11 @@ requestStart fifo =
     if isFifo fifo then planOf Refusal.SpiRead (Item.Change (requestChange fifo) ∷ []) else refusedPlan Refusal.BadNumber
 
 -- ---- transmit, step by step: the push until it is done, then the request
+
+-- both calls from the start; the request is not looked at before the push is done. Where it is refused then, the message was accepted
+pub record Transmit : Type 0 where
+  pub push : Push
+  pub request : Plan
 
 unfoldable pub transmitStart : ℕ → Header → ℕ → List ℕ → Transmit
 transmitStart fifo header seq payload = record { push = startOf fifo header seq payload; request = requestStart fifo }

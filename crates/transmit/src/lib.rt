@@ -2,7 +2,6 @@
 mod transmit;
 
 pub use transmit::RequestStage;
-pub use transmit::Transmit;
 pub use transmit::TransmitNumbers;
 pub use transmit::accepted;
 pub use transmit::transmit_ask;

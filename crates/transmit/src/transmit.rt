@@ -12,7 +12,6 @@ use call::Outcome;
 use fifo::FifoControl;
 use fifo::is_fifo;
 use header::Header;
-use plan::Plan;
 use spi::Answer;
 use spi::Ask;
 use spi::Done;
@@ -20,7 +19,6 @@ use spi::OneWord;
 use spi::Refusal;
 use spi::done_reply;
 use spi::word_reply;
-use tx_fifo::Push;
 use tx_fifo::PushNumbers;
 use tx_fifo::PushStage;
 use tx_fifo::push_ask;
@@ -28,13 +26,6 @@ use tx_fifo::push_done;
 use tx_fifo::push_outcome;
 use tx_fifo::push_start;
 use tx_fifo::push_step;
-
-// Both calls from the start; the request is not looked at before the push is done. Where it is refused then, the message was
-// accepted. The call's body is that of the push.
-pub struct Transmit {
-    pub push: Push,
-    pub request: Plan,
-}
 
 // What the request waits for: control as read, the answer to its write. `Late`: an answer came when it was done.
 pub enum RequestStage {

@@ -27,8 +27,8 @@ use Rattle.spi.specs.declared.instruction.OpCode.{OpCode}
 use Rattle.spi.proofs.Talks.{on-word, on-done, runs, word-within, done-within, if-within}
 use Rattle.call.specs.Outcome.{ended}
 use Rattle.call.specs.declared.Outcome.{Outcome}
-use Rattle.tx_fifo.specs.declared.push.Push.{Push}
-use Rattle.tx_fifo.specs.declared.push.PushAt.{PushAt}
+use Rattle.tx_fifo.specs.Push.{Push}
+use Rattle.tx_fifo.specs.PushAt.{PushAt}
 use Rattle.tx_fifo.specs.Step.{toSend, encodingFor, begun, startOf, afterControl, afterStatus, afterAddress, nextAt, stepOf, askAt, askOf, outcomeAt, outcomeOf, doneAt, isDone}
 use Rattle.tx_fifo.specs.Talk.{commitTalk, writeTalk, addressTalk, statusTalk, pushTalk, withEncoding, pushCall, talkAt, talkOf}
 

@@ -4,8 +4,8 @@ use Prim.Native.Nat.{ℕ}
 use mathlib.Core.Path.{_≡_}
 use mathlib.Core.List.{List}
 use Rattle.spi.specs.declared.ask.Answer.{Answer}
-use Rattle.tx_fifo.specs.declared.push.Push.{Push}
-use Rattle.tx_fifo.specs.declared.push.PushAt.{PushAt}
+use Rattle.tx_fifo.specs.Push.{Push}
+use Rattle.tx_fifo.specs.PushAt.{PushAt}
 use Rattle.tx_fifo.specs.declared.push.PushStage.{PushStage}
 use Rattle.tx_fifo.specs.declared.push.PushNumbers.{PushNumbers}
 use Rattle.tx_fifo.specs.Step.{stepOf}

@@ -23,8 +23,8 @@ use Rattle.spi.specs.declared.refusal.Done.{Done}
 use Rattle.spi.specs.declared.ask.Ask.{Ask}
 use Rattle.spi.specs.declared.ask.Answer.{Answer}
 use Rattle.call.specs.declared.Outcome.{Outcome}
-use Rattle.tx_fifo.specs.declared.push.Push.{Push}
-use Rattle.tx_fifo.specs.declared.push.PushAt.{PushAt}
+use Rattle.tx_fifo.specs.Push.{Push}
+use Rattle.tx_fifo.specs.PushAt.{PushAt}
 
 -- ---- the start
 

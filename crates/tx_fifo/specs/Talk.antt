@@ -16,8 +16,8 @@ use Rattle.spi.specs.Ram.{inRange}
 use Rattle.spi.specs.Talk.{Talk, done, refused, readWord, writeWord, writeBody}
 use Rattle.spi.specs.declared.refusal.Refusal.{Refusal}
 use Rattle.call.specs.declared.Outcome.{Outcome}
-use Rattle.tx_fifo.specs.declared.push.Push.{Push}
-use Rattle.tx_fifo.specs.declared.push.PushAt.{PushAt}
+use Rattle.tx_fifo.specs.Push.{Push}
+use Rattle.tx_fifo.specs.PushAt.{PushAt}
 use Rattle.tx_fifo.specs.Step.{toSend}
 
 -- control as first read is written with UINC

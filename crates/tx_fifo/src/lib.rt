@@ -1,8 +1,6 @@
 // The call by which a FIFO that sends is given a message.
 mod push;
 
-pub use push::Push;
-pub use push::PushAt;
 pub use push::PushNumbers;
 pub use push::PushStage;
 pub use push::push_ask;

@@ -4,7 +4,7 @@ ghost use mathlib.Core.Path.{_≡_};
 ghost use mathlib.Core.List.{[]};
 ghost use Rattle.message.specs.Structs.{encodedAs, encodedIn};
 ghost use Rattle.spi.specs.Talk.{onWord};
-ghost use Rattle.tx_fifo.specs.declared.push.PushAt.{PushAt};
+ghost use Rattle.tx_fifo.specs.PushAt.{PushAt};
 ghost use Rattle.tx_fifo.specs.Step.{encodingFor, startOf, afterControl, afterStatus, afterAddress, askOf, outcomeOf, isDone};
 ghost use Rattle.tx_fifo.specs.Numbers.{pushOf, PushMoves, PushSteps};
 use call::Outcome;
@@ -13,7 +13,6 @@ use fifo::FifoStatus;
 use fifo::UserAddress;
 use fifo::is_fifo;
 use header::Header;
-use message::Object;
 use message::Stamp;
 use message::Written;
 use message::clear;
@@ -27,27 +26,7 @@ use spi::done_reply;
 use spi::in_range;
 use spi::word_reply;
 
-// What the call waits for: the answer to one of its five exchanges, in their order. The first number is the control word as
-// first read, the second the RAM address.
-pub enum PushAt {
-    Control,
-    Status(u32),
-    Address(u32),
-    Write(u32, u16),
-    Commit(u32),
-    Done,
-    Refused(Refusal),
-}
-
-// `size` is the payload's length. The object's bytes are the call's body.
-pub struct Push {
-    pub fifo: u8,
-    pub size: usize,
-    pub object: Object,
-    pub at: PushAt,
-}
-
-// What the call waits for, as the code has it: what was read stands beside it.
+// What the call waits for: the answer to one of its five exchanges, in their order; what was read stands beside it.
 pub enum PushStage {
     Control,
     Status,
