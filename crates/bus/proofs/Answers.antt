@@ -16,10 +16,9 @@ use Rattle.spi.specs.declared.refusal.Done.{Done}
 use Rattle.message.specs.declared.object.Stamp.{Stamp}
 use Rattle.message.specs.declared.rx.Reading.{Reading}
 use Rattle.message.specs.declared.rx.Decoded.{Decoded}
-use Rattle.message.specs.declared.tx.Encoded.{Encoded}
 use Rattle.message.specs.Object.{stampBytes}
 use Rattle.message.specs.Message.{Message, Encoding, refused, object, encoding, Decoding, holds, bad, short}
-use Rattle.message.specs.Structs.{encodedAs, decodedAs}
+use Rattle.message.specs.Structs.{Encoded, encodedAs, decodedAs}
 use Rattle.message.proofs.rx.Reading.{the-type}
 use Rattle.message.proofs.Round.{object-le}
 use Rattle.state.specs.declared.Model.{Model}

@@ -102,14 +102,11 @@ pub fn deliver(m: Model, n: u32, header: Header, time: u32, payload: &[u8]) -> D
         return told(Delivery::Refused(Refusal::BadNumber), m);
     }
     let n = n as u8;
-    let e = message::encode(header, 0, stamp_of(m, n, time), payload);
+    let mut object = [0u8; 76];
+    let e = message::encode(header, 0, stamp_of(m, n, time), payload, &mut object);
     let done = e.done;
     match done {
-        Done::Good => {
-            let bytes = e.object.bytes;
-            let len = e.object.len;
-            appended(m, n, payload.len(), &bytes[..len])
-        }
+        Done::Good => appended(m, n, payload.len(), &object[..e.len]),
         Done::Bad(r) => told(Delivery::Refused(r), m),
     }
 }

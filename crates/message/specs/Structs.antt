@@ -1,21 +1,28 @@
 -- Messages in the code's structs: bytes at the front of arrays that are 0 behind.
 -- Assumes nothing.
 use Prim.Native.Nat.{ℕ}
-use mathlib.Core.Path.{_≡_}
 use mathlib.Core.Bool.{false}
-use mathlib.Core.List.{List, [], _++_}
+use mathlib.Core.List.{List, []}
 use lib.ListN.{length}
 use Rattle.parts.specs.Parts.{zeroed}
 use Rattle.spi.specs.declared.refusal.Done.{Done}
 use Rattle.message.specs.declared.object.Stamp.{Stamp}
-use Rattle.message.specs.declared.object.Object.{Object}
 use Rattle.message.specs.declared.rx.Payload.{Payload}
 use Rattle.message.specs.declared.rx.Frame.{Frame}
 use Rattle.message.specs.declared.rx.Reading.{Reading}
 use Rattle.message.specs.declared.rx.Decoded.{Decoded}
-use Rattle.message.specs.declared.tx.Encoded.{Encoded}
 use Rattle.message.specs.declared.tx.Written.{Written}
 use Rattle.message.specs.Message.{Message, Encoding, refused, object, Decoding, holds, bad, short}
+
+-- an object's bytes, the first `len` of an array
+pub record Object : Type 0 where
+  pub bytes : List ℕ
+  pub len : ℕ
+
+-- an object, or why there is none
+pub record Encoded : Type 0 where
+  pub done : Done
+  pub object : Object
 
 -- bytes in an object's array
 abbrev pub objectIn : List ℕ → Object
@@ -49,7 +56,3 @@ abbrev pub decodedAs : Decoding → Decoded
 decodedAs (holds m) = record { reading = Reading.Whole; frame = frameOf m }
 decodedAs (bad r) = record { reading = Reading.Bad r; frame = frameOf blank }
 decodedAs short = record { reading = Reading.Short; frame = frameOf blank }
-
--- r has the bytes of o, and behind them bs: what the functions that put an object together promise each other
-abbrev pub Appends : Object → Object → List ℕ → Type 0
-Appends o r bs = (front : List ℕ) → o ≡ objectIn front → r ≡ objectIn (front ++ bs)

@@ -3,7 +3,6 @@ mod object;
 mod rx;
 mod tx;
 
-pub use object::Object;
 pub use object::Stamp;
 pub use object::clear;
 pub use rx::Decoded;
@@ -11,7 +10,5 @@ pub use rx::Frame;
 pub use rx::Payload;
 pub use rx::Reading;
 pub use rx::decode;
-pub use tx::Encoded;
 pub use tx::Written;
 pub use tx::encode;
-pub use tx::encode_into;

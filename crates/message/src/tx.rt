@@ -3,7 +3,6 @@ ghost use mathlib.Core.Path.{_≡_};
 ghost use Rattle.header.specs.Header.{topId};
 ghost use Rattle.message.specs.Message.{checkOf, encoding};
 ghost use Rattle.message.specs.Structs.{encodedAs, encodedIn};
-use crate::Object;
 use crate::Stamp;
 use crate::object;
 use header::Dlc;
@@ -19,13 +18,7 @@ pub enum Checked {
     Bad(Refusal),
 }
 
-// An object, or why there is none.
-pub struct Encoded {
-    pub done: Done,
-    pub object: Object,
-}
-
-// The object's length where its bytes are lent, or why there is none.
+// The object's length, or why there is none.
 pub struct Written {
     pub done: Done,
     pub len: usize,
@@ -53,31 +46,8 @@ fn check(h: Header, seq: u32, n: usize) -> Checked
     }
 }
 
-pub fn encode(header: Header, seq: u32, stamp: Stamp, payload: &[u8]) -> Encoded
-    ensures { λ r. ⌜ r ≡ encodedAs (encoding (record { header = header; seq = seq; stamp = stamp; payload = now (payload .entry) })) ⌝ }
-{
-    match check(header, seq, payload.len()) {
-        Checked::Dlc(d) => {
-            let a = first_word(header);
-            let b = second_word(header, seq, d as u32);
-            let o = object::object_of(a, b, stamp, payload);
-            Encoded {
-                done: Done::Good,
-                object: o,
-            }
-        }
-        Checked::Bad(r) => {
-            let o = object::empty();
-            Encoded {
-                done: Done::Bad(r),
-                object: o,
-            }
-        }
-    }
-}
-
 // The object into lent bytes.
-pub fn encode_into(
+pub fn encode(
     header: Header,
     seq: u32,
     stamp: Stamp,

@@ -1,7 +1,7 @@
 -- A push, as the definitions speak of it.
 -- Assumes nothing.
 use Prim.Native.Nat.{ℕ}
-use Rattle.message.specs.declared.object.Object.{Object}
+use Rattle.message.specs.Structs.{Object}
 use Rattle.tx_fifo.specs.PushAt.{PushAt}
 
 -- `size` is the payload's length

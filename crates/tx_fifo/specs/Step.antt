@@ -12,9 +12,8 @@ use Rattle.fifo.specs.Status.{CiFIFOSTA, TFNRFNIF}
 use Rattle.fifo.specs.UserAddress.{CiFIFOUA}
 use Rattle.header.specs.declared.Header.{Header}
 use Rattle.message.specs.Message.{Message, Encoding, encoding}
-use Rattle.message.specs.Structs.{encodedAs}
+use Rattle.message.specs.Structs.{Encoded, encodedAs}
 use Rattle.message.specs.declared.object.Stamp.{Stamp}
-use Rattle.message.specs.declared.tx.Encoded.{Encoded}
 use Rattle.spi.specs.Ram.{inRange}
 use Rattle.spi.specs.Reply.{wordReply, doneReply}
 use Rattle.spi.specs.Talk.{onWord, onDone}

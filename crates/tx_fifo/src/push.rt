@@ -16,7 +16,7 @@ use header::Header;
 use message::Stamp;
 use message::Written;
 use message::clear;
-use message::encode_into;
+use message::encode;
 use spi::Answer;
 use spi::Ask;
 use spi::Done;
@@ -54,7 +54,7 @@ fn encoded_for(fifo: u8, header: Header, seq: u32, payload: &[u8], body: &mut [u
     ensures { λ r. ⌜ encodedIn r (now (body .exit)) ≡ encodedAs (encodingFor fifo header seq (now (payload .entry))) ⌝ }
 {
     if is_fifo(fifo as u32) {
-        encode_into(header, seq, Stamp::None, payload, body)
+        encode(header, seq, Stamp::None, payload, body)
     } else {
         clear(body);
         Written {

@@ -11,5 +11,5 @@ unfolding encodingFor
 encoded-for-spec =
     tie.close
     (tie.spec (λ c κs. search needs) (λ c κs. search needs) (λ c κs. search needs)
-    (λ c. let b = c .before .before in c .encode-into .ensures ∙ simp (sym (b .before .is-fifo .ensures) ∙ b .if1 .taken))
+    (λ c. let b = c .before .before in c .encode .ensures ∙ simp (sym (b .before .is-fifo .ensures) ∙ b .if1 .taken))
     (λ c. let b = c .before .before in simp (c .clear .ensures, sym (b .before .is-fifo .ensures) ∙ b .if1 .left)))
