@@ -1,6 +1,6 @@
--- What a send answers, by the message read; and what stands in the struct that a message is encoded to.
+-- What a send answers, by the message read; and where the bytes of a frame that arrived stand.
 -- Assumes nothing.
-use mathlib.Core.Path.{_≡_, refl, ap}
+use mathlib.Core.Path.{_≡_, ap, _∙_}
 use Prim.Native.Nat.{ℕ, _≤_}
 use native.Mathlib.Omega.{arith}
 use mathlib.Core.List.{List, [], _∷_}
@@ -11,16 +11,16 @@ use denote.Enum.Declared.{tagOf}
 use Rattle.parts.specs.Parts.{zeroed}
 use Rattle.parts.proofs.Laws.{length-zeroed}
 use Rattle.words.proofs.Laws.{le-length}
-use Rattle.spi.specs.declared.refusal.Refusal.{Refusal}
-use Rattle.spi.specs.declared.refusal.Done.{Done}
+use Rattle.header.specs.declared.Header.{Header}
+use Rattle.header.specs.Header.{word0, received1}
 use Rattle.message.specs.declared.object.Stamp.{Stamp}
 use Rattle.message.specs.declared.rx.Reading.{Reading}
 use Rattle.message.specs.declared.rx.Decoded.{Decoded}
 use Rattle.message.specs.Object.{stampBytes}
-use Rattle.message.specs.Message.{Message, Encoding, refused, object, encoding, Decoding, holds, bad, short}
-use Rattle.message.specs.Structs.{Encoded, encodedAs, decodedAs}
+use Rattle.message.specs.Message.{arriving, Decoding, holds, bad, short}
+use Rattle.message.specs.Structs.{Object, objectIn, decodedAs}
 use Rattle.message.proofs.rx.Reading.{the-type}
-use Rattle.message.proofs.Round.{object-le}
+use Rattle.message.proofs.Round.{object-length}
 use Rattle.state.specs.declared.Model.{Model}
 use Rattle.bus.specs.declared.departure.Sending.{Sending}
 use Rattle.bus.specs.declared.departure.Sent.{Sent}
@@ -44,28 +44,17 @@ stamp-most : (s : Stamp) → length (stampBytes s) ≤ 4
 stamp-most (Stamp.At t) = omega (arith, le-length t)
 stamp-most Stamp.None = omega arith
 
-pub object-most : (x : Message) (bs : List ℕ) → encoding x ≡ object bs → length bs ≤ 76
-object-most x bs e = omega (arith, object-le x bs e, stamp-most (x .stamp))
+-- a frame's object has at most 76 bytes
+pub arriving-most : (h : Header) (dlc hit : ℕ) (s : Stamp) (p : List ℕ) → length p ≤ 64 → length (arriving h dlc hit s p) ≤ 76
+unfolding arriving
+arriving-most h dlc hit s p l = omega (arith, object-length (word0 h) (received1 h dlc hit) s p, stamp-most s)
 
 -- the bytes of an object stand at the front of its array
-pub record Made (x : Message) (e : Encoded) : Type 0 where
-  pub bs : List ℕ
-  pub encoded : encoding x ≡ object bs
-  pub fits : e .object .len ≤ length (e .object .bytes)
-  pub front : take (e .object .len) (e .object .bytes) ≡ bs
-
-module _ (x : Message) (e : Encoded) (h : e ≡ encodedAs (encoding x)) where
-  pub made : e .done ≡ Done.Good → Made x e
+module _ (bytes : List ℕ) (len : ℕ) (bs : List ℕ) (most : length bs ≤ 76) (e : _≡_ {A = Object} (record { bytes = bytes; len = len }) (objectIn bs)) where
+  pub fits : len ≤ length bytes
   unfolding zeroed
-  made g = go (encoding x) refl h
-    where
-      go : (y : Encoding) → encoding x ≡ y → e ≡ encodedAs y → Made x e
-      go (refused r) d f = let z : _≡_ {A = ℕ} 0 1 = cc in absurd (omega arith)
-      go (object bs) d f = rw f (record { bs = bs; encoded = d; fits = omega (arith, object-most x bs d, length-zeroed 76 bs (object-most x bs d)); front = take-append-seam bs _ })
+  fits = omega (arith, ap (λ (o : Object). o .len) e, ap (λ (o : Object). length (o .bytes)) e, length-zeroed 76 bs most)
 
-  pub not-made : (r : Refusal) → e .done ≡ Done.Bad r → encoding x ≡ refused r
-  not-made r g = go (encoding x) h
-    where
-      go : (y : Encoding) → e ≡ encodedAs y → y ≡ refused r
-      go (refused s) f = cc
-      go (object bs) f = let z : _≡_ {A = ℕ} 0 1 = cc in absurd (omega arith)
+  pub front : take len bytes ≡ bs
+  unfolding zeroed
+  front = ap (λ (o : Object). take (o .len) (o .bytes)) e ∙ take-append-seam bs _

@@ -2,15 +2,16 @@
 -- Assumes nothing.
 use Prim.Native.Nat.{ℕ, _^_}
 use mathlib.Core.Path.{_≡_, refl, sym, ap, _∙_}
-use mathlib.Core.Bool.{Bool, true, false, false≢true}
+use mathlib.Core.Bool.{Bool, true, false, not, false≢true}
 use mathlib.Core.List.{List, [], _∷_}
 use mathlib.Core.Logic.{_↔_}
 use native.Mathlib.Omega.{arith}
-use borrow.Author.Tests.{ltb-true, ltb-false, leb-true, leb-false}
+use borrow.Author.Tests.{ltb-true, ltb-false, leb-true, leb-false, not-true, not-false}
 use lib.Dec.{ltb, leb}
 use lib.ListN.{length, getD}
 use Rattle.laws.specs.If.{if_then_else_}
 use Rattle.laws.proofs.Choice.{by-if}
+use Rattle.laws.proofs.Table.{both}
 use Rattle.fifo.specs.Control.{payloadOf, isFifo}
 use Rattle.spi.specs.declared.refusal.Refusal.{Refusal}
 use Rattle.header.specs.declared.dlc.Dlc.{Dlc}
@@ -18,14 +19,14 @@ use Rattle.header.specs.declared.Header.{Header}
 use Rattle.header.specs.Dlc.{dlcOf}
 use Rattle.header.specs.Header.{topId}
 use Rattle.message.specs.declared.tx.Checked.{Checked}
-use Rattle.message.specs.Message.{byDlc, coded, encoding, checkOf}
+use Rattle.message.specs.Message.{byDlc, checkOf, arriving}
 use Rattle.ring.specs.Ring.{sending, depth, claimed, overflowed}
 use Rattle.state.specs.declared.Model.{Model}
 use Rattle.state.specs.Model.{fifoAt, frozenAt, withFifo, written}
 use Rattle.bus.specs.declared.arrival.Delivery.{Delivery}
 use Rattle.bus.specs.declared.arrival.Delivered.{Delivered}
 use Rattle.bus.specs.Held.{slotOf}
-use Rattle.bus.specs.Bus.{incoming, delivered, appended, byEncoding, deliverOf}
+use Rattle.bus.specs.Bus.{stampFor, delivered, receives, appended, give, byCheck, deliverOf}
 use Rattle.bus.specs.Numbers.{deliveryNumbers}
 use Rattle.bus.specs.Laws.{hasDlc, deliverAnswer, DeliverAnswers, Deliverable, DeliveredIff, Leaves, TurnedDown}
 use Rattle.bus.proofs.Laws.{held-length}
@@ -46,35 +47,53 @@ module _ (m : Model) (n : ℕ) (header : Header) (time : ℕ) (payload : List �
   abbrev pub dlc : Dlc
   dlc = dlcOf (header .fdf) (length payload)
 
+  pub by-check : (Q : Checked → Type 0)
+      → (tooHigh ≡ true → Q (Checked.Bad Refusal.BadIdentifier))
+      → (tooHigh ≡ false → dlc ≡ Dlc.Bad → Q (Checked.Bad Refusal.BadPayload))
+      → (tooHigh ≡ false → (d : ℕ) → dlc ≡ Dlc.Is d → Q (Checked.Dlc d))
+      → Q (checkOf header 0 (length payload))
+  unfolding checkOf
+  by-check Q = by-checked Q tooHigh dlc
+
   -- what holds of each answer holds of deliver's; each may use the tests that lead to it
   pub by-deliver : (P : Delivered → Type 0)
       → (isFifo n ≡ false → P (delivered (Delivery.Refused Refusal.BadNumber) m))
       → (isFifo n ≡ true → tooHigh ≡ true → P (delivered (Delivery.Refused Refusal.BadIdentifier) m))
       → (isFifo n ≡ true → tooHigh ≡ false → dlc ≡ Dlc.Bad → P (delivered (Delivery.Refused Refusal.BadPayload) m))
-      → (isFifo n ≡ true → tooHigh ≡ false → (d : ℕ) → dlc ≡ Dlc.Is d → (bs : List ℕ) → P (appended m n (length payload) bs))
+      → (isFifo n ≡ true → tooHigh ≡ false → (d : ℕ) → dlc ≡ Dlc.Is d → P (give m n 0 d header time payload))
       → P (deliverOf m n header time payload)
-  unfolding deliverOf encoding checkOf incoming
+  unfolding deliverOf
   by-deliver P a b c f =
-      by-if P (isFifo n)
-      (λ i. by-checked (λ y. P (byEncoding (coded y (incoming m n header time payload)) m n (length payload))) tooHigh dlc (b i) (c i) (λ e d g. f i e d g _)) a
+      by-if P (isFifo n) (λ i. by-check (λ y. P (byCheck y m n header time payload)) (b i) (c i) (f i)) a
 
   -- the causes that the FIFO and the mode are, in document 01's order
-  pub by-appended : (P : Delivered → Type 0) (bs : List ℕ)
+  pub by-give : (P : Delivered → Type 0) (hit d : ℕ)
       → (m .fixed .configuring ≡ true → P (delivered Delivery.Configuration m))
-      → (m .fixed .configuring ≡ false → sending (frozenAt m n) ≡ true → P (delivered Delivery.NotReceiving m))
-      → (m .fixed .configuring ≡ false → sending (frozenAt m n) ≡ false → ltb (payloadOf (frozenAt m n)) (length payload) ≡ true → P (delivered Delivery.TooLong m))
-      → (m .fixed .configuring ≡ false → sending (frozenAt m n) ≡ false → ltb (payloadOf (frozenAt m n)) (length payload) ≡ false
+      → (m .fixed .configuring ≡ false → receives m n ≡ false → P (delivered Delivery.NotReceiving m))
+      → (m .fixed .configuring ≡ false → receives m n ≡ true → ltb (payloadOf (frozenAt m n)) (length payload) ≡ true → P (delivered Delivery.TooLong m))
+      → (m .fixed .configuring ≡ false → receives m n ≡ true → ltb (payloadOf (frozenAt m n)) (length payload) ≡ false
       → leb (depth (frozenAt m n)) (fifoAt m n .count) ≡ true → P (delivered Delivery.Full (withFifo m n (overflowed true (fifoAt m n)))))
-      → (m .fixed .configuring ≡ false → sending (frozenAt m n) ≡ false → ltb (payloadOf (frozenAt m n)) (length payload) ≡ false
+      → (m .fixed .configuring ≡ false → receives m n ≡ true → ltb (payloadOf (frozenAt m n)) (length payload) ≡ false
       → leb (depth (frozenAt m n)) (fifoAt m n .count) ≡ false
-      → P (delivered Delivery.Delivered (withFifo (written m (slotOf m n (fifoAt m n .count)) bs) n (claimed (fifoAt m n)))))
-      → P (appended m n (length payload) bs)
-  unfolding appended
-  by-appended P bs a b c d e =
+      → P (delivered Delivery.Delivered (withFifo (written m (slotOf m n (fifoAt m n .count)) (arriving header d hit (stampFor m n time) payload)) n (claimed (fifoAt m n)))))
+      → P (give m n hit d header time payload)
+  unfolding give appended
+  by-give P hit dlc a b c d e =
       by-if P (m .fixed .configuring) a
-      (λ x. by-if P (sending (frozenAt m n)) (b x)
-      (λ y. by-if P (ltb (payloadOf (frozenAt m n)) (length payload)) (c x y)
-      (λ z. by-if P (leb (depth (frozenAt m n)) (fifoAt m n .count)) (d x y z) (e x y z))))
+      (λ x. by-if P (not (receives m n)) (λ y. b x (not-true _ y))
+      (λ y. by-if P (ltb (payloadOf (frozenAt m n)) (length payload)) (c x (not-false _ y))
+      (λ z. by-if P (leb (depth (frozenAt m n)) (fifoAt m n .count)) (d x (not-false _ y) z) (e x (not-false _ y) z))))
+
+-- a FIFO that receives is one, and does not send
+pub receives-is : (m : Model) (n : ℕ) → receives m n ≡ true → (isFifo n ≡ true) × (sending (frozenAt m n) ≡ false)
+unfolding receives
+receives-is m n e =
+    let (a, b) = both (isFifo n) (not (sending (frozenAt m n))) e in
+    (a, not-true _ b)
+
+pub is-receiving : (m : Model) (n : ℕ) → isFifo n ≡ true → sending (frozenAt m n) ≡ false → receives m n ≡ true
+unfolding receives
+is-receiving m n i s = rw (i, s)
 
 pub deliver-answers : DeliverAnswers
 deliver-answers m n header time payload =
@@ -83,12 +102,12 @@ deliver-answers m n header time payload =
     (λ i. rw i)
     (λ i t. rw (i, t))
     (λ i t d. rw (i, t, d))
-    (λ i t d e bs. by-appended m n header time payload P bs
+    (λ i t d e. by-give m n header time payload P 0 d
     (λ a. rw (i, t, e, a))
-    (λ a b. rw (i, t, e, a, b))
-    (λ a b c. rw (i, t, e, a, b, c))
-    (λ a b c f. rw (held-length m n i, i, t, e, a, b, c, f))
-    (λ a b c f. rw (held-length m n i, i, t, e, a, b, c, f)))
+    (λ a b. rw (i, t, e, b, a))
+    (λ a b c. rw (i, t, e, b, c, a))
+    (λ a b c f. rw (held-length m n i, i, t, e, b, c, f, a))
+    (λ a b c f. rw (held-length m n i, i, t, e, b, c, f, a)))
 
 -- a fact that is both true and false
 pub clash : {X : Type 0} {b : Bool} → b ≡ false → b ≡ true → X
@@ -112,9 +131,9 @@ delivered-iff m n header time payload =
     (λ i. (never _ refl, λ h. clash i (h .fifo)))
     (λ i t. (never _ refl, λ h. absurd (omega (arith, h .identifier, ltb-true))))
     (λ i t d. (never _ refl, λ h. clash (ap hasDlc d) (h .allowed)))
-    (λ i t d e bs. by-appended m n header time payload P bs
+    (λ i t d e. by-give m n header time payload P 0 d
     (λ a. (never _ refl, λ h. clash (h .outside) a))
-    (λ a b. (never _ refl, λ h. clash (h .receives) b))
+    (λ a b. (never _ refl, λ h. clash b (is-receiving m n i (h .receives))))
     (λ a b c. (never _ refl, λ h. absurd (omega (arith, h .fits, ltb-true))))
     (λ a b c f. (never _ refl, λ h. absurd (omega (arith, h .room, held-length m n i, leb-true))))
     (λ a b c f. (
@@ -123,7 +142,7 @@ delivered-iff m n header time payload =
         identifier = ltb-false (topId (header .extended)) (header .id) t;
         allowed = ap hasDlc e;
         outside = a;
-        receives = b;
+        receives = receives-is m n b .1;
         fits = ltb-false (payloadOf (frozenAt m n)) (length payload) c;
         room = omega (arith, held-length m n i, leb-false (depth (frozenAt m n)) (fifoAt m n .count) f);
       },
@@ -141,7 +160,7 @@ turned-down m n header time payload =
     (λ i. kept (20 ∷ []) m n (λ e. omega arith))
     (λ i t. kept (21 ∷ []) m n (λ e. omega arith))
     (λ i t d. kept (22 ∷ []) m n (λ e. omega arith))
-    (λ i t d e bs. by-appended m n header time payload P bs
+    (λ i t d e. by-give m n header time payload P 0 d
     (λ a. kept (0 ∷ 1 ∷ []) m n (λ e. omega arith))
     (λ a b. kept (0 ∷ 2 ∷ []) m n (λ e. omega arith))
     (λ a b c. kept (0 ∷ 3 ∷ []) m n (λ e. omega arith))

@@ -1,7 +1,7 @@
 -- The bus steps: the chip sends from a FIFO, and a frame arrives for one.
 -- Assumes nothing.
 use Prim.Native.Nat.{ℕ}
-use mathlib.Core.Bool.{Bool, true, _&&_}
+use mathlib.Core.Bool.{Bool, true, _&&_, not}
 use mathlib.Core.List.{List}
 use lib.ListN.{length}
 use lib.Dec.{ltb, leb}
@@ -11,7 +11,8 @@ use Rattle.fifo.specs.Control.{TXREQ, payloadOf, isFifo}
 use Rattle.spi.specs.declared.refusal.Refusal.{Refusal}
 use Rattle.header.specs.declared.Header.{Header}
 use Rattle.message.specs.declared.object.Stamp.{Stamp}
-use Rattle.message.specs.Message.{Message, Encoding, encoding, Decoding, holds, bad, short}
+use Rattle.message.specs.declared.tx.Checked.{Checked}
+use Rattle.message.specs.Message.{Message, checkOf, arriving, Decoding, holds, bad, short}
 use Rattle.message.specs.Structs.{frameOf, blank}
 use Rattle.ring.specs.Ring.{sending, depth, sent, claimed, overflowed}
 use Rattle.ring.specs.Layout.{stamped}
@@ -59,34 +60,41 @@ sentAs (refused r) m = record { sending = Sending.Refused r; frame = frameOf bla
 
 -- ---- deliver
 
--- a frame as FIFO n receives it: no SEQ, and the timestamp that the step brings only if RXTSEN is 1
+-- the timestamp that a step brings, only if RXTSEN is 1
+abbrev pub stampFor : Model → (n time : ℕ) → Stamp
+stampFor m n time = if stamped (frozenAt m n) then Stamp.At time else Stamp.None
+
+-- a frame as FIFO n receives it: no SEQ
 unfoldable pub incoming : Model → ℕ → Header → ℕ → List ℕ → Message
-incoming m n header time payload = record {
-  header = header;
-  seq = 0;
-  stamp = if stamped (frozenAt m n) then Stamp.At time else Stamp.None;
-  payload = payload;
-}
+incoming m n header time payload = record { header = header; seq = 0; stamp = stampFor m n time; payload = payload }
 
 abbrev pub delivered : Delivery → Model → Delivered
 delivered answer m = record { delivery = answer; model = m }
+
+-- FIFO n receives; 0 is no FIFO and counts as not receiving
+unfoldable pub receives : Model → ℕ → Bool
+receives m n = isFifo n && not (sending (frozenAt m n))
 
 -- an object of a payload of so many bytes, for FIFO n: turned down by the first cause, or appended in the slot behind those held
 unfoldable pub appended : Model → ℕ → ℕ → List ℕ → Delivered
 appended m n len object =
     if m .fixed .configuring then delivered Delivery.Configuration m
-    else if sending (frozenAt m n) then delivered Delivery.NotReceiving m
+    else if not (receives m n) then delivered Delivery.NotReceiving m
     else if ltb (payloadOf (frozenAt m n)) len then delivered Delivery.TooLong m
     else if leb (depth (frozenAt m n)) (fifoAt m n .count) then delivered Delivery.Full (withFifo m n (overflowed true (fifoAt m n)))
     else delivered Delivery.Delivered (withFifo (written m (slotOf m n (fifoAt m n .count)) object) n (claimed (fifoAt m n)))
 
--- 21 and 22 for a frame that no push could carry
-abbrev pub byEncoding : Encoding → Model → (n len : ℕ) → Delivered
-byEncoding (Encoding.refused r) m n len = delivered (Delivery.Refused r) m
-byEncoding (Encoding.object bs) m n len = appended m n len bs
+-- FIFO n is given a frame that filter `hit` took
+unfoldable pub give : Model → (n hit dlc : ℕ) → Header → ℕ → List ℕ → Delivered
+give m n hit dlc header time payload = appended m n (length payload) (arriving header dlc hit (stampFor m n time) payload)
+
+-- 21 and 22 for a frame that no push could carry; one that names its FIFO has filter 0
+abbrev pub byCheck : Checked → Model → ℕ → Header → ℕ → List ℕ → Delivered
+byCheck (Checked.Bad r) m n header time payload = delivered (Delivery.Refused r) m
+byCheck (Checked.Dlc d) m n header time payload = give m n 0 d header time payload
 
 -- a frame arrives for FIFO n
 unfoldable pub deliverOf : Model → ℕ → Header → ℕ → List ℕ → Delivered
 deliverOf m n header time payload =
-    if isFifo n then byEncoding (encoding (incoming m n header time payload)) m n (length payload)
+    if isFifo n then byCheck (checkOf header 0 (length payload)) m n header time payload
     else delivered (Delivery.Refused Refusal.BadNumber) m

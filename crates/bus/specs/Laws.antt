@@ -19,7 +19,7 @@ use Rattle.state.specs.declared.Model.{Model}
 use Rattle.state.specs.Model.{fifoAt, frozenAt, withFifo}
 use Rattle.bus.specs.declared.arrival.Delivery.{Delivery}
 use Rattle.bus.specs.Held.{itemAt, row, held}
-use Rattle.bus.specs.Bus.{Output, frame, noFrame, nothing, refused, sends, sendOutput, sendModel, deliverOf}
+use Rattle.bus.specs.Bus.{Output, frame, noFrame, nothing, refused, sends, sendOutput, sendModel, receives, deliverOf}
 use Rattle.bus.specs.Numbers.{messageNumbers, outputNumbers, deliveryNumbers}
 
 -- ---- send
@@ -62,18 +62,23 @@ abbrev pub hasDlc : Dlc → Bool
 hasDlc (Dlc.Is d) = true
 hasDlc Dlc.Bad = false
 
--- what deliver answers: 20, 21, 22 for a frame that no push could carry; then the first cause: Configuration, not receiving, payload longer
--- than PLSIZE means, full; otherwise it is delivered
+-- the first cause to turn a frame down, by its place in document 01's order: Configuration, not receiving, payload longer than PLSIZE
+-- means, full; 0 where it is delivered
+abbrev pub firstCause : Model → ℕ → List ℕ → ℕ
+firstCause m n payload =
+    if m .fixed .configuring then 1
+    else if not (receives m n) then 2
+    else if ltb (payloadOf (frozenAt m n)) (length payload) then 3
+    else if leb (depth (frozenAt m n)) (length (held m n)) then 4
+    else 0
+
+-- what deliver answers: 20, 21, 22 for a frame that no push could carry; then the first cause
 abbrev pub deliverAnswer : Model → ℕ → Header → List ℕ → List ℕ
 deliverAnswer m n header payload =
     if not (isFifo n) then 20 ∷ []
     else if ltb (topId (header .extended)) (header .id) then 21 ∷ []
     else if not (hasDlc (dlcOf (header .fdf) (length payload))) then 22 ∷ []
-    else if m .fixed .configuring then 0 ∷ 1 ∷ []
-    else if sending (frozenAt m n) then 0 ∷ 2 ∷ []
-    else if ltb (payloadOf (frozenAt m n)) (length payload) then 0 ∷ 3 ∷ []
-    else if leb (depth (frozenAt m n)) (length (held m n)) then 0 ∷ 4 ∷ []
-    else 0 ∷ 0 ∷ []
+    else 0 ∷ firstCause m n payload ∷ []
 
 abbrev pub DeliverAnswers : Type 0
 DeliverAnswers =

@@ -1,21 +1,23 @@
 // A frame arrives for a FIFO.
 ghost use mathlib.Core.Path.{_≡_};
-ghost use Prim.Native.Nat.{_<_};
+ghost use mathlib.Core.Bool.{not};
+ghost use Prim.Native.Nat.{_<_, _≤_};
 ghost use lib.Dec.{ltb, leb};
+ghost use lib.ListN.{length};
 ghost use Rattle.laws.specs.If.{if_then_else_};
 ghost use Rattle.fifo.specs.Control.{payloadOf};
-ghost use Rattle.message.specs.declared.object.Stamp.{Stamp};
-ghost use Rattle.ring.specs.Ring.{claimed, sending, depth};
-ghost use Rattle.ring.specs.Layout.{stamped};
-ghost use Rattle.state.specs.Model.{fifoAt, frozenAt, withFifo, written};
+ghost use Rattle.field.specs.Field.{Fits};
+ghost use Rattle.header.specs.Header.{DLC, FILHIT, topId};
+ghost use Rattle.ring.specs.Ring.{claimed, depth};
+ghost use Rattle.state.specs.Model.{fifoAt, withFifo, written};
 ghost use Rattle.bus.specs.declared.arrival.Delivery.{Delivery};
 ghost use Rattle.bus.specs.Held.{slotOf};
-ghost use Rattle.bus.specs.Bus.{delivered, appended, deliverOf};
+ghost use Rattle.bus.specs.Bus.{stampFor, delivered, receives, appended, give, deliverOf};
 use crate::held;
 use fifo::FifoControl;
 use header::Header;
+use message::Checked;
 use message::Stamp;
-use spi::Done;
 use spi::Refusal;
 use state::Model;
 use state::fifo_at;
@@ -46,7 +48,7 @@ fn told(delivery: Delivery, m: Model) -> Delivered
 }
 
 fn stamp_of(m: Model, n: u8, time: u32) -> Stamp
-    ensures { λ r. ⌜ r ≡ (if stamped (frozenAt m n) then Stamp.At time else Stamp.None) ⌝ }
+    ensures { λ r. ⌜ r ≡ stampFor m n time ⌝ }
 {
     if ring::stamped(frozen_at(m, n)) {
         return Stamp::At(time);
@@ -64,14 +66,23 @@ fn placed(m: Model, n: u8, object: &[u8]) -> Model
     state::with_fifo(state::written(m, at, object), n, ring::claimed(f))
 }
 
+fn receives(m: Model, n: u8) -> bool
+    ensures { λ r. ⌜ r ≡ receives m n ⌝ }
+{
+    if !fifo::is_fifo(n as u32) {
+        return false;
+    }
+    !ring::sending(frozen_at(m, n))
+}
+
 // What a frame for a FIFO comes to: the first cause to turn it down, or none.
-fn cause(configuring: bool, w: u32, count: u8, len: usize) -> Delivery
-    ensures { λ r. ⌜ r ≡ (if configuring then Delivery.Configuration else if sending w then Delivery.NotReceiving else if ltb (payloadOf w) len then Delivery.TooLong else if leb (depth w) count then Delivery.Full else Delivery.Delivered) ⌝ }
+fn cause(configuring: bool, receives: bool, w: u32, count: u8, len: usize) -> Delivery
+    ensures { λ r. ⌜ r ≡ (if configuring then Delivery.Configuration else if not receives then Delivery.NotReceiving else if ltb (payloadOf w) len then Delivery.TooLong else if leb (depth w) count then Delivery.Full else Delivery.Delivered) ⌝ }
 {
     if configuring {
         return Delivery::Configuration;
     }
-    if ring::sending(w) {
+    if !receives {
         return Delivery::NotReceiving;
     }
     if FifoControl(w).payload_size() < len {
@@ -87,12 +98,30 @@ fn appended(m: Model, n: u8, len: usize, object: &[u8]) -> Delivered
     ensures { λ r. ⌜ r ≡ appended m n len (now (object .entry)) ⌝ }
 {
     let f = fifo_at(m, n);
-    let c = cause(m.fixed.configuring, frozen_at(m, n), f.count, len);
+    let c = cause(m.fixed.configuring, receives(m, n), frozen_at(m, n), f.count, len);
     match c {
         Delivery::Delivered => told(c, placed(m, n, object)),
         Delivery::Full => told(c, state::with_fifo(m, n, ring::overflowed(true, f))),
         _ => told(c, m),
     }
+}
+
+// A FIFO is given a frame that filter `hit` took.
+pub fn give(
+    m: Model,
+    n: u8,
+    hit: u32,
+    dlc: u32,
+    header: Header,
+    time: u32,
+    payload: &[u8],
+) -> Delivered
+    requires { ⌜ (header .id ≤ topId (header .extended)) × Fits DLC dlc × Fits FILHIT hit × (length (now payload) ≤ 64) ⌝ }
+    ensures { λ r. ⌜ r ≡ give m n hit dlc header time (now (payload .entry)) ⌝ }
+{
+    let mut object = [0u8; 76];
+    let len = message::arrive(header, dlc, hit, stamp_of(m, n, time), payload, &mut object);
+    appended(m, n, payload.len(), &object[..len])
 }
 
 pub fn deliver(m: Model, n: u32, header: Header, time: u32, payload: &[u8]) -> Delivered
@@ -101,12 +130,8 @@ pub fn deliver(m: Model, n: u32, header: Header, time: u32, payload: &[u8]) -> D
     if !fifo::is_fifo(n) {
         return told(Delivery::Refused(Refusal::BadNumber), m);
     }
-    let n = n as u8;
-    let mut object = [0u8; 76];
-    let e = message::encode(header, 0, stamp_of(m, n, time), payload, &mut object);
-    let done = e.done;
-    match done {
-        Done::Good => appended(m, n, payload.len(), &object[..e.len]),
-        Done::Bad(r) => told(Delivery::Refused(r), m),
+    match message::check(header, 0, payload.len()) {
+        Checked::Dlc(d) => give(m, n as u8, 0, d as u32, header, time, payload),
+        Checked::Bad(r) => told(Delivery::Refused(r), m),
     }
 }

@@ -2,17 +2,18 @@
 -- Assumes nothing.
 use mathlib.Core.Path.{_≡_, refl, sym, ap, ap₂, _∙_}
 use mathlib.Core.Bool.{Bool, true, false}
-use mathlib.Core.List.{List, [], _∷_}
+use mathlib.Core.List.{List, [], _∷_, _++_}
 use Prim.Native.Nat.{ℕ, zero, suc, _+_, _*_, _/_, _%_, _^_, _≤_, _<_}
 use native.Mathlib.Omega.{arith}
 use lib.Dec.{eqb, lit<}
 use Rattle.laws.specs.If.{if_then_else_}
-use Rattle.field.specs.Field.{Field, read, write, flag, digit}
-use Rattle.field.specs.Settings.{Setting, _:=_, settings, AllFit}
+use Rattle.laws.specs.All.{all}
+use Rattle.field.specs.Field.{Field, read, write, Fits, flag, digit, allApart, within}
+use Rattle.field.specs.Settings.{Setting, _:=_, fieldsOf, settings, AllFit}
 use Rattle.field.proofs.Laws.{field-lt, write-read}
 use Rattle.field.proofs.Sets.{fieldAt, valueAt, own, settings-lt, tiled}
 use Rattle.header.specs.declared.Header.{Header}
-use Rattle.header.specs.Header.{SID, EID, DLC, IDE, RTR, BRS, FDF, ESI, SEQ, topId, sidOf, eidOf, idIn, word0, word1, headerOf, meaning0, meaning1}
+use Rattle.header.specs.Header.{SID, EID, DLC, IDE, RTR, BRS, FDF, ESI, SEQ, FILHIT, topId, sidOf, eidOf, idIn, word0, kind1, word1, received1, headerOf, meaning0, meaning1}
 
 -- ---- bits and truth values
 
@@ -61,52 +62,79 @@ module _ (h : Header) (fits : h .id ≤ topId (h .extended)) where
 
 -- ---- word 1
 
-abbrev flags : Header → (seq dlc : ℕ) → List Setting
-flags h seq dlc =
-    DLC := dlc
-    ∷ IDE := digit (h .extended)
-    ∷ RTR := digit (h .rtr)
-    ∷ BRS := digit (h .brs)
-    ∷ FDF := digit (h .fdf)
-    ∷ ESI := digit (h .esi)
-    ∷ SEQ := seq
-    ∷ []
+-- what stands above the flags: SEQ in an object to send, FILHIT in one received
+abbrev above : Bool → Field
+above true = SEQ
+above false = FILHIT
 
-module _ (h : Header) (seq dlc : ℕ) (dlc-fits : dlc < 16) (seq-fits : seq < 2 ^ 23) where
-  all-fit : AllFit (flags h seq dlc)
-  all-fit = (dlc-fits, (digit-lt (h .extended), (digit-lt (h .rtr), (digit-lt (h .brs), (digit-lt (h .fdf), (digit-lt (h .esi), (seq-fits, tt)))))))
+abbrev fields1 : Bool → Header → (dlc v : ℕ) → List Setting
+fields1 sending h dlc v = kind1 h dlc ++ (above sending := v ∷ [])
 
-  pub word1-lt : word1 h seq dlc < 2 ^ 32
-  unfolding word1
-  word1-lt = settings-lt 32 (flags h seq dlc) 0 refl all-fit (lit< tt)
+-- what such a word says
+pub record Second (h : Header) (dlc w : ℕ) : Type 0 where
+  pub small : w < 2 ^ 32
+  pub dlc-is : read DLC w ≡ dlc
+  pub fdf-is : flag FDF w ≡ h .fdf
+  pub header-is : h .id ≤ topId (h .extended) → headerOf (word0 h) w ≡ h
+
+module _ (sending : Bool) (h : Header) (dlc v : ℕ) (dlc-fits : dlc < 16) (fits : Fits (above sending) v) where
+  abbrev w : ℕ
+  w = settings (fields1 sending h dlc v) 0
+
+  all-fit : AllFit (fields1 sending h dlc v)
+  all-fit = (dlc-fits, (digit-lt (h .extended), (digit-lt (h .rtr), (digit-lt (h .brs), (digit-lt (h .fdf), (digit-lt (h .esi), (fits, tt)))))))
+
+  side-by : (s : Bool) → allApart (fieldsOf (fields1 s h dlc v)) ≡ true
+  side-by true = refl
+  side-by false = refl
+
+  inside : (s : Bool) → all (within 32) (fieldsOf (fields1 s h dlc v)) ≡ true
+  inside true = refl
+  inside false = refl
 
   -- each of them reads back
-  set-back : (i : ℕ) → i < 7 → read (fieldAt (flags h seq dlc) i) (word1 h seq dlc) ≡ valueAt (flags h seq dlc) i
-  unfolding word1
-  set-back i = own (flags h seq dlc) 0 i refl all-fit
+  set-back : (i : ℕ) → i < 7 → read (fieldAt (fields1 sending h dlc v) i) w ≡ valueAt (fields1 sending h dlc v) i
+  set-back i = own (fields1 sending h dlc v) 0 i (side-by sending) all-fit
 
-  flag-back : (i : ℕ) (b : Bool) → i < 7 → valueAt (flags h seq dlc) i ≡ digit b → flag (fieldAt (flags h seq dlc) i) (word1 h seq dlc) ≡ b
+  above-back : read (above sending) w ≡ v
+  above-back = set-back 6 (lit< tt)
+
+  flag-back : (i : ℕ) (b : Bool) → i < 7 → valueAt (fields1 sending h dlc v) i ≡ digit b → flag (fieldAt (fields1 sending h dlc v) i) w ≡ b
   flag-back i b l e = digit-back b _ (set-back i l ∙ e)
 
-  pub dlc-field : read DLC (word1 h seq dlc) ≡ dlc
-  dlc-field = set-back 0 (lit< tt)
-
-  pub seq-field : read SEQ (word1 h seq dlc) ≡ seq
-  seq-field = set-back 6 (lit< tt)
-
-  pub fdf-flag : flag FDF (word1 h seq dlc) ≡ h .fdf
-  fdf-flag = flag-back 4 (h .fdf) (lit< tt) refl
-
-  -- the two words say the header
-  pub header-back : h .id ≤ topId (h .extended) → headerOf (word0 h) (word1 h seq dlc) ≡ h
+  says : Second h dlc w
   unfolding headerOf
-  header-back fits =
+  says =
       let x = flag-back 1 (h .extended) (lit< tt) refl in
-      let i : idIn (flag IDE (word1 h seq dlc)) (word0 h) ≡ h .id = ap (λ (e : Bool). idIn e (word0 h)) x ∙ id-back h fits in
       let r = flag-back 2 (h .rtr) (lit< tt) refl in
       let b = flag-back 3 (h .brs) (lit< tt) refl in
+      let f = flag-back 4 (h .fdf) (lit< tt) refl in
       let e = flag-back 5 (h .esi) (lit< tt) refl in
-      λ k. record { extended = x k; id = i k; rtr = r k; brs = b k; fdf = fdf-flag k; esi = e k }
+      record {
+        small = settings-lt 32 (fields1 sending h dlc v) 0 (inside sending) all-fit (lit< tt);
+        dlc-is = set-back 0 (lit< tt);
+        fdf-is = f;
+        header-is = λ top.
+            let i : idIn (flag IDE w) (word0 h) ≡ h .id = ap (λ (e : Bool). idIn e (word0 h)) x ∙ id-back h top in
+            λ k. record { extended = x k; id = i k; rtr = r k; brs = b k; fdf = f k; esi = e k };
+      }
+
+module _ (h : Header) (dlc : ℕ) (dlc-fits : dlc < 16) where
+  pub word1-says : (seq : ℕ) → seq < 2 ^ 23 → Second h dlc (word1 h seq dlc)
+  unfolding word1
+  word1-says seq = says true h dlc seq dlc-fits
+
+  pub seq-field : (seq : ℕ) → seq < 2 ^ 23 → read SEQ (word1 h seq dlc) ≡ seq
+  unfolding word1
+  seq-field seq = above-back true h dlc seq dlc-fits
+
+  pub received1-says : (hit : ℕ) → hit < 32 → Second h dlc (received1 h dlc hit)
+  unfolding received1
+  received1-says hit = says false h dlc hit dlc-fits
+
+  pub hit-field : (hit : ℕ) → hit < 32 → read FILHIT (received1 h dlc hit) ≡ hit
+  unfolding received1
+  hit-field hit = above-back false h dlc hit dlc-fits
 
 -- ---- from words that were read
 

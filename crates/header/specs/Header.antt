@@ -2,10 +2,10 @@
 -- Assumes nothing.
 use Prim.Native.Nat.{ℕ, _+_, _*_, _/_, _%_, _^_}
 use mathlib.Core.Bool.{Bool, true, false}
-use mathlib.Core.List.{[], _∷_}
+use mathlib.Core.List.{List, [], _∷_, _++_}
 use Rattle.laws.specs.If.{if_then_else_}
 use Rattle.field.specs.Field.{Field, _‥_, bit, read, flag, digit}
-use Rattle.field.specs.Settings.{_:=_, settings}
+use Rattle.field.specs.Settings.{Setting, _:=_, settings}
 use Rattle.header.specs.declared.Header.{Header}
 
 -- ---- word 0
@@ -36,8 +36,13 @@ FDF = bit 7
 abbrev pub ESI : Field
 ESI = bit 8
 
+-- of an object to send
 abbrev pub SEQ : Field
 SEQ = 31 ‥ 9
+
+-- of a received object: the number of the filter that took it
+abbrev pub FILHIT : Field
+FILHIT = 15 ‥ 11
 
 -- ---- the identifier
 
@@ -63,19 +68,24 @@ idIn extended w = if extended then read SID w * 2 ^ 18 + read EID w else read SI
 unfoldable pub word0 : Header → ℕ
 word0 h = settings (SID := sidOf (h .extended) (h .id) ∷ EID := eidOf (h .extended) (h .id) ∷ []) 0
 
--- word 1 of a message
-unfoldable pub word1 : Header → (seq dlc : ℕ) → ℕ
-word1 h seq dlc =
-    settings
-    (DLC := dlc
+-- the fields that word 1 of every object has
+abbrev pub kind1 : Header → (dlc : ℕ) → List Setting
+kind1 h dlc =
+    DLC := dlc
     ∷ IDE := digit (h .extended)
     ∷ RTR := digit (h .rtr)
     ∷ BRS := digit (h .brs)
     ∷ FDF := digit (h .fdf)
     ∷ ESI := digit (h .esi)
-    ∷ SEQ := seq
-    ∷ [])
-    0
+    ∷ []
+
+-- word 1 of a message to send
+unfoldable pub word1 : Header → (seq dlc : ℕ) → ℕ
+word1 h seq dlc = settings (kind1 h dlc ++ (SEQ := seq ∷ [])) 0
+
+-- word 1 of a message that a filter took; bits 10, 9 and 31..16 are 0
+unfoldable pub received1 : Header → (dlc hit : ℕ) → ℕ
+received1 h dlc hit = settings (kind1 h dlc ++ (FILHIT := hit ∷ [])) 0
 
 -- what two words say: reserved bits, and EID in a standard frame, are ignored
 unfoldable pub headerOf : ℕ → ℕ → Header

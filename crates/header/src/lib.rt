@@ -2,7 +2,8 @@
 ghost use mathlib.Core.Path.{_≡_};
 ghost use Prim.Native.Nat.{_<_, _≤_, _^_};
 ghost use Rattle.field.specs.Field.{read, flag, Fits};
-ghost use Rattle.header.specs.Header.{SEQ, DLC, FDF, topId, sidOf, eidOf, idIn, word0, word1, headerOf};
+ghost use Rattle.field.specs.Settings.{settings};
+ghost use Rattle.header.specs.Header.{SEQ, FILHIT, DLC, FDF, topId, sidOf, eidOf, idIn, word0, kind1, word1, received1, headerOf};
 ghost use Rattle.header.specs.Dlc.{lengthOf};
 
 mod dlc;
@@ -44,17 +45,33 @@ pub fn first_word(h: Header) -> u32
     field::set(sid, 11, 18, eid_of(h.extended, h.id))
 }
 
-pub fn second_word(h: Header, seq: u32, dlc: u32) -> u32
-    requires { ⌜ Fits DLC dlc × Fits SEQ seq ⌝ }
-    ensures { λ r. ⌜ r ≡ word1 h seq dlc ⌝ }
+// What the second word of every object has: the DLC, the kind and the flags.
+fn kind_word(h: Header, dlc: u32) -> u32
+    requires { ⌜ Fits DLC dlc ⌝ }
+    ensures { λ r. ⌜ r ≡ settings (kind1 h dlc) 0 ⌝ }
 {
     let a = field::set(0, 0, 4, dlc);
     let b = field::set_bit(a, 4, h.extended);
     let c = field::set_bit(b, 5, h.rtr);
     let d = field::set_bit(c, 6, h.brs);
     let e = field::set_bit(d, 7, h.fdf);
-    let f = field::set_bit(e, 8, h.esi);
-    field::set(f, 9, 23, seq)
+    field::set_bit(e, 8, h.esi)
+}
+
+// Of an object to send.
+pub fn second_word(h: Header, seq: u32, dlc: u32) -> u32
+    requires { ⌜ Fits DLC dlc × Fits SEQ seq ⌝ }
+    ensures { λ r. ⌜ r ≡ word1 h seq dlc ⌝ }
+{
+    field::set(kind_word(h, dlc), 9, 23, seq)
+}
+
+// Of an object received: FILHIT has the number of the filter that took it.
+pub fn received_word(h: Header, dlc: u32, hit: u32) -> u32
+    requires { ⌜ Fits DLC dlc × Fits FILHIT hit ⌝ }
+    ensures { λ r. ⌜ r ≡ received1 h dlc hit ⌝ }
+{
+    field::set(kind_word(h, dlc), 11, 5, hit)
 }
 
 fn identifier(extended: bool, w: u32) -> u32

@@ -8,16 +8,19 @@ use mathlib.Core.List.{List, [], _∷_, _++_, map, map-append, append-nil, appen
 use native.Mathlib.Nat.{mod-lt}
 use native.Mathlib.Omega.{arith}
 use lib.ListN.{length}
-use lib.Dec.{ltb, leb, eqb}
+use lib.Dec.{ltb, eqb}
 use borrow.Author.Tests.{ltb-false, leb-false}
 use Rattle.laws.specs.If.{if_then_else_}
 use Rattle.laws.proofs.Choice.{by-if}
 use Rattle.laws.proofs.Table.{both}
 use Rattle.field.specs.Field.{flag}
-use Rattle.fifo.specs.Control.{TXREQ, payloadOf, isFifo}
+use Rattle.fifo.specs.Control.{TXREQ, isFifo}
 use Rattle.spi.specs.declared.refusal.Refusal.{Refusal}
-use Rattle.message.specs.Message.{Message, Encoding, encoding, Decoding, holds}
-use Rattle.message.specs.Laws.{Suits}
+use Rattle.header.specs.declared.Header.{Header}
+use Rattle.header.specs.Header.{topId}
+use Rattle.message.specs.declared.tx.Checked.{Checked}
+use Rattle.message.specs.Message.{Message, checkOf, Decoding, holds, decoding}
+use Rattle.message.proofs.Round.{accepted as passes}
 use Rattle.ring.specs.declared.ring.Fifo.{Fifo}
 use Rattle.ring.specs.Ring.{sending, depth, place, claimed, taken, controlled, overflowed, sent}
 use Rattle.ring.specs.Layout.{stamped, size}
@@ -26,10 +29,11 @@ use Rattle.state.specs.Model.{fifoAt, frozenAt, withFifo, written}
 use Rattle.bus.specs.declared.arrival.Delivery.{Delivery}
 use Rattle.bus.specs.declared.arrival.Delivered.{Delivered}
 use Rattle.bus.specs.Held.{slotOf, itemAt, held}
-use Rattle.bus.specs.Bus.{nothing, refused, outputOf, sends, sendOutput, sendModel, incoming, delivered, appended, byEncoding, deliverOf}
+use Rattle.bus.specs.Bus.{nothing, refused, outputOf, sends, sendOutput, sendModel, incoming, delivered, give, deliverOf}
 use Rattle.bus.proofs.Laws.{sends-one}
+use Rattle.bus.proofs.Arriving.{by-deliver, by-give, receives-is}
 use Rattle.reach.specs.Bus.{Bus, Send, Deliver, stepped}
-use Rattle.reach.proofs.Arrivals.{coming-suits, coming-fits}
+use Rattle.reach.proofs.Arrivals.{coming-fits, coming-back}
 pub use Rattle.reach.proofs.Arrivals.{payload-whole}
 use Rattle.history.specs.History.{Said, left, arrived, says}
 use Rattle.history.specs.Lists.{accepted, acceptedIn, handedOut, handedOutIn, only}
@@ -250,49 +254,50 @@ module _ (c : Model) (s : Sound c) where
   send-step t l n true false h e = quiet-step c c _ (λ j. refl) (λ j. only-none j n) (λ j. refl) (later-same c)
   send-step t l n false b h e = quiet-step c c _ (λ j. refl) (λ j. only-none j n) (λ j. refl) (later-same c)
 
-  module _ (n : ℕ) (m : Message) where
+  module _ (n : ℕ) (header : Header) (time : ℕ) (payload : List ℕ) where
     -- what an answer to a frame comes to
-    abbrev Answered : Delivered → Type 0
-    Answered r = Step c (arrived n m (r .delivery)) (r .model)
+    abbrev pub Answered : Delivered → Type 0
+    Answered r = Step c (arrived n (incoming c n header time payload) (r .delivery)) (r .model)
+
+    -- one that says that nothing changed
+    pub unmoved : (d : Delivery) → ((j : ℕ) → acceptedIn j (arrived n (incoming c n header time payload) d) ≡ []) → Answered (delivered d c)
+    unmoved d e = quiet-step c c _ e (λ j. refl) (λ j. refl) (later-same c)
 
     delivered-step : isFifo n ≡ true → sending (frozenAt c n) ≡ false → fifoAt c n .count < depth (frozenAt c n)
-        → (bs : List ℕ) → encoding m ≡ Encoding.object bs → length bs ≤ size (frozenAt c n) → Suits (sending (frozenAt c n)) (stamped (frozenAt c n)) m
+        → (bs : List ℕ) → length bs ≤ size (frozenAt c n)
+        → ((r : List ℕ) → decoding (sending (frozenAt c n)) (stamped (frozenAt c n)) (bs ++ r) ≡ holds (incoming c n header time payload))
         → Answered (delivered Delivery.Delivered (withFifo (written c (slotOf c n (fifoAt c n .count)) bs) n (claimed (fifoAt c n))))
     unfolding claimed
-    delivered-step h r free bs e fits ok = record {
+    delivered-step h r free bs fits back = record {
       later = later-delivered c s n h r free bs fits;
       moves = λ j k.
           rw map-only
-          (rw (filled-held c s n h free bs fits j, filled-item c s n h free bs fits m e ok)
+          (rw (filled-held c s n h free bs fits j, filled-item c s n h free bs fits (incoming c n header time payload) back)
           at (more-held (filled c n bs) (filled-sound c s n h free bs fits) n h (claimed (fifoAt c n)) refl refl j));
     }
 
-    appended-step : isFifo n ≡ true → (len : ℕ) (bs : List ℕ) → encoding m ≡ Encoding.object bs
-        → (len ≤ payloadOf (frozenAt c n) → length bs ≤ size (frozenAt c n)) → Suits (sending (frozenAt c n)) (stamped (frozenAt c n)) m
-        → Answered (appended c n len bs)
-    unfolding appended overflowed
-    appended-step h len bs e fits ok =
-        let q = later-same c in
-        by-if Answered (c .fixed .configuring) (λ x. quiet-step c c _ (λ j. only-none j n) (λ j. refl) (λ j. refl) q)
-        (λ x. by-if Answered (sending (frozenAt c n)) (λ y. quiet-step c c _ (λ j. only-none j n) (λ j. refl) (λ j. refl) q)
-        (λ r. by-if Answered (ltb (payloadOf (frozenAt c n)) len) (λ y. quiet-step c c _ (λ j. only-none j n) (λ j. refl) (λ j. refl) q)
-        (λ y. by-if Answered (leb (depth (frozenAt c n)) (fifoAt c n .count))
-        (λ z. quiet-step c _ _ (λ j. only-none j n) (λ j. refl) (kept-held c s n h (overflowed true (fifoAt c n)) refl refl)
+    -- a frame that a filter took
+    pub give-step : time < 2 ^ 32 → (hit d : ℕ) → hit < 32 → checkOf header 0 (length payload) ≡ Checked.Dlc d → Answered (give c n hit d header time payload)
+    unfolding overflowed
+    give-step small hit d l e =
+        by-give c n header time payload Answered hit d
+        (λ a. unmoved _ (λ j. only-none j n)) (λ a b. unmoved _ (λ j. only-none j n)) (λ a b x. unmoved _ (λ j. only-none j n))
+        (λ a b x z.
+        let (h, r) = receives-is c n b in
+        quiet-step c _ _ (λ j. only-none j n) (λ j. refl) (kept-held c s n h (overflowed true (fifoAt c n)) refl refl)
         (later-kept c s n h (overflowed true (fifoAt c n)) refl refl))
-        (λ z. delivered-step h r (leb-false _ _ z) bs e (fits (ltb-false _ _ y)) ok))))
+        (λ a b x z.
+        let (h, r) = receives-is c n b in
+        delivered-step h r (leb-false _ _ z) _ (coming-fits c n header time payload hit d (ltb-false _ _ x)) (coming-back c n header time payload small r hit d l e))
+
+    -- one that names its FIFO
+    deliver-step : time < 2 ^ 32 → Answered (deliverOf c n header time payload)
+    deliver-step small =
+        by-deliver c n header time payload Answered
+        (λ i. unmoved _ (λ j. only-none j n)) (λ i t. unmoved _ (λ j. only-none j n)) (λ i t d. unmoved _ (λ j. only-none j n))
+        (λ i t d e. give-step small 0 d (omega arith) (passes header 0 (length payload) d (ltb-false (topId (header .extended)) (header .id) t) (omega arith) e))
 
 pub bus-good : (c : Model) → Sound c → (t : List Said) → Listed c t → (b : Bus) → Good c b
-unfolding stepped sendOutput sendModel deliverOf
+unfolding stepped sendOutput sendModel
 bus-good c s t l (Send n) = send-step c s t l n (isFifo n) (sends c n) refl refl
-bus-good c s t l (Deliver n header time payload) =
-    let m : Message = incoming c n header (time % 2 ^ 32) payload in
-    by-if (Answered c s n m) (isFifo n)
-    (λ h. go h (encoding m) refl)
-    (λ h. quiet-step c c _ (λ j. only-none j n) (λ j. refl) (λ j. refl) (later-same c))
-  where
-    go : isFifo n ≡ true → (x : Encoding) → encoding (incoming c n header (time % 2 ^ 32) payload) ≡ x
-        → Answered c s n (incoming c n header (time % 2 ^ 32) payload) (byEncoding x c n (length payload))
-    go h (Encoding.refused r) e = quiet-step c c _ (λ j. only-none j n) (λ j. refl) (λ j. refl) (later-same c)
-    go h (Encoding.object bs) e =
-        appended-step c s n (incoming c n header (time % 2 ^ 32) payload) h (length payload) bs e
-        (coming-fits c n header (time % 2 ^ 32) payload bs e) (coming-suits c n header (time % 2 ^ 32) payload (mod-lt time (omega arith)))
+bus-good c s t l (Deliver n header time payload) = deliver-step c s n header (time % 2 ^ 32) payload (mod-lt time (omega arith))

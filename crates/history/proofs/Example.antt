@@ -12,9 +12,9 @@ use Rattle.spi.specs.Instruction.{commandOf}
 use Rattle.spi.specs.Ram.{inRange}
 use Rattle.spi.specs.Ask.{sent}
 use Rattle.header.specs.Dlc.{lengthOf, dlcOf}
-use Rattle.header.specs.Header.{word0, word1, headerOf}
+use Rattle.header.specs.Header.{word0, word1, received1, headerOf}
 use Rattle.message.specs.Object.{padded, objectBytes}
-use Rattle.message.specs.Message.{checkOf, encoding, messageIn, decoding}
+use Rattle.message.specs.Message.{checkOf, encoding, arriving, messageIn, decoding}
 use Rattle.spi.specs.declared.refusal.Refusal.{Refusal}
 use Rattle.call.specs.declared.Outcome.{Outcome}
 use Rattle.plan.specs.Change.{modified}
@@ -36,7 +36,7 @@ use Rattle.state.specs.Model.{reset}
 use Rattle.bank.specs.Registers.{shownAt, wordOf, granted, conWritten, controlWritten, registerWritten}
 use Rattle.model.specs.Exchange.{performed, exchange}
 use Rattle.bus.specs.Held.{slotOf, itemAt, row, held}
-use Rattle.bus.specs.Bus.{sends, sendOutput, sendModel, incoming, appended, deliverOf}
+use Rattle.bus.specs.Bus.{sends, sendOutput, sendModel, incoming, receives, appended, give, deliverOf}
 use Rattle.reach.specs.Bus.{stepped}
 use Rattle.reach.specs.Reach.{lived}
 use Rattle.history.specs.History.{answered, heard, settled, event, after}
@@ -57,10 +57,10 @@ pub computed : Sends × SendsNot
 unfolding c₀ lived exchange performed sent commandOf leBytes beBytes leAt beAt asked inRam inRange readAt writeAt registerAt
     registerWritten controlWritten granted withField reset ring.configured ring.controlled end room size stamped ring.depth
     ring.sending payloadOf base slotAt control ready edge status ring.place ring.shown ring.fresh ring.claimed ring.increased
-    ring.commanded shownAt wordOf conWritten part put zeroed isFifo lengthOf dlcOf word0 word1 headerOf padded objectBytes checkOf
+    ring.commanded shownAt wordOf conWritten part put zeroed isFifo lengthOf dlcOf word0 word1 received1 headerOf padded objectBytes checkOf arriving
     encoding messageIn decoding modified plan.arrivedAt plan.stepOf push.encodingFor push.startOf push.afterControl push.afterStatus
     push.afterAddress push.stepOf push.askOf push.outcomeOf requestStart reads.afterControl reads.afterStatus reads.afterAddress
     reads.afterHeader reads.toTime reads.toBody reads.afterAgain reads.afterTime fetch.heldOf fetch.stepOf fetch.askOf fetch.lentAt
     fetch.lentStart found.messageOf found.outcomeOf found.filled found.filledBy ofPlan ofPush ofFetch askOf stepOf outcomeOf filledBy
-    bodyOf slotOf itemAt row held sends sendOutput sendModel incoming appended deliverOf stepped answered heard settled event after
+    bodyOf slotOf itemAt row held sends sendOutput sendModel incoming receives appended give deliverOf stepped answered heard settled event after
 computed = (refl, (Outcome.Refused Refusal.SpiWrite, refl, refl, refl))

@@ -2,7 +2,7 @@
 -- Assumes nothing.
 use Prim.Native.Nat.{ℕ, _+_, _-_, _%_, _^_, _≤_, _<_, min}
 use mathlib.Core.Path.{_≡_, refl, sym, ap, _∙_, subst}
-use mathlib.Core.Bool.{Bool, true, false, _&&_}
+use mathlib.Core.Bool.{Bool, true, false, _&&_, not}
 use mathlib.Core.List.{List, [], _∷_}
 use native.Mathlib.Omega.{arith}
 use lib.ListN.{length, getD, take, length-take}
@@ -11,7 +11,8 @@ use Rattle.laws.specs.If.{if_then_else_}
 use Rattle.fifo.specs.Control.{payloadOf, isFifo}
 use Rattle.parts.specs.Parts.{put}
 use Rattle.header.specs.declared.Header.{Header}
-use Rattle.message.specs.Message.{Encoding, encoding}
+use Rattle.message.specs.declared.tx.Checked.{Checked}
+use Rattle.message.specs.Message.{checkOf}
 use Rattle.ring.specs.declared.ring.Fifo.{Fifo}
 use Rattle.ring.specs.Ring.{sending, depth, overflowed, sent}
 use Rattle.state.specs.declared.Model.{Model}
@@ -19,7 +20,7 @@ use Rattle.state.specs.Model.{fifoAt, frozenAt, withFifo, written}
 use Rattle.state.proofs.Store.{put-front, put-behind}
 use Rattle.bus.specs.declared.arrival.Delivered.{Delivered}
 use Rattle.bus.specs.Held.{slotOf}
-use Rattle.bus.specs.Bus.{sends, sendModel, incoming, appended, byEncoding, deliverOf}
+use Rattle.bus.specs.Bus.{sends, sendModel, receives, appended, give, byCheck, deliverOf}
 use Rattle.reach.specs.Bus.{Bus, Send, Deliver, stepped}
 use Rattle.history.specs.Demand.{buses, ButFor}
 use Rattle.history.proofs.Bytes.{length-put, put-inside, byte-before, byte-within, byte-behind}
@@ -124,22 +125,25 @@ module _ (a n : ℕ) where
     send-but j = rw (sends-same j) (by-both (ButFor a n) (isFifo j && sends c j) (fifo-but j (sent (frozenAt c j) (fifoAt c j))) same-but)
 
     appended-but : (j len : ℕ) (bs : List ℕ) → ButFor a n (appended c j len bs .model) (appended other j len bs .model)
-    unfolding appended slotOf
+    unfolding appended slotOf receives
     appended-but j len bs =
         by-both Told (c .fixed .configuring) same-but
-        (by-both Told (sending (frozenAt c j)) same-but
+        (by-both Told (not (receives c j)) same-but
         (by-both Told (ltb (payloadOf (frozenAt c j)) len) same-but
         (by-both Told (leb (depth (frozenAt c j)) (fifoAt c j .count)) (fifo-but j (overflowed true (fifoAt c j)))
         (near-but _ _ refl refl refl (stored-near (c .ram) r s (slotOf c j (fifoAt c j .count)) bs)))))
 
-    encoded-but : (x : Encoding) (j len : ℕ) → ButFor a n (byEncoding x c j len .model) (byEncoding x other j len .model)
-    encoded-but (Encoding.refused e) j len = same-but
-    encoded-but (Encoding.object bs) j len = appended-but j len bs
+    give-but : (j hit d : ℕ) (header : Header) (time : ℕ) (payload : List ℕ) → Told (give c j hit d header time payload) (give other j hit d header time payload)
+    unfolding give
+    give-but j hit d header time payload = appended-but j (length payload) _
 
-    deliver-but : (j : ℕ) (header : Header) (time : ℕ) (payload : List ℕ)
-        → ButFor a n (deliverOf c j header time payload .model) (deliverOf other j header time payload .model)
-    unfolding deliverOf incoming
-    deliver-but j header time payload = by-both Told (isFifo j) (encoded-but (encoding (incoming c j header time payload)) j (length payload)) same-but
+    checked-but : (x : Checked) (j : ℕ) (header : Header) (time : ℕ) (payload : List ℕ) → Told (byCheck x c j header time payload) (byCheck x other j header time payload)
+    checked-but (Checked.Bad e) j header time payload = same-but
+    checked-but (Checked.Dlc d) j header time payload = give-but j 0 d header time payload
+
+    deliver-but : (j : ℕ) (header : Header) (time : ℕ) (payload : List ℕ) → Told (deliverOf c j header time payload) (deliverOf other j header time payload)
+    unfolding deliverOf
+    deliver-but j header time payload = by-both Told (isFifo j) (checked-but (checkOf header 0 (length payload)) j header time payload) same-but
 
     step-near : (b : Bus) → ButFor a n (stepped b c) (stepped b other)
     unfolding stepped

@@ -17,7 +17,8 @@ use Rattle.field.specs.Settings.{_:=_, settings}
 use Rattle.field.proofs.Laws.{read-write}
 use Rattle.field.proofs.Sets.{off}
 use Rattle.fifo.specs.Control.{CiFIFOCON, UINC, TXREQ, FRESET, payloadOf, isFifo}
-use Rattle.message.specs.Message.{Encoding, encoding, Decoding}
+use Rattle.header.specs.declared.Header.{Header}
+use Rattle.message.specs.Message.{Decoding}
 use Rattle.plan.specs.Change.{modified}
 use Rattle.plan.proofs.Changes.{change-sets}
 use Rattle.transmit.specs.Transmit.{requestChange}
@@ -31,8 +32,9 @@ use Rattle.state.specs.Model.{fifoAt, frozenAt, withFifo}
 use Rattle.bank.specs.Registers.{wordOf, controlWritten}
 use Rattle.bus.specs.declared.arrival.Delivered.{Delivered}
 use Rattle.bus.specs.Held.{held}
-use Rattle.bus.specs.Bus.{sends, sendOutput, sendModel, incoming, appended, byEncoding, deliverOf}
+use Rattle.bus.specs.Bus.{sends, sendOutput, sendModel, give}
 use Rattle.bus.proofs.Laws.{oldest-sent}
+use Rattle.bus.proofs.Arriving.{by-deliver, by-give, receives-is}
 use Rattle.reach.specs.Bus.{Bus, Send, Deliver, stepped}
 use Rattle.history.specs.Command.{Command, Request, Transmit}
 use Rattle.history.specs.History.{Event, Begin, On, Said, idle, World, event, after}
@@ -72,25 +74,18 @@ module _ (n : ℕ) (c : Model) (o : Sound c) (q : Asked (Only n) c) where
   abbrev Well : Delivered → Type 0
   Well d = Asked (Only n) (d .model)
 
-  appended-asked : (k : ℕ) → isFifo k ≡ true → (len : ℕ) (object : List ℕ) → Well (appended c k len object)
-  unfolding appended claimed overflowed
-  appended-asked k i len object =
-      by-if Well (c .fixed .configuring) (λ e. q)
-      (λ e. by-if Well (sending (frozenAt c k)) (λ x. q)
-      (λ x. by-if Well (ltb (payloadOf (frozenAt c k)) len) (λ y. q)
-      (λ y. by-if Well (leb (depth (frozenAt c k)) (fifoAt c k .count))
-      (λ z. next-asked c o k i (overflowed true (fifoAt c k)) (Only n) q (q k))
-      (λ z. next-asked c o k i (claimed (fifoAt c k)) (Only n) q (q k)))))
-
-  coded-asked : (k : ℕ) → isFifo k ≡ true → (len : ℕ) (x : Encoding) → Well (byEncoding x c k len)
-  coded-asked k i len (Encoding.refused r) = q
-  coded-asked k i len (Encoding.object bs) = appended-asked k i len bs
+  give-asked : (k hit d : ℕ) (header : Header) (time : ℕ) (payload : List ℕ) → Well (give c k hit d header time payload)
+  unfolding claimed overflowed
+  give-asked k hit d header time payload =
+      by-give c k header time payload Well hit d (λ a. q) (λ a b. q) (λ a b x. q)
+      (λ a b x y. next-asked c o k (receives-is c k b .0) (overflowed true (fifoAt c k)) (Only n) q (q k))
+      (λ a b x y. next-asked c o k (receives-is c k b .0) (claimed (fifoAt c k)) (Only n) q (q k))
 
   bus-asked : (b : Bus) → (TakesLast n (On b) c → ⊥) → Asked (Only n) (stepped b c)
-  unfolding stepped deliverOf
+  unfolding stepped
   bus-asked (Send k) last = send-asked k last
   bus-asked (Deliver k header time payload) last =
-      by-if Well (isFifo k) (λ i. coded-asked k i (length payload) (encoding (incoming c k header (time % 2 ^ 32) payload))) (λ i. q)
+      by-deliver c k header (time % 2 ^ 32) payload Well (λ i. q) (λ i t. q) (λ i t d. q) (λ i t d e. give-asked k 0 d header (time % 2 ^ 32) payload)
 
 -- ---- any events of which none is
 

@@ -21,14 +21,14 @@ use Rattle.header.specs.declared.Header.{Header}
 use Rattle.message.specs.declared.object.Stamp.{Stamp}
 use Rattle.message.specs.declared.tx.Checked.{Checked}
 use Rattle.header.specs.Dlc.{dlcOf, lengthOf}
-use Rattle.header.specs.Header.{DLC, FDF, SEQ, topId, word0, word1, headerOf}
+use Rattle.header.specs.Header.{DLC, FDF, SEQ, FILHIT, topId, word0, word1, received1, headerOf}
 use Rattle.message.specs.Object.{stampBytes, padded, objectBytes}
-use Rattle.message.specs.Message.{Message, checkOf, object, coded, encoding, Decoding, holds, bodyAt, messageIn, byLength, decoding}
+use Rattle.message.specs.Message.{Message, checkOf, object, coded, encoding, arriving, Decoding, holds, bodyAt, messageIn, byLength, decoding}
 use Rattle.message.specs.Numbers.{decodingNumbers}
-use Rattle.message.specs.Laws.{Stamped, RoundTrip, meaningful, Back, Lengths, Refuses, Refuses23}
+use Rattle.message.specs.Laws.{Stamped, RoundTrip, ArrivalTrip, ArrivalFilter, meaningful, Back, Lengths, Refuses, Refuses23}
 use Rattle.header.proofs.Dlcs.{length-back, dlc-back, dlc-16, payload-le}
-use Rattle.message.proofs.Checks.{sound}
-use Rattle.header.proofs.Fields.{word0-lt, word1-lt, dlc-field, seq-field, fdf-flag, header-back, header-small, header-fdf, word0-again, word1-again}
+use Rattle.message.proofs.Checks.{Sound, sound}
+use Rattle.header.proofs.Fields.{word0-lt, Second, word1-says, seq-field, received1-says, hit-field, header-small, header-fdf, word0-again, word1-again}
 
 -- ---- a message that is not refused
 
@@ -113,23 +113,39 @@ module _ (sending : Bool) (w₀ w₁ : ℕ) (p : List ℕ) (hl : lengthOf (flag 
     by-stamp false (Stamp.At t) h = absurd h
     by-stamp false Stamp.None h = without
 
+-- every field comes back where the second word says the header and SEQ
+returns : (sending stamped : Bool) (m : Message) (dlc w : ℕ) (r : List ℕ) → Sound (m .header) (m .seq) (length (m .payload)) dlc
+    → Second (m .header) dlc w → (if sending then read SEQ w else 0) ≡ m .seq → Stamped stamped (m .stamp)
+    → decoding sending stamped (objectBytes (word0 (m .header)) w (m .stamp) (m .payload) ++ r) ≡ holds m
+returns sending stamped m dlc w r g k sq st =
+    let h : Header = m .header in
+    let len : lengthOf (flag FDF w) (read DLC w) ≡ Length.Is (length (m .payload))
+    = ap₂ lengthOf (k .fdf-is) (k .dlc-is) ∙ length-back (h .fdf) (length (m .payload)) dlc (g .dlc) in
+    let hd : headerOf (word0 h) w ≡ h = k .header-is (g .id) in
+    by-stamp sending (word0 h) w (m .payload) len (word0-lt h (g .id)) (k .small) r stamped (m .stamp) st
+    ∙ (λ i. holds (record { header = hd i; seq = sq i; stamp = m .stamp; payload = m .payload }))
+
 pub round-trip : RoundTrip
 round-trip sending stamped m bs r e s =
-    let h : Header = m .header in
     let c = is-coded m bs e in
-    let g = sound h (m .seq) (length (m .payload)) (c .dlc) (c .checked) in
-    let small = dlc-16 (h .fdf) (length (m .payload)) (c .dlc) (g .dlc) in
-    let w₀ : ℕ = word0 h in
-    let w₁ : ℕ = word1 h (m .seq) (c .dlc) in
-    let len : lengthOf (flag FDF w₁) (read DLC w₁) ≡ Length.Is (length (m .payload))
-    = ap₂ lengthOf (fdf-flag h (m .seq) (c .dlc) small (g .seq-fits)) (dlc-field h (m .seq) (c .dlc) small (g .seq-fits))
-    ∙ length-back (h .fdf) (length (m .payload)) (c .dlc) (g .dlc) in
-    let hd : headerOf w₀ w₁ ≡ h = header-back h (m .seq) (c .dlc) small (g .seq-fits) (g .id) in
-    let sq : (if sending then read SEQ w₁ else 0) ≡ m .seq
-    = ap (λ (x : ℕ). if sending then x else 0) (seq-field h (m .seq) (c .dlc) small (g .seq-fits)) ∙ s .seq in
+    let g = sound (m .header) (m .seq) (length (m .payload)) (c .dlc) (c .checked) in
+    let small = dlc-16 (m .header .fdf) (length (m .payload)) (c .dlc) (g .dlc) in
     ap (λ (b : List ℕ). decoding sending stamped (b ++ r)) (sym (c .bytes))
-    ∙ by-stamp sending w₀ w₁ (m .payload) len (word0-lt h (g .id)) (word1-lt h (m .seq) (c .dlc) small (g .seq-fits)) r stamped (m .stamp) (s .stamp)
-    ∙ (λ i. holds (record { header = hd i; seq = sq i; stamp = m .stamp; payload = m .payload }))
+    ∙ returns sending stamped m (c .dlc) (word1 (m .header) (m .seq) (c .dlc)) r g (word1-says (m .header) (c .dlc) small (m .seq) (g .seq-fits))
+    (ap (λ (x : ℕ). if sending then x else 0) (seq-field (m .header) (c .dlc) small (m .seq) (g .seq-fits)) ∙ s .seq) (s .stamp)
+
+pub arrival-trip : ArrivalTrip
+unfolding arriving
+arrival-trip stamped m dlc hit r e l s =
+    let g = sound (m .header) (m .seq) (length (m .payload)) dlc e in
+    let small = dlc-16 (m .header .fdf) (length (m .payload)) dlc (g .dlc) in
+    returns false stamped m dlc (received1 (m .header) dlc hit) r g (received1-says (m .header) dlc small hit l) (s .seq) (s .stamp)
+
+pub arrival-filter : ArrivalFilter
+unfolding arriving objectBytes leBytes
+arrival-filter h dlc hit stamp payload r small l =
+    let b : List ℕ = arriving h dlc hit stamp payload ++ r in
+    ap (read FILHIT) (le-drop b 4 ∙ le-back (received1 h dlc hit) (drop 8 b) (received1-says h dlc small hit l .small)) ∙ hit-field h dlc small hit l
 
 -- ---- from bytes
 
@@ -155,7 +171,7 @@ is-held sending stamped b m =
     go Length.Bad f = λ e. let z : _≡_ {A = ℕ} 0 1 = cc in absurd (omega arith)
 
 -- a message that meets no refusal
-accepted : (h : Header) (seq n d : ℕ) → h .id ≤ topId (h .extended) → seq < 2 ^ 23 → dlcOf (h .fdf) n ≡ Dlc.Is d → checkOf h seq n ≡ Checked.Dlc d
+pub accepted : (h : Header) (seq n d : ℕ) → h .id ≤ topId (h .extended) → seq < 2 ^ 23 → dlcOf (h .fdf) n ≡ Dlc.Is d → checkOf h seq n ≡ Checked.Dlc d
 unfolding checkOf
 accepted h seq n d i s e = rw (le-ltb (topId (h .extended)) (h .id) i, lt-leb (2 ^ 23) seq s, e)
 

@@ -10,11 +10,13 @@ use Rattle.laws.specs.If.{if_then_else_}
 use Rattle.field.specs.Field.{read, flag}
 use Rattle.words.specs.Words.{leAt, roundUp}
 use Rattle.header.specs.declared.dlc.Dlc.{Dlc}
+use Rattle.header.specs.declared.Header.{Header}
 use Rattle.message.specs.declared.object.Stamp.{Stamp}
+use Rattle.message.specs.declared.tx.Checked.{Checked}
 use Rattle.header.specs.Dlc.{dlcOf}
-use Rattle.header.specs.Header.{DLC, IDE, FDF, topId, meaning0, meaning1}
+use Rattle.header.specs.Header.{DLC, IDE, FDF, FILHIT, topId, meaning0, meaning1}
 use Rattle.message.specs.Object.{stampBytes, objectBytes}
-use Rattle.message.specs.Message.{Message, object, encoding, holds, decoding, bodyAt}
+use Rattle.message.specs.Message.{Message, checkOf, object, encoding, arriving, holds, decoding, bodyAt}
 use Rattle.message.specs.Numbers.{encodingNumbers, decodingNumbers}
 
 -- a timestamp is a word, and is there exactly where RXTSEN is 1
@@ -33,6 +35,18 @@ pub record Suits (sending stamped : Bool) (m : Message) : Type 0 where
 abbrev pub RoundTrip : Type 0
 RoundTrip =
     (sending stamped : Bool) (m : Message) (bs r : List ℕ) → encoding m ≡ object bs → Suits sending stamped m → decoding sending stamped (bs ++ r) ≡ holds m
+
+-- so it does from the object of a frame that arrived, whichever filter took it
+abbrev pub ArrivalTrip : Type 0
+ArrivalTrip =
+    (stamped : Bool) (m : Message) (dlc hit : ℕ) (r : List ℕ) → checkOf (m .header) (m .seq) (length (m .payload)) ≡ Checked.Dlc dlc → hit < 32
+    → Suits false stamped m → decoding false stamped (arriving (m .header) dlc hit (m .stamp) (m .payload) ++ r) ≡ holds m
+
+-- and FILHIT of its word 1 is that filter's number
+abbrev pub ArrivalFilter : Type 0
+ArrivalFilter =
+    (h : Header) (dlc hit : ℕ) (stamp : Stamp) (payload r : List ℕ) → dlc < 16 → hit < 32
+    → read FILHIT (leAt (arriving h dlc hit stamp payload ++ r) 4) ≡ hit
 
 -- the object with a payload of n bytes that bytes hold: 0 for every bit without a meaning, and nothing behind it
 abbrev pub meaningful : (sending stamped : Bool) → ℕ → List ℕ → List ℕ
@@ -72,6 +86,8 @@ Refuses23 =
 -- all of them
 pub record Laws : Type 0 where
   pub roundTrip : RoundTrip
+  pub arrivalTrip : ArrivalTrip
+  pub arrivalFilter : ArrivalFilter
   pub back : Back
   pub lengths : Lengths
   pub refuses : Refuses

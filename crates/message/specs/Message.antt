@@ -15,7 +15,7 @@ use Rattle.header.specs.declared.Header.{Header}
 use Rattle.message.specs.declared.object.Stamp.{Stamp}
 use Rattle.message.specs.declared.tx.Checked.{Checked}
 use Rattle.header.specs.Dlc.{dlcOf, lengthOf}
-use Rattle.header.specs.Header.{DLC, FDF, SEQ, topId, word0, word1, headerOf}
+use Rattle.header.specs.Header.{DLC, FDF, SEQ, topId, word0, word1, received1, headerOf}
 use Rattle.message.specs.Object.{objectBytes}
 
 -- SEQ is 0 in a message received; a timestamp is only in one received with RXTSEN at 1
@@ -51,6 +51,10 @@ coded (Checked.Bad r) m = refused r
 -- the object of a message that meets no refusal
 unfoldable pub encoding : Message → Encoding
 encoding m = coded (checkOf (m .header) (m .seq) (length (m .payload))) m
+
+-- the object of a frame that a filter took
+unfoldable pub arriving : Header → (dlc hit : ℕ) → Stamp → List ℕ → List ℕ
+arriving h dlc hit stamp payload = objectBytes (word0 h) (received1 h dlc hit) stamp payload
 
 -- ---- from an object's bytes to its message
 

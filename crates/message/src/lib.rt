@@ -1,8 +1,10 @@
 // Messages, and the objects that they are in RAM.
+mod arrived;
 mod object;
 mod rx;
 mod tx;
 
+pub use arrived::arrive;
 pub use object::Stamp;
 pub use object::clear;
 pub use rx::Decoded;
@@ -10,5 +12,7 @@ pub use rx::Frame;
 pub use rx::Payload;
 pub use rx::Reading;
 pub use rx::decode;
+pub use tx::Checked;
 pub use tx::Written;
+pub use tx::check;
 pub use tx::encode;

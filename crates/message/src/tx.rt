@@ -31,7 +31,7 @@ fn top_id(extended: bool) -> u32
 }
 
 // The DLC of a message with a payload of n bytes, or its refusal.
-fn check(h: Header, seq: u32, n: usize) -> Checked
+pub fn check(h: Header, seq: u32, n: usize) -> Checked
     ensures { λ r. ⌜ r ≡ checkOf h seq n ⌝ }
 {
     if top_id(h.extended) < h.id {

@@ -17,7 +17,10 @@ use Rattle.configuration.specs.CanControl.{REQOP}
 use Rattle.fifo.specs.Control.{TXEN, TXREQ, payloadOf, isFifo, CiFIFOCON}
 use Rattle.fifo.specs.Status.{RXOVIF}
 use Rattle.header.specs.declared.Header.{Header}
-use Rattle.message.specs.Message.{Encoding, encoding, Decoding, holds}
+use Rattle.header.specs.Header.{topId}
+use Rattle.message.specs.declared.tx.Checked.{Checked}
+use Rattle.message.specs.Message.{checkOf, arriving, Decoding, holds}
+use Rattle.message.proofs.Round.{accepted}
 use Rattle.operation.specs.declared.place.Register.{Register}
 use Rattle.operation.specs.declared.operation.Operation.{Operation}
 use Rattle.operation.specs.Operation.{asked}
@@ -34,9 +37,9 @@ use Rattle.model.specs.Exchange.{performed, exchange}
 use Rattle.bus.specs.declared.arrival.Delivery.{Delivery}
 use Rattle.bus.specs.declared.arrival.Delivered.{Delivered}
 use Rattle.bus.specs.Held.{itemAt, row, held}
-use Rattle.bus.specs.Bus.{nothing, outputOf, sends, sendOutput, sendModel, incoming, appended, byEncoding, deliverOf}
+use Rattle.bus.specs.Bus.{nothing, outputOf, sends, sendOutput, sendModel, stampFor, incoming, give}
 use Rattle.bus.proofs.Laws.{oldest-sent, held-length}
-use Rattle.bus.proofs.Arriving.{by-deliver, by-appended, clash}
+use Rattle.bus.proofs.Arriving.{by-deliver, by-give, receives-is, clash}
 use Rattle.reach.specs.Bus.{Bus, Send, Deliver, stepped}
 use Rattle.reach.specs.Reach.{Happening, Exchange, On, happens, lived, Reached, Valid}
 use Rattle.reach.specs.Chip.{Requested, SendTakes, SendKeeps, SendInside, DeliverAppends, FullOverflows, Entered, Entering, Resetting, InsideEmpty, OpmodExactly}
@@ -44,7 +47,7 @@ use Rattle.reach.specs.Chip.{StatusReads}
 use Rattle.reach.proofs.Kept.{at-replicate, turned-at, always-valid}
 use Rattle.reach.proofs.Sound.{Sound}
 use Rattle.reach.proofs.Slots.{fifo-told, filled, filled-held, filled-item, filled-sound, next-fifo, more-held}
-use Rattle.reach.proofs.Arrivals.{coming-suits, coming-fits}
+use Rattle.reach.proofs.Arrivals.{coming-fits, coming-back}
 
 -- ---- what is held
 
@@ -156,30 +159,29 @@ module _ (m : Model) (r : Reached m) (n : ℕ) (header : Header) (time : ℕ) (p
   Appends x =
       x .delivery ≡ Delivery.Delivered → held (x .model) k ≡ held m k ++ (if eqb n k then holds (incoming m n header time payload) ∷ [] else [])
 
-  -- an object that fits is put behind those held
-  puts : isFifo n ≡ true → (bs : List ℕ) → encoding (incoming m n header time payload) ≡ Encoding.object bs → Appends (appended m n (length payload) bs)
+  -- a frame that is delivered is put behind those held
+  gives : (hit d : ℕ) → hit < 32 → checkOf header 0 (length payload) ≡ Checked.Dlc d → Appends (give m n hit d header time payload)
   unfolding claimed
-  puts i bs e =
-      by-appended m n header time payload Appends bs
+  gives hit d l e =
+      by-give m n header time payload Appends hit d
       (λ a. other _ _ _ (λ z. omega arith)) (λ a b. other _ _ _ (λ z. omega arith)) (λ a b c. other _ _ _ (λ z. omega arith))
-      (λ a b c d. other _ _ _ (λ z. omega arith))
-      (λ a b c d z.
+      (λ a b c f. other _ _ _ (λ z. omega arith))
+      (λ a b c f z.
+      let (i, t) = receives-is m n b in
       let s : Sound m = record { valid = always-valid m r; out = a } in
-      let free : fifoAt m n .count < depth (frozenAt m n) = leb-false (depth (frozenAt m n)) (fifoAt m n .count) d in
-      let fits = coming-fits m n header time payload bs e (ltb-false (payloadOf (frozenAt m n)) (length payload) c) in
-      let item = filled-item m s n i free bs fits (incoming m n header time payload) e (coming-suits m n header time payload small) in
+      let free : fifoAt m n .count < depth (frozenAt m n) = leb-false (depth (frozenAt m n)) (fifoAt m n .count) f in
+      let bs = arriving header d hit (stampFor m n time) payload in
+      let fits = coming-fits m n header time payload hit d (ltb-false (payloadOf (frozenAt m n)) (length payload) c) in
+      let item = filled-item m s n i free bs fits (incoming m n header time payload) (coming-back m n header time payload small t hit d l e) in
       sym (more-held (filled m n bs) (filled-sound m s n i free bs fits) n i (claimed (fifoAt m n)) refl refl k)
       ∙ ap₂ (λ (l : List Decoding) (x : Decoding). l ++ (if eqb n k then x ∷ [] else [])) (filled-held m s n i free bs fits k) item)
 
-  arrives : isFifo n ≡ true → (x : Encoding) → encoding (incoming m n header time payload) ≡ x → Appends (byEncoding x m n (length payload))
-  arrives i (Encoding.refused f) e = other _ _ _ (λ z. omega arith)
-  arrives i (Encoding.object bs) e = puts i bs e
-
 pub deliver-appends : DeliverAppends
-unfolding deliverOf
 deliver-appends m r n header time payload small e k =
-    by-if (Appends m r n header time payload small k) (isFifo n)
-    (λ i. arrives m r n header time payload small k i (encoding (incoming m n header time payload)) refl) (λ i. other _ _ _ (λ z. omega arith)) e
+    by-deliver m n header time payload (Appends m r n header time payload small k)
+    (λ i. other _ _ _ (λ z. omega arith)) (λ i t. other _ _ _ (λ z. omega arith)) (λ i t d. other _ _ _ (λ z. omega arith))
+    (λ i t d f. gives m r n header time payload small k 0 d (omega arith) (accepted header 0 (length payload) d (ltb-false (topId (header .extended)) (header .id) t) (omega arith) f))
+    e
 
 -- bit 3, by computing
 bit-3 : (a b : Bool) → read RXOVIF (digit a + 4 * digit b + 8 * 1) ≡ 1
@@ -192,20 +194,27 @@ over-reads : (v : ℕ) (f : Fifo) → sending v ≡ false → f .over ≡ true �
 over-reads v f e o =
     ap (read RXOVIF) (status-bits v f ∙ rw (e, o)) ∙ bit-3 (ltb 0 (f .count)) (leb (depth v) (f .count))
 
+module _ (m : Model) (r : Reached m) (n : ℕ) (header : Header) (time : ℕ) (payload : List ℕ) where
+  abbrev Overflows : Delivered → Type 0
+  Overflows x = x .delivery ≡ Delivery.Full → read RXOVIF (wordOf (x .model) (Register.Status n)) ≡ 1
+
+  give-full : (hit d : ℕ) → Overflows (give m n hit d header time payload)
+  unfolding wordOf overflowed
+  give-full hit d =
+      by-give m n header time payload Overflows hit d
+      (λ a. other _ _ _ (λ z. omega arith)) (λ a b. other _ _ _ (λ z. omega arith)) (λ a b c. other _ _ _ (λ z. omega arith))
+      (λ a b c g q.
+      let s : Sound m = record { valid = always-valid m r; out = a } in
+      let (i, t) = receives-is m n b in
+      let h : Fifo = overflowed true (fifoAt m n) in
+      rw a (over-reads (frozenAt m n) (fifoAt (withFifo m n h) n) t (ap (λ (x : Fifo). x .over) (next-fifo m s n i h))))
+      (λ a b c g. other _ _ _ (λ z. omega arith))
+
 pub full-overflows : FullOverflows
-unfolding wordOf overflowed
-full-overflows m r n header time payload e =
-    let P : Delivered → Type 0 = λ x. x .delivery ≡ Delivery.Full → read RXOVIF (wordOf (x .model) (Register.Status n)) ≡ 1 in
-    by-deliver m n header time payload P
+full-overflows m r n header time payload =
+    by-deliver m n header time payload (Overflows m r n header time payload)
     (λ i. other _ _ _ (λ z. omega arith)) (λ i t. other _ _ _ (λ z. omega arith)) (λ i t d. other _ _ _ (λ z. omega arith))
-    (λ i t d f bs. by-appended m n header time payload P bs
-    (λ a. other _ _ _ (λ z. omega arith)) (λ a b. other _ _ _ (λ z. omega arith)) (λ a b c. other _ _ _ (λ z. omega arith))
-    (λ a b c g q.
-    let s : Sound m = record { valid = always-valid m r; out = a } in
-    let h : Fifo = overflowed true (fifoAt m n) in
-    rw a (over-reads (frozenAt m n) (fifoAt (withFifo m n h) n) b (ap (λ (x : Fifo). x .over) (next-fifo m s n i h))))
-    (λ a b c g. other _ _ _ (λ z. omega arith)))
-    e
+    (λ i t d f. give-full m r n header time payload 0 d)
 
 -- ---- Configuration
 
@@ -290,7 +299,7 @@ module _ (m : Model) (h : Outside m) where
   bus-outside (Deliver n header time payload) =
       let P : Delivered → Type 0 = λ x. Outside (x .model) in
       by-deliver m n header (time % 2 ^ 32) payload P (λ i. h) (λ i t. h) (λ i t d. h)
-      (λ i t d e bs. by-appended m n header (time % 2 ^ 32) payload P bs (λ a. h) (λ a b. h) (λ a b c. h) (λ a b c f. h) (λ a b c f. h))
+      (λ i t d e. by-give m n header (time % 2 ^ 32) payload P 0 d (λ a. h) (λ a b. h) (λ a b c. h) (λ a b c f. h) (λ a b c f. h))
 
   happens-outside : (x : Happening) → Outside (happens x m)
   unfolding exchange

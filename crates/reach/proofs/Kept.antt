@@ -16,12 +16,13 @@ use Rattle.configuration.specs.CanControl.{REQOP, TXQEN, STEF}
 use Rattle.fifo.specs.Control.{payloadOf, isFifo, CiFIFOCON}
 use Rattle.fifo.specs.Status.{RXOVIF}
 use Rattle.header.specs.declared.Header.{Header}
-use Rattle.message.specs.Message.{Encoding, encoding}
+use Rattle.message.specs.declared.tx.Checked.{Checked}
+use Rattle.message.specs.Message.{checkOf}
 use Rattle.operation.specs.declared.place.Register.{Register}
 use Rattle.operation.specs.declared.operation.Operation.{Operation}
 use Rattle.operation.specs.Operation.{asked}
 use Rattle.ring.specs.declared.ring.Fifo.{Fifo}
-use Rattle.ring.specs.Ring.{sending, depth, fresh, emptied, controlled, overflowed, turned}
+use Rattle.ring.specs.Ring.{depth, fresh, emptied, controlled, overflowed, turned}
 use Rattle.ring.specs.Layout.{end}
 use Rattle.state.specs.declared.Fixed.{Fixed}
 use Rattle.state.specs.declared.Setup.{Setup}
@@ -32,7 +33,7 @@ use Rattle.bank.specs.Registers.{granted, conSet, turnedAll, conWritten, frozen
 use Rattle.model.specs.Exchange.{performed, exchange}
 use Rattle.bus.specs.declared.arrival.Delivered.{Delivered}
 use Rattle.bus.specs.Held.{slotOf}
-use Rattle.bus.specs.Bus.{sends, sendModel, incoming, appended, byEncoding, deliverOf}
+use Rattle.bus.specs.Bus.{sends, sendModel, receives, appended, give, byCheck, deliverOf}
 use Rattle.bus.proofs.Laws.{sends-one}
 use Rattle.reach.specs.Bus.{Bus, Send, Deliver, stepped}
 use Rattle.reach.specs.Reach.{Happening, Exchange, On, happens, lived, InOrder, Valid, AlwaysValid}
@@ -235,7 +236,7 @@ module _ (m : Model) (v : Valid m) (n : ℕ) where
   append-valid len bs =
       let P : Delivered → Type 0 = λ d. Valid (d .model) in
       by-if P (m .fixed .configuring) (λ e. v)
-      (λ c. by-if P (sending (frozenAt m n)) (λ e. v)
+      (λ c. by-if P (not (receives m n)) (λ e. v)
       (λ e. by-if P (ltb (payloadOf (frozenAt m n)) len) (λ e. v)
       (λ e. by-if P (leb (depth (frozenAt m n)) (fifoAt m n .count))
       (λ e. with-over m v n true)
@@ -243,14 +244,18 @@ module _ (m : Model) (v : Valid m) (n : ℕ) where
       let free : fifoAt m n .count < depth (frozenAt m n) = leb-false (depth (frozenAt m n)) (fifoAt m n .count) e in
       with-fifo _ (with-bytes m v (slotOf m n (fifoAt m n .count)) bs) false c n _ (claimed-order _ (fifoAt m n) (in-mode m v false c n) free)))))
 
-  encoded-valid : (x : Encoding) (len : ℕ) → Valid (byEncoding x m n len .model)
-  encoded-valid (Encoding.refused r) len = v
-  encoded-valid (Encoding.object bs) len = append-valid len bs
+  give-valid : (hit d : ℕ) (header : Header) (time : ℕ) (payload : List ℕ) → Valid (give m n hit d header time payload .model)
+  unfolding give
+  give-valid hit d header time payload = append-valid (length payload) _
+
+  checked-valid : (x : Checked) (header : Header) (time : ℕ) (payload : List ℕ) → Valid (byCheck x m n header time payload .model)
+  checked-valid (Checked.Bad r) header time payload = v
+  checked-valid (Checked.Dlc d) header time payload = give-valid 0 d header time payload
 
   deliver-valid : (header : Header) (time : ℕ) (payload : List ℕ) → Valid (deliverOf m n header time payload .model)
   unfolding deliverOf
   deliver-valid header time payload =
-      by-if (λ (d : Delivered). Valid (d .model)) (isFifo n) (λ e. encoded-valid (encoding (incoming m n header time payload)) (length payload)) (λ e. v)
+      by-if (λ (d : Delivered). Valid (d .model)) (isFifo n) (λ e. checked-valid (checkOf header 0 (length payload)) header time payload) (λ e. v)
 
 pub bus-valid : (b : Bus) (m : Model) → Valid m → Valid (stepped b m)
 unfolding stepped

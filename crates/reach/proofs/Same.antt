@@ -15,7 +15,9 @@ use Rattle.configuration.specs.CanControl.{REQOP, TXQEN, STEF}
 use Rattle.fifo.specs.Control.{RXTSEN, TXEN, UINC, TXREQ, FRESET, FSIZE, PLSIZE, payloads, payloadOf, isFifo}
 use Rattle.fifo.specs.Status.{RXOVIF}
 use Rattle.header.specs.declared.Header.{Header}
-use Rattle.message.specs.Message.{Message, Encoding, encoding}
+use Rattle.message.specs.declared.object.Stamp.{Stamp}
+use Rattle.message.specs.declared.tx.Checked.{Checked}
+use Rattle.message.specs.Message.{checkOf, arriving}
 use Rattle.operation.specs.declared.place.Register.{Register}
 use Rattle.operation.specs.declared.operation.Operation.{Operation}
 use Rattle.operation.specs.Operation.{asked}
@@ -31,7 +33,7 @@ use Rattle.bank.specs.Registers.{shownAt, wordOf, granted, conSet, turnedAll, c
 use Rattle.model.specs.Exchange.{received, noLayout, checkedBytes, performed, exchange}
 use Rattle.bus.specs.declared.arrival.Delivered.{Delivered}
 use Rattle.bus.specs.Held.{slotOf, itemAt}
-use Rattle.bus.specs.Bus.{Output, outputOf, sends, sendOutput, sendModel, incoming, appended, byEncoding, deliverOf}
+use Rattle.bus.specs.Bus.{Output, outputOf, sends, sendOutput, sendModel, receives, appended, give, byCheck, deliverOf}
 use Rattle.reach.specs.Bus.{Send, Deliver, stepped}
 use Rattle.reach.specs.Reach.{Happening, Exchange, On, happens}
 use Rattle.reach.specs.Twins.{SameFifo, Same, Reads}
@@ -412,6 +414,10 @@ module _ (W : ℕ → ℕ → Type 0) (z : Blind W) where
       abbrev SameDelivered : Delivered → Delivered → Type 0
       SameDelivered x y = (x .delivery ≡ y .delivery) × Same C W (x .model) (y .model)
 
+      receives-like : (n : ℕ) → receives c n ≡ receives d n
+      unfolding receives
+      receives-like n = ap (λ (b : Bool). isFifo n && not b) (sending-like _ _ (t .frozen n))
+
       appended-like : (n len : ℕ) (bs : List ℕ) → SameDelivered (appended c n len bs) (appended d n len bs)
       unfolding appended
       appended-like n len bs =
@@ -419,28 +425,29 @@ module _ (W : ℕ → ℕ → Type 0) (z : Blind W) where
           let a = t .frozen n in
           let s = t .fifo n in
           by-ifs P _ _ (t .configuring) (refl, t)
-          (by-ifs P _ _ (sending-like _ _ a) (refl, t)
+          (by-ifs P _ _ (ap not (receives-like n)) (refl, t)
           (by-ifs P _ _ (ap (λ (x : ℕ). ltb x len) (payload-like _ _ a)) (refl, t)
           (by-ifs P _ _ (ap₂ leb (depth-like _ _ a) (s .count)) (refl, with-fifo c d t n _ _ (overflowed-like _ _ s true))
           (refl, with-fifo _ _ (with-bytes c d t _ _ bs (ap (slotOf c n) (s .count) ∙ slots-like n _)) n _ _ (claimed-like _ _ a _ _ s)))))
 
-      encoded-like : (x : Encoding) (n len : ℕ) → SameDelivered (byEncoding x c n len) (byEncoding x d n len)
-      encoded-like (Encoding.refused r) n len = (refl, t)
-      encoded-like (Encoding.object bs) n len = appended-like n len bs
+      give-like : (n hit k : ℕ) (header : Header) (time : ℕ) (payload : List ℕ)
+          → SameDelivered (give c n hit k header time payload) (give d n hit k header time payload)
+      unfolding give
+      give-like n hit k header time payload =
+          let bs : Bool → List ℕ = λ b. arriving header k hit (if b then Stamp.At time else Stamp.None) payload in
+          subst (λ (b : Bool). SameDelivered (give c n hit k header time payload) (appended d n (length payload) (bs b)))
+          (stamped-like _ _ (t .frozen n)) (appended-like n (length payload) _)
 
-      incoming-like : (n : ℕ) (header : Header) (time : ℕ) (payload : List ℕ) → incoming c n header time payload ≡ incoming d n header time payload
-      unfolding incoming
-      incoming-like n header time payload = rw (stamped-like _ _ (t .frozen n))
+      checked-like : (x : Checked) (n : ℕ) (header : Header) (time : ℕ) (payload : List ℕ)
+          → SameDelivered (byCheck x c n header time payload) (byCheck x d n header time payload)
+      checked-like (Checked.Bad r) n header time payload = (refl, t)
+      checked-like (Checked.Dlc k) n header time payload = give-like n 0 k header time payload
 
       pub delivers-like : (n : ℕ) (header : Header) (time : ℕ) (payload : List ℕ)
           → SameDelivered (deliverOf c n header time payload) (deliverOf d n header time payload)
       unfolding deliverOf
       delivers-like n header time payload =
-          let len = length payload in
-          by-ifs SameDelivered (isFifo n) _ refl
-          (subst (λ (m : Message). SameDelivered (byEncoding (encoding (incoming c n header time payload)) c n len) (byEncoding (encoding m) d n len))
-          (incoming-like n header time payload) (encoded-like (encoding (incoming c n header time payload)) n len))
-          (refl, t)
+          by-ifs SameDelivered (isFifo n) _ refl (checked-like (checkOf header 0 (length payload)) n header time payload) (refl, t)
 
       pub happens-like : (x : Happening) → Same C W (happens x c) (happens x d)
       unfolding exchange stepped

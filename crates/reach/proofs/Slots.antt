@@ -16,9 +16,7 @@ use Rattle.laws.proofs.Table.{both}
 use Rattle.parts.specs.Parts.{part, put}
 use Rattle.field.specs.Field.{read}
 use Rattle.fifo.specs.Control.{TXREQ, isFifo}
-use Rattle.message.specs.Message.{Message, Encoding, encoding, Decoding, holds, decoding}
-use Rattle.message.specs.Laws.{Suits}
-use Rattle.message.proofs.Round.{round-trip}
+use Rattle.message.specs.Message.{Message, Decoding, holds, decoding}
 use Rattle.ring.specs.declared.ring.Fifo.{Fifo}
 use Rattle.ring.specs.Ring.{sending, depth, place}
 use Rattle.ring.specs.Layout.{stamped, size}
@@ -178,15 +176,15 @@ module _ (c : Model) (s : Sound c) (n : ℕ) (h : isFifo n ≡ true) (free : fif
       (λ i k l. filled-part j k i (omega (arith, s .valid .fifo j .count)) (λ e g. let l′ : k < fifoAt c n .count = rw e at l in omega arith))
 
   -- what is written into the free slot is what it decodes to
-  pub filled-item : (m : Message) → encoding m ≡ Encoding.object bs → Suits (sending (frozenAt c n)) (stamped (frozenAt c n)) m
+  pub filled-item : (m : Message) → ((r : List ℕ) → decoding (sending (frozenAt c n)) (stamped (frozenAt c n)) (bs ++ r) ≡ holds m)
       → itemAt (filled c n bs) n (fifoAt c n .count) ≡ holds m
   unfolding itemAt slotOf
-  filled-item m e g =
+  filled-item m back =
       let inside : slotOf c n (fifoAt c n .count) + length bs ≤ length (c .ram) = omega (arith, free-inside) in
       ap (λ (r : List ℕ). decoding (sending (frozenAt c n)) (stamped (frozenAt c n)) (part r (slotOf c n (fifoAt c n .count)) (size (frozenAt c n))))
       (put-inside (c .ram) (slotOf c n (fifoAt c n .count)) bs inside)
       ∙ ap (decoding (sending (frozenAt c n)) (stamped (frozenAt c n))) (part-same (c .ram) (slotOf c n (fifoAt c n .count)) bs inside (size (frozenAt c n)) fits)
-      ∙ round-trip (sending (frozenAt c n)) (stamped (frozenAt c n)) m bs _ e g
+      ∙ back _
 
   pub filled-sound : Sound (filled c n bs)
   filled-sound =

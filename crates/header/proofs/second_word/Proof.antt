@@ -7,7 +7,4 @@ use Rattle.header.proofs.second_word.Tie as tie
 
 pub second-word-spec : {M : Type 1} → statement M
 unfolding word1
-second-word-spec =
-    tie.close
-    (tie.spec (search needs) (search needs) (search needs) (search needs) (search needs) (search needs) (search needs)
-    (λ c. rw (c .set2 .ensures, c .before .set-bit5 .ensures, c .before .before .set-bit4 .ensures, c .before .before .before .set-bit3 .ensures, c .before .before .before .before .set-bit2 .ensures, c .before .before .before .before .before .set-bit .ensures, c .before .before .before .before .before .before .set .ensures)))
+second-word-spec = tie.close (tie.spec (search needs) (search needs) (λ c. rw (c .set .ensures, c .before .kind-word .ensures)))
