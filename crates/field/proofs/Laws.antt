@@ -8,9 +8,9 @@ use native.Mathlib.Nat.{mod-lt, lt-of-le-of-lt}
 use native.Mathlib.Omega.{arith}
 use lib.Pow.{pow-pos, high, low, split, shr-shr, field, mod-mod-pow}
 use lib.Bits.{or-lt, and-le-l}
-use lib.Dec.{leb}
+use lib.Dec.{leb, eqb, lit<}
 use borrow.Author.Tests.{leb-true}
-use Rattle.field.specs.Field.{fieldOf, withField, Field, place, read, write, Fits, apart}
+use Rattle.field.specs.Field.{fieldOf, withField, Field, place, read, write, digit, Fits, apart}
 use Rattle.field.proofs.Masks.{set-is}
 
 pub field-lt : (w p k : ℕ) → fieldOf w p k < 2 ^ k
@@ -88,3 +88,13 @@ write-other (place p k) (place q j) v w h e =
 
 pub apart-sym : (f g : Field) → apart f g ≡ true → apart g f ≡ true
 apart-sym (place p k) (place q j) e = or-comm (leb (q + j) p) (leb (p + k) q) ∙ e
+
+-- ---- bits and truth values
+
+pub digit-lt : (b : Bool) → digit b < 2
+digit-lt true = lit< tt
+digit-lt false = lit< tt
+
+pub digit-back : (b : Bool) → eqb (digit b) 1 ≡ b
+digit-back true = refl
+digit-back false = refl

@@ -10,20 +10,12 @@ use Rattle.laws.specs.If.{if_then_else_}
 use Rattle.laws.specs.All.{all}
 use Rattle.field.specs.Field.{Field, read, write, Fits, flag, digit, allApart, within}
 use Rattle.field.specs.Settings.{Setting, _:=_, fieldsOf, settings, AllFit}
-use Rattle.field.proofs.Laws.{field-lt, write-read}
+use Rattle.field.proofs.Laws.{field-lt, write-read, digit-lt, digit-back}
 use Rattle.field.proofs.Sets.{fieldAt, valueAt, own, settings-lt, tiled}
 use Rattle.header.specs.declared.Header.{Header}
 use Rattle.header.specs.Header.{SID, EID, DLC, IDE, RTR, BRS, FDF, ESI, SEQ, FILHIT, topId, sidOf, eidOf, idIn, word0, kind1, word1, received1, headerOf, meaning0, meaning1}
 
 -- ---- bits and truth values
-
-digit-lt : (b : Bool) → digit b < 2
-digit-lt true = lit< tt
-digit-lt false = lit< tt
-
-digit-back : (b : Bool) (x : ℕ) → x ≡ digit b → eqb x 1 ≡ b
-digit-back true x e = rw e
-digit-back false x e = rw e
 
 bit-again : (x : ℕ) → x < 2 → digit (eqb x 1) ≡ x
 bit-again zero h = refl
@@ -100,7 +92,7 @@ module _ (sending : Bool) (h : Header) (dlc v : ℕ) (dlc-fits : dlc < 16) (fits
   above-back = set-back 6 (lit< tt)
 
   flag-back : (i : ℕ) (b : Bool) → i < 7 → valueAt (fields1 sending h dlc v) i ≡ digit b → flag (fieldAt (fields1 sending h dlc v) i) w ≡ b
-  flag-back i b l e = digit-back b _ (set-back i l ∙ e)
+  flag-back i b l e = ap (λ (x : ℕ). eqb x 1) (set-back i l ∙ e) ∙ digit-back b
 
   says : Second h dlc w
   unfolding headerOf

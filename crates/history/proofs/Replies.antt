@@ -13,7 +13,7 @@ use lib.ListN.{getD}
 use Rattle.laws.specs.If.{if_then_else_}
 use Rattle.field.specs.Field.{Field, place as at, read, flag, mark, digit, within}
 use Rattle.field.specs.Settings.{_:=_, settings}
-use Rattle.field.proofs.Laws.{set-lt, read-write, write-other}
+use Rattle.field.proofs.Laws.{set-lt, read-write, write-other, digit-lt, digit-back}
 use Rattle.field.proofs.Sets.{off, own}
 use Rattle.words.specs.Words.{byteOf, leBytes, leAt}
 use Rattle.words.proofs.Laws.{le-back, le-length}
@@ -67,14 +67,6 @@ pub mark-small : (v : ℕ) → v < 2 ^ 32 → mark UINC true v < 2 ^ 32
 mark-small v h = set-lt 32 v 8 1 1 h (omega arith) (omega arith)
 
 -- a truth value as a digit, and back
-digit-lt : (b : Bool) → digit b < 2
-digit-lt true = omega arith
-digit-lt false = omega arith
-
-digit-back : (b : Bool) → eqb (digit b) 1 ≡ b
-digit-back true = refl
-digit-back false = refl
-
 -- bit 0 of a status word
 status-bit : (w : ℕ) (f : Fifo) → read TFNRFNIF (status w f) ≡ digit (ready w f)
 unfolding status
