@@ -30,5 +30,7 @@ pub fn number(refusal: Refusal) -> u32
         Refusal::WrongAnswer => 26,
         Refusal::NoLayout => 27,
         Refusal::BufferTooSmall => 28,
+        Refusal::NoMatch => 30,
+        Refusal::DeviceNet => 31,
     }
 }

@@ -29,6 +29,8 @@ numbered Refusal.BadUserAddress = 25 ∷ []
 numbered Refusal.WrongAnswer = 26 ∷ []
 numbered Refusal.NoLayout = 27 ∷ []
 numbered Refusal.BufferTooSmall = 28 ∷ []
+numbered Refusal.NoMatch = 30 ∷ []
+numbered Refusal.DeviceNet = 31 ∷ []
 
 -- nothing where all is well
 abbrev pub doneNumbers : Done → List ℕ

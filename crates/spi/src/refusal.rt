@@ -23,6 +23,8 @@ pub enum Refusal {
     WrongAnswer,
     NoLayout,
     BufferTooSmall,
+    NoMatch,
+    DeviceNet,
 }
 
 // An answer that says only whether all is well.

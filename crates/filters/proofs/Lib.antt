@@ -1,0 +1,4 @@
+pub mod Bits
+pub mod Word
+pub mod First
+pub mod AllLaws
