@@ -3,6 +3,7 @@
 use Rattle.bus.specs.Laws.{Laws}
 use Rattle.bus.proofs.Laws.{nothing-sent, oldest-sent, send-answers, row-length, row-at}
 use Rattle.bus.proofs.Arriving.{deliver-answers, delivered-iff, turned-down}
+use Rattle.bus.proofs.Sorts.{sort-answers, sorted-iff, sort-leaves}
 
 pub laws : Laws
 laws = record {
@@ -12,6 +13,9 @@ laws = record {
   deliverAnswers = deliver-answers;
   deliveredIff = delivered-iff;
   turnedDown = turned-down;
+  sortAnswers = sort-answers;
+  sortedIff = sorted-iff;
+  sortLeaves = sort-leaves;
   rowLength = row-length;
   rowAt = row-at;
 }

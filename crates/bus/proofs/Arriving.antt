@@ -2,12 +2,12 @@
 -- Assumes nothing.
 use Prim.Native.Nat.{ℕ, _^_}
 use mathlib.Core.Path.{_≡_, refl, sym, ap, _∙_}
-use mathlib.Core.Bool.{Bool, true, false, not, false≢true}
+use mathlib.Core.Bool.{Bool, true, false, _&&_, not, false≢true}
 use mathlib.Core.List.{List, [], _∷_}
 use mathlib.Core.Logic.{_↔_}
 use native.Mathlib.Omega.{arith}
 use borrow.Author.Tests.{ltb-true, ltb-false, leb-true, leb-false, not-true, not-false}
-use lib.Dec.{ltb, leb}
+use lib.Dec.{ltb, leb, eqb}
 use lib.ListN.{length, getD}
 use Rattle.laws.specs.If.{if_then_else_}
 use Rattle.laws.proofs.Choice.{by-if}
@@ -28,8 +28,9 @@ use Rattle.bus.specs.declared.arrival.Delivered.{Delivered}
 use Rattle.bus.specs.Held.{slotOf}
 use Rattle.bus.specs.Bus.{stampFor, delivered, receives, appended, give, byCheck, deliverOf}
 use Rattle.bus.specs.Numbers.{deliveryNumbers}
-use Rattle.bus.specs.Laws.{hasDlc, deliverAnswer, DeliverAnswers, Deliverable, DeliveredIff, Leaves, TurnedDown}
+use Rattle.bus.specs.Laws.{hasDlc, firstCause, deliverAnswer, DeliverAnswers, Deliverable, DeliveredIff, Leaves, TurnedDown}
 use Rattle.bus.proofs.Laws.{held-length}
+use Rattle.bus.proofs.Fitting.{object-fits}
 
 -- what holds of each result of the checks of a frame, which has no SEQ, holds of theirs
 by-checked : (Q : Checked → Type 0) (t : Bool) (x : Dlc)
@@ -95,19 +96,25 @@ pub is-receiving : (m : Model) (n : ℕ) → isFifo n ≡ true → sending (froz
 unfolding receives
 is-receiving m n i s = rw (i, s)
 
+-- what a FIFO tells of a frame that it was given is the first cause
+pub give-told : (m : Model) (n hit d : ℕ) (header : Header) (time : ℕ) (payload : List ℕ) (Q : Delivery → ℕ → Type 0)
+    → Q Delivery.Configuration 1 → Q Delivery.NotReceiving 2 → Q Delivery.TooLong 3 → Q Delivery.Full 4 → Q Delivery.Delivered 0
+    → Q (give m n hit d header time payload .delivery) (firstCause m n payload)
+give-told m n hit d header time payload Q q₁ q₂ q₃ q₄ q₀ =
+    by-give m n header time payload (λ x. Q (x .delivery) (firstCause m n payload)) hit d
+    (λ a. rw a q₁)
+    (λ a b. rw (b, a) q₂)
+    (λ a b c. rw (b, c, a) q₃)
+    (λ a b c f. rw (held-length m n (receives-is m n b .0), b, c, f, a) q₄)
+    (λ a b c f. rw (held-length m n (receives-is m n b .0), b, c, f, a) q₀)
+
 pub deliver-answers : DeliverAnswers
 deliver-answers m n header time payload =
-    let P : Delivered → Type 0 = λ x. deliveryNumbers (x .delivery) ≡ deliverAnswer m n header payload in
-    by-deliver m n header time payload P
+    by-deliver m n header time payload (λ x. deliveryNumbers (x .delivery) ≡ deliverAnswer m n header payload)
     (λ i. rw i)
     (λ i t. rw (i, t))
     (λ i t d. rw (i, t, d))
-    (λ i t d e. by-give m n header time payload P 0 d
-    (λ a. rw (i, t, e, a))
-    (λ a b. rw (i, t, e, b, a))
-    (λ a b c. rw (i, t, e, b, c, a))
-    (λ a b c f. rw (held-length m n i, i, t, e, b, c, f, a))
-    (λ a b c f. rw (held-length m n i, i, t, e, b, c, f, a)))
+    (λ i t d e. rw (i, t, e) (give-told m n 0 d header time payload (λ x c. deliveryNumbers x ≡ 0 ∷ c ∷ []) refl refl refl refl refl))
 
 -- a fact that is both true and false
 pub clash : {X : Type 0} {b : Bool} → b ≡ false → b ≡ true → X
@@ -121,48 +128,69 @@ arrived Delivery.TooLong = false
 arrived Delivery.Full = false
 arrived (Delivery.Refused r) = false
 
-never : {X : Type 0} (x : Delivery) → arrived x ≡ false → x ≡ Delivery.Delivered → X
+pub never : {X : Type 0} (x : Delivery) → arrived x ≡ false → x ≡ Delivery.Delivered → X
 never x f q = clash f (ap arrived q)
 
-pub delivered-iff : DeliveredIff
-delivered-iff m n header time payload =
-    let P : Delivered → Type 0 = λ x. (x .delivery ≡ Delivery.Delivered) ↔ Deliverable m n header payload in
-    by-deliver m n header time payload P
-    (λ i. (never _ refl, λ h. clash i (h .fifo)))
-    (λ i t. (never _ refl, λ h. absurd (omega (arith, h .identifier, ltb-true))))
-    (λ i t d. (never _ refl, λ h. clash (ap hasDlc d) (h .allowed)))
-    (λ i t d e. by-give m n header time payload P 0 d
+pub give-iff : (m : Model) (n hit d : ℕ) (header : Header) (time : ℕ) (payload : List ℕ)
+    → ltb (topId (header .extended)) (header .id) ≡ false → dlcOf (header .fdf) (length payload) ≡ Dlc.Is d
+    → (give m n hit d header time payload .delivery ≡ Delivery.Delivered) ↔ Deliverable m n header payload
+give-iff m n hit d header time payload t e =
+    by-give m n header time payload (λ x. (x .delivery ≡ Delivery.Delivered) ↔ Deliverable m n header payload) hit d
     (λ a. (never _ refl, λ h. clash (h .outside) a))
-    (λ a b. (never _ refl, λ h. clash b (is-receiving m n i (h .receives))))
+    (λ a b. (never _ refl, λ h. clash b (is-receiving m n (h .fifo) (h .receives))))
     (λ a b c. (never _ refl, λ h. absurd (omega (arith, h .fits, ltb-true))))
-    (λ a b c f. (never _ refl, λ h. absurd (omega (arith, h .room, held-length m n i, leb-true))))
+    (λ a b c f. (never _ refl, λ h. absurd (omega (arith, h .room, held-length m n (h .fifo), leb-true))))
     (λ a b c f. (
       λ q. record {
-        fifo = i;
+        fifo = receives-is m n b .0;
         identifier = ltb-false (topId (header .extended)) (header .id) t;
         allowed = ap hasDlc e;
         outside = a;
         receives = receives-is m n b .1;
         fits = ltb-false (payloadOf (frozenAt m n)) (length payload) c;
-        room = omega (arith, held-length m n i, leb-false (depth (frozenAt m n)) (fifoAt m n .count) f);
+        room = omega (arith, held-length m n (receives-is m n b .0), leb-false (depth (frozenAt m n)) (fifoAt m n .count) f);
       },
       λ h. refl,
-    )))
+    ))
 
--- an answer that says that nothing changed
-kept : (a : List ℕ) (m : Model) (n : ℕ) → (getD a 1 0 ≡ 4 → ⊥) → Leaves a m m n
-kept a m n ne = record { full = λ e. absurd (ne (ap (λ (l : List ℕ). getD l 1 0) e)); others = λ x y. refl }
+pub delivered-iff : DeliveredIff
+delivered-iff m n header time payload =
+    by-deliver m n header time payload (λ x. (x .delivery ≡ Delivery.Delivered) ↔ Deliverable m n header payload)
+    (λ i. (never _ refl, λ h. clash i (h .fifo)))
+    (λ i t. (never _ refl, λ h. absurd (omega (arith, h .identifier, ltb-true))))
+    (λ i t d. (never _ refl, λ h. clash (ap hasDlc d) (h .allowed)))
+    (λ i t d e. give-iff m n 0 d header time payload t e)
+
+-- an answer that says that nothing changed: neither delivered nor full
+abbrev still : List ℕ → Bool
+still a = not (eqb (getD a 1 9) 0) && not (eqb (getD a 1 9) 4)
+
+pub kept : (a : List ℕ) (m : Model) (n : ℕ) → still a ≡ true → Leaves a m m n
+kept a m n t = record { took = λ e. clash (ap still e) t; full = λ e. clash (ap still e) t; others = λ x y. refl }
+
+-- of a FIFO that was given a frame
+pub give-leaves : (m : Model) (n hit d : ℕ) (header : Header) (time : ℕ) (payload : List ℕ)
+    → Leaves (deliveryNumbers (give m n hit d header time payload .delivery)) m (give m n hit d header time payload .model) n
+give-leaves m n hit d header time payload =
+    by-give m n header time payload (λ x. Leaves (deliveryNumbers (x .delivery)) m (x .model) n) hit d
+    (λ a. kept (0 ∷ 1 ∷ []) m n refl)
+    (λ a b. kept (0 ∷ 2 ∷ []) m n refl)
+    (λ a b c. kept (0 ∷ 3 ∷ []) m n refl)
+    (λ a b c f. record { took = λ e. absurd (omega (arith, ap (λ (l : List ℕ). getD l 1 0) e)); full = λ e. refl; others = λ x y. absurd (y refl) })
+    (λ a b c f. record {
+      took = λ e. record {
+        object = arriving header d hit (stampFor m n time) payload;
+        fits = object-fits m n hit d header time payload (ltb-false (payloadOf (frozenAt m n)) (length payload) c);
+        is = refl;
+      };
+      full = λ e. absurd (omega (arith, ap (λ (l : List ℕ). getD l 1 0) e));
+      others = λ x y. absurd (x refl);
+    })
 
 pub turned-down : TurnedDown
 turned-down m n header time payload =
-    let P : Delivered → Type 0 = λ x. Leaves (deliveryNumbers (x .delivery)) m (x .model) n in
-    by-deliver m n header time payload P
-    (λ i. kept (20 ∷ []) m n (λ e. omega arith))
-    (λ i t. kept (21 ∷ []) m n (λ e. omega arith))
-    (λ i t d. kept (22 ∷ []) m n (λ e. omega arith))
-    (λ i t d e. by-give m n header time payload P 0 d
-    (λ a. kept (0 ∷ 1 ∷ []) m n (λ e. omega arith))
-    (λ a b. kept (0 ∷ 2 ∷ []) m n (λ e. omega arith))
-    (λ a b c. kept (0 ∷ 3 ∷ []) m n (λ e. omega arith))
-    (λ a b c f. record { full = λ e. refl; others = λ x y. absurd (y refl) })
-    (λ a b c f. record { full = λ e. absurd (omega (arith, ap (λ (l : List ℕ). getD l 1 0) e)); others = λ x y. absurd (x refl) }))
+    by-deliver m n header time payload (λ x. Leaves (deliveryNumbers (x .delivery)) m (x .model) n)
+    (λ i. kept (20 ∷ []) m n refl)
+    (λ i t. kept (21 ∷ []) m n refl)
+    (λ i t d. kept (22 ∷ []) m n refl)
+    (λ i t d e. give-leaves m n 0 d header time payload)

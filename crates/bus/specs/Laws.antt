@@ -6,21 +6,26 @@ use mathlib.Core.Bool.{Bool, true, false, not}
 use mathlib.Core.Logic.{_↔_}
 use mathlib.Core.List.{List, [], _∷_}
 use lib.ListN.{length, getD}
-use lib.Dec.{ltb, leb}
+use lib.Dec.{ltb, leb, eqb}
 use Rattle.laws.specs.If.{if_then_else_}
+use Rattle.field.specs.Field.{read}
+use Rattle.configuration.specs.CanControl.{DNCNT}
 use Rattle.fifo.specs.Control.{payloadOf, isFifo}
 use Rattle.header.specs.declared.dlc.Dlc.{Dlc}
 use Rattle.header.specs.declared.Header.{Header}
 use Rattle.header.specs.Dlc.{dlcOf}
 use Rattle.header.specs.Header.{topId}
 use Rattle.message.specs.Message.{Decoding, holds, bad, short}
-use Rattle.ring.specs.Ring.{sending, depth, overflowed}
+use Rattle.filters.specs.Filters.{filterCount}
+use Rattle.ring.specs.Ring.{sending, depth, claimed, overflowed}
+use Rattle.ring.specs.Layout.{size}
 use Rattle.state.specs.declared.Model.{Model}
-use Rattle.state.specs.Model.{fifoAt, frozenAt, withFifo}
+use Rattle.state.specs.Model.{fifoAt, frozenAt, withFifo, written}
 use Rattle.bus.specs.declared.arrival.Delivery.{Delivery}
-use Rattle.bus.specs.Held.{itemAt, row, held}
+use Rattle.bus.specs.Held.{slotOf, itemAt, row, held}
 use Rattle.bus.specs.Bus.{Output, frame, noFrame, nothing, refused, sends, sendOutput, sendModel, receives, deliverOf}
-use Rattle.bus.specs.Numbers.{messageNumbers, outputNumbers, deliveryNumbers}
+use Rattle.bus.specs.Sort.{filterFor, targetFor, sortOf}
+use Rattle.bus.specs.Numbers.{messageNumbers, outputNumbers, deliveryNumbers, sortedNumbers}
 
 -- ---- send
 
@@ -72,13 +77,16 @@ firstCause m n payload =
     else if leb (depth (frozenAt m n)) (length (held m n)) then 4
     else 0
 
--- what deliver answers: 20, 21, 22 for a frame that no push could carry; then the first cause
-abbrev pub deliverAnswer : Model → ℕ → Header → List ℕ → List ℕ
-deliverAnswer m n header payload =
-    if not (isFifo n) then 20 ∷ []
-    else if ltb (topId (header .extended)) (header .id) then 21 ∷ []
+-- 21 and 22 for a frame that no push could carry; otherwise this
+abbrev pub ifCarried : Header → List ℕ → List ℕ → List ℕ
+ifCarried header payload answer =
+    if ltb (topId (header .extended)) (header .id) then 21 ∷ []
     else if not (hasDlc (dlcOf (header .fdf) (length payload))) then 22 ∷ []
-    else 0 ∷ firstCause m n payload ∷ []
+    else answer
+
+-- what deliver answers: 20, 21, 22, then the first cause
+abbrev pub deliverAnswer : Model → ℕ → Header → List ℕ → List ℕ
+deliverAnswer m n header payload = if not (isFifo n) then 20 ∷ [] else ifCarried header payload (0 ∷ firstCause m n payload ∷ [])
 
 abbrev pub DeliverAnswers : Type 0
 DeliverAnswers =
@@ -100,16 +108,54 @@ DeliveredIff =
     (m : Model) (n : ℕ) (header : Header) (time : ℕ) (payload : List ℕ)
     → (deliverOf m n header time payload .delivery ≡ Delivery.Delivered) ↔ Deliverable m n header payload
 
+-- FIFO n took an object, and nothing else changed: it stands in the slot behind those held, and one more is counted
+pub record Took (m after : Model) (n : ℕ) : Type 0 where
+  pub object : List ℕ
+  pub fits : length object ≤ size (frozenAt m n)
+  pub is : after ≡ withFifo (written m (slotOf m n (fifoAt m n .count)) object) n (claimed (fifoAt m n))
+
 -- what an answer, by its numbers, says of the model m before it and of the model after it
 pub record Leaves (answer : List ℕ) (m after : Model) (n : ℕ) : Type 0 where
+  pub took : answer ≡ 0 ∷ 0 ∷ [] → Took m after n
   pub full : answer ≡ 0 ∷ 4 ∷ [] → after ≡ withFifo m n (overflowed true (fifoAt m n))
   pub others : (answer ≡ 0 ∷ 0 ∷ [] → ⊥) → (answer ≡ 0 ∷ 4 ∷ [] → ⊥) → after ≡ m
 
--- a frame turned down changes nothing but, at a full FIFO, that one's overflow
+-- a frame that is delivered changes its FIFO only; one turned down changes nothing but, at a full FIFO, that one's overflow
 abbrev pub TurnedDown : Type 0
 TurnedDown =
     (m : Model) (n : ℕ) (header : Header) (time : ℕ) (payload : List ℕ)
     → Leaves (deliveryNumbers (deliverOf m n header time payload .delivery)) m (deliverOf m n header time payload .model) n
+
+-- ---- sort
+
+-- what sort answers: 21, 22, 31 where DNCNT is above 0, 30 where no filter matches; then, of the lowest-numbered filter that matches, the
+-- first cause at its target, that FIFO and the filter
+abbrev pub sortAnswer : Model → Header → List ℕ → List ℕ
+sortAnswer m header payload =
+    ifCarried header payload
+    (if not (eqb (read DNCNT (m .fixed .con)) 0) then 31 ∷ []
+    else if leb filterCount (filterFor m header) then 30 ∷ []
+    else 0 ∷ firstCause m (targetFor m (filterFor m header)) payload ∷ targetFor m (filterFor m header) ∷ filterFor m header ∷ [])
+
+abbrev pub SortAnswers : Type 0
+SortAnswers = (m : Model) (header : Header) (time : ℕ) (payload : List ℕ) → sortedNumbers (sortOf m header time payload) ≡ sortAnswer m header payload
+
+-- a frame is sorted into its FIFO exactly if DNCNT is 0, a filter matches, and it could be delivered to that filter's target
+pub record Sortable (m : Model) (header : Header) (payload : List ℕ) : Type 0 where
+  pub dncnt : read DNCNT (m .fixed .con) ≡ 0
+  pub match : filterFor m header < filterCount
+  pub deliverable : Deliverable m (targetFor m (filterFor m header)) header payload
+
+abbrev pub SortedIff : Type 0
+SortedIff =
+    (m : Model) (header : Header) (time : ℕ) (payload : List ℕ)
+    → (sortOf m header time payload .delivery ≡ Delivery.Delivered) ↔ Sortable m header payload
+
+-- it touches its target only, and for a refusal nothing
+abbrev pub SortLeaves : Type 0
+SortLeaves =
+    (m : Model) (header : Header) (time : ℕ) (payload : List ℕ)
+    → Leaves (deliveryNumbers (sortOf m header time payload .delivery)) m (sortOf m header time payload .model) (sortOf m header time payload .fifo)
 
 -- ---- the messages held
 
@@ -130,5 +176,8 @@ pub record Laws : Type 1 where
   pub deliverAnswers : DeliverAnswers
   pub deliveredIff : DeliveredIff
   pub turnedDown : TurnedDown
+  pub sortAnswers : SortAnswers
+  pub sortedIff : SortedIff
+  pub sortLeaves : SortLeaves
   pub rowLength : RowLength
   pub rowAt : RowAt

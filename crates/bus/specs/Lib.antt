@@ -1,4 +1,5 @@
 pub mod Held
 pub mod Bus
+pub mod Sort
 pub mod Numbers
 pub mod Laws

@@ -8,6 +8,7 @@ use Rattle.spi.specs.Refusals.{numbered}
 use Rattle.message.specs.Message.{Message}
 use Rattle.call.specs.Numbers.{headerNumbers, stampNumbers}
 use Rattle.bus.specs.declared.arrival.Delivery.{Delivery}
+use Rattle.bus.specs.declared.sorting.Sorted.{Sorted}
 use Rattle.bus.specs.Bus.{Output, frame, noFrame, nothing, refused}
 
 -- a message: the length of its payload, header, SEQ, payload, timestamp
@@ -29,3 +30,15 @@ deliveryNumbers Delivery.NotReceiving = 0 ∷ 2 ∷ []
 deliveryNumbers Delivery.TooLong = 0 ∷ 3 ∷ []
 deliveryNumbers Delivery.Full = 0 ∷ 4 ∷ []
 deliveryNumbers (Delivery.Refused r) = numbered r
+
+-- a frame that was sorted: for one that a filter took also the FIFO and the filter
+abbrev pub sortingNumbers : Delivery → (fifo filter : ℕ) → List ℕ
+sortingNumbers Delivery.Delivered n f = 0 ∷ 0 ∷ n ∷ f ∷ []
+sortingNumbers Delivery.Configuration n f = 0 ∷ 1 ∷ n ∷ f ∷ []
+sortingNumbers Delivery.NotReceiving n f = 0 ∷ 2 ∷ n ∷ f ∷ []
+sortingNumbers Delivery.TooLong n f = 0 ∷ 3 ∷ n ∷ f ∷ []
+sortingNumbers Delivery.Full n f = 0 ∷ 4 ∷ n ∷ f ∷ []
+sortingNumbers (Delivery.Refused r) n f = numbered r
+
+abbrev pub sortedNumbers : Sorted → List ℕ
+sortedNumbers s = sortingNumbers (s .delivery) (s .fifo) (s .filter)

@@ -2,6 +2,7 @@
 mod arrival;
 mod departure;
 mod held;
+mod sorting;
 
 pub use arrival::Delivered;
 pub use arrival::Delivery;
@@ -11,3 +12,5 @@ pub use departure::Sent;
 pub use departure::send;
 pub use held::held_at;
 pub use held::held_len;
+pub use sorting::Sorted;
+pub use sorting::sort;

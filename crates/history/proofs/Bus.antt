@@ -31,10 +31,14 @@ use Rattle.bus.specs.declared.arrival.Delivered.{Delivered}
 use Rattle.bus.specs.Held.{slotOf, itemAt, held}
 use Rattle.bus.specs.Bus.{nothing, refused, outputOf, sends, sendOutput, sendModel, incoming, delivered, give, deliverOf}
 use Rattle.bus.proofs.Laws.{sends-one}
+use Rattle.filters.specs.Filters.{filterCount}
+use Rattle.bus.specs.Sort.{filterFor, targetFor, sortOf}
 use Rattle.bus.proofs.Arriving.{by-deliver, by-give, receives-is}
-use Rattle.reach.specs.Bus.{Bus, Send, Deliver, stepped}
-use Rattle.reach.proofs.Arrivals.{coming-fits, coming-back}
-pub use Rattle.reach.proofs.Arrivals.{payload-whole}
+use Rattle.bus.proofs.Fitting.{object-fits}
+use Rattle.bus.proofs.Sorts.{by-sort}
+use Rattle.reach.specs.Bus.{Bus, Send, Deliver, Sort, stepped}
+use Rattle.reach.proofs.Arrivals.{coming-back}
+pub use Rattle.bus.proofs.Fitting.{payload-whole}
 use Rattle.history.specs.History.{Said, left, arrived, says}
 use Rattle.history.specs.Lists.{accepted, acceptedIn, handedOut, handedOutIn, only}
 use Rattle.history.proofs.Sound.{Sound}
@@ -288,7 +292,7 @@ module _ (c : Model) (s : Sound c) where
         (later-kept c s n h (overflowed true (fifoAt c n)) refl refl))
         (λ a b x z.
         let (h, r) = receives-is c n b in
-        delivered-step h r (leb-false _ _ z) _ (coming-fits c n header time payload hit d (ltb-false _ _ x)) (coming-back c n header time payload small r hit d l e))
+        delivered-step h r (leb-false _ _ z) _ (object-fits c n hit d header time payload (ltb-false _ _ x)) (coming-back c n header time payload small r hit d l e))
 
     -- one that names its FIFO
     deliver-step : time < 2 ^ 32 → Answered (deliverOf c n header time payload)
@@ -297,7 +301,19 @@ module _ (c : Model) (s : Sound c) where
         (λ i. unmoved _ (λ j. only-none j n)) (λ i t. unmoved _ (λ j. only-none j n)) (λ i t d. unmoved _ (λ j. only-none j n))
         (λ i t d e. give-step small 0 d (omega arith) (passes header 0 (length payload) d (ltb-false (topId (header .extended)) (header .id) t) (omega arith) e))
 
+  -- one that the filters sort
+  sort-step : (header : Header) (time : ℕ) (payload : List ℕ) → time < 2 ^ 32
+      → let r = sortOf c header time payload in Step c (arrived (r .fifo) (incoming c (r .fifo) header time payload) (r .delivery)) (r .model)
+  sort-step header time payload small =
+      let n = targetFor c (filterFor c header) in
+      by-sort c header time payload (λ r. Step c (arrived (r .fifo) (incoming c (r .fifo) header time payload) (r .delivery)) (r .model))
+      (λ t. unmoved 0 header time payload _ (λ j. only-none j 0)) (λ t e. unmoved 0 header time payload _ (λ j. only-none j 0))
+      (λ t d e z. unmoved 0 header time payload _ (λ j. only-none j 0)) (λ t d e z g. unmoved 0 header time payload _ (λ j. only-none j 0))
+      (λ t d e z g. give-step n header time payload small (filterFor c header) d (leb-false filterCount (filterFor c header) g)
+      (passes header 0 (length payload) d (ltb-false (topId (header .extended)) (header .id) t) (omega arith) e))
+
 pub bus-good : (c : Model) → Sound c → (t : List Said) → Listed c t → (b : Bus) → Good c b
 unfolding stepped sendOutput sendModel
 bus-good c s t l (Send n) = send-step c s t l n (isFifo n) (sends c n) refl refl
 bus-good c s t l (Deliver n header time payload) = deliver-step c s n header (time % 2 ^ 32) payload (mod-lt time (omega arith))
+bus-good c s t l (Sort header time payload) = sort-step c s header (time % 2 ^ 32) payload (mod-lt time (omega arith))

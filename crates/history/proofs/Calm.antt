@@ -10,7 +10,7 @@ use Rattle.call.specs.declared.Outcome.{Outcome}
 use Rattle.tx_fifo.specs.PushAt.{PushAt}
 use Rattle.state.specs.declared.Fixed.{Fixed}
 use Rattle.state.specs.declared.Model.{Model}
-use Rattle.reach.specs.Bus.{Bus, Send, Deliver, stepped}
+use Rattle.reach.specs.Bus.{Bus, Send, Deliver, Sort, stepped}
 use Rattle.reach.proofs.Kept.{bus-valid}
 use Rattle.history.specs.Command.{Command}
 use Rattle.history.specs.History.{Event, Exchange, On, Said, called, left, arrived, Doing, idle, World, says, event, after}
@@ -58,6 +58,7 @@ no-call : (b : Bus) (c : Model) (t : List Said) → calls (says b c ∷ t) ≡ c
 unfolding calls
 no-call (Send n) c t = refl
 no-call (Deliver n header time payload) c t = refl
+no-call (Sort header time payload) c t = refl
 
 no-calls : (bs : List Bus) (c : Model) → calls (spokenOf bs c) ≡ []
 unfolding spokenOf calls

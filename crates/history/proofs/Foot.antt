@@ -6,8 +6,10 @@ use mathlib.Core.Bool.{Bool, true, false, _&&_, not}
 use mathlib.Core.List.{List, [], _∷_}
 use native.Mathlib.Omega.{arith}
 use lib.ListN.{length, getD, take, length-take}
-use lib.Dec.{ltb, leb}
+use lib.Dec.{ltb, leb, eqb}
 use Rattle.laws.specs.If.{if_then_else_}
+use Rattle.field.specs.Field.{read}
+use Rattle.configuration.specs.CanControl.{DNCNT}
 use Rattle.fifo.specs.Control.{payloadOf, isFifo}
 use Rattle.parts.specs.Parts.{put}
 use Rattle.header.specs.declared.Header.{Header}
@@ -18,10 +20,13 @@ use Rattle.ring.specs.Ring.{sending, depth, overflowed, sent}
 use Rattle.state.specs.declared.Model.{Model}
 use Rattle.state.specs.Model.{fifoAt, frozenAt, withFifo, written}
 use Rattle.state.proofs.Store.{put-front, put-behind}
+use Rattle.filters.specs.Filters.{filterCount}
 use Rattle.bus.specs.declared.arrival.Delivered.{Delivered}
+use Rattle.bus.specs.declared.sorting.Sorted.{Sorted}
+use Rattle.bus.specs.Sort.{filterFor, targetFor, sortedBy, sortOf}
 use Rattle.bus.specs.Held.{slotOf}
 use Rattle.bus.specs.Bus.{sends, sendModel, receives, appended, give, byCheck, deliverOf}
-use Rattle.reach.specs.Bus.{Bus, Send, Deliver, stepped}
+use Rattle.reach.specs.Bus.{Bus, Send, Deliver, Sort, stepped}
 use Rattle.history.specs.Demand.{buses, ButFor}
 use Rattle.history.proofs.Bytes.{length-put, put-inside, byte-before, byte-within, byte-behind}
 use Rattle.history.proofs.Slots.{split}
@@ -145,10 +150,23 @@ module _ (a n : ℕ) where
     unfolding deliverOf
     deliver-but j header time payload = by-both Told (isFifo j) (checked-but (checkOf header 0 (length payload)) j header time payload) same-but
 
+    sorts-but : (x : Checked) (header : Header) (time : ℕ) (payload : List ℕ)
+        → ButFor a n (sortedBy x c header time payload .model) (sortedBy x other header time payload .model)
+    sorts-but (Checked.Bad e) header time payload = same-but
+    sorts-but (Checked.Dlc d) header time payload =
+        let P : Sorted → Sorted → Type 0 = λ x y. ButFor a n (x .model) (y .model) in
+        by-both P (not (eqb (read DNCNT (c .fixed .con)) 0)) same-but
+        (by-both P (leb filterCount (filterFor c header)) same-but (give-but (targetFor c (filterFor c header)) (filterFor c header) d header time payload))
+
+    sort-but : (header : Header) (time : ℕ) (payload : List ℕ) → ButFor a n (sortOf c header time payload .model) (sortOf other header time payload .model)
+    unfolding sortOf
+    sort-but header time payload = sorts-but (checkOf header 0 (length payload)) header time payload
+
     step-near : (b : Bus) → ButFor a n (stepped b c) (stepped b other)
     unfolding stepped
     step-near (Send j) = send-but j
     step-near (Deliver j header time payload) = deliver-but j header (time % 2 ^ 32) payload
+    step-near (Sort header time payload) = sort-but header (time % 2 ^ 32) payload
 
   pub but-step : (c d : Model) → ButFor a n c d → (b : Bus) → ButFor a n (stepped b c) (stepped b d)
   but-step c d x b =

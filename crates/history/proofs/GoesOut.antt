@@ -34,8 +34,10 @@ use Rattle.bus.specs.declared.arrival.Delivered.{Delivered}
 use Rattle.bus.specs.Held.{held}
 use Rattle.bus.specs.Bus.{sends, sendOutput, sendModel, give}
 use Rattle.bus.proofs.Laws.{oldest-sent}
+use Rattle.bus.specs.Sort.{filterFor, targetFor}
 use Rattle.bus.proofs.Arriving.{by-deliver, by-give, receives-is}
-use Rattle.reach.specs.Bus.{Bus, Send, Deliver, stepped}
+use Rattle.bus.proofs.Sorts.{by-sort}
+use Rattle.reach.specs.Bus.{Bus, Send, Deliver, Sort, stepped}
 use Rattle.history.specs.Command.{Command, Request, Transmit}
 use Rattle.history.specs.History.{Event, Begin, On, Said, idle, World, event, after}
 use Rattle.history.specs.Demand.{world, calm, buses, atStatus, Takes, Requested, SendsOldest, OldestGoes, TakesLast, LastStays, GoesOut, RequestSends, TransmitSends}
@@ -86,6 +88,9 @@ module _ (n : ℕ) (c : Model) (o : Sound c) (q : Asked (Only n) c) where
   bus-asked (Send k) last = send-asked k last
   bus-asked (Deliver k header time payload) last =
       by-deliver c k header (time % 2 ^ 32) payload Well (λ i. q) (λ i t. q) (λ i t d. q) (λ i t d e. give-asked k 0 d header (time % 2 ^ 32) payload)
+  bus-asked (Sort header time payload) last =
+      by-sort c header (time % 2 ^ 32) payload (λ x. Asked (Only n) (x .model)) (λ t. q) (λ t e. q) (λ t d e z. q) (λ t d e z g. q)
+      (λ t d e z g. give-asked (targetFor c (filterFor c header)) (filterFor c header) d header (time % 2 ^ 32) payload)
 
 -- ---- any events of which none is
 

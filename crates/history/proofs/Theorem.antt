@@ -12,7 +12,7 @@ use Rattle.state.specs.declared.Model.{Model}
 use Rattle.bank.specs.Registers.{conWritten}
 use Rattle.bus.specs.Held.{itemAt, row, held}
 use Rattle.message.specs.Message.{Decoding}
-use Rattle.reach.specs.Bus.{Bus, Send, Deliver, stepped}
+use Rattle.reach.specs.Bus.{Bus, Send, Deliver, Sort, stepped}
 use Rattle.reach.proofs.Kept.{always-valid, leaving-valid}
 use Rattle.reach.proofs.Told.{leaving-outside, leaving-empty}
 use Rattle.history.specs.Command.{Command, Push, Transmit, Request, HasNext, Peek, Get, Reading, Configuring, started}
@@ -31,6 +31,7 @@ use Rattle.history.proofs.PlanSteps.{request-heard, request-starts-well
 bus-tells : (b : Bus) (c : Model) → TellsWell (says b c)
 bus-tells (Send n) c = tt
 bus-tells (Deliver n header time payload) c = tt
+bus-tells (Sort header time payload) c = tt
 
 -- ---- each event
 

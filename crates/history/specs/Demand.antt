@@ -30,7 +30,7 @@ use Rattle.bank.specs.Registers.{wordOf, granted, conWritten}
 use Rattle.model.specs.Exchange.{Reply, failed, received, noLayout, exchange}
 use Rattle.bus.specs.Held.{slotOf, itemAt, held}
 use Rattle.bus.specs.Bus.{frame, sends}
-use Rattle.reach.specs.Bus.{Bus, Send, Deliver, stepped}
+use Rattle.reach.specs.Bus.{Bus, Send, Deliver, Sort, stepped}
 use Rattle.reach.specs.Reach.{Reached}
 use Rattle.history.specs.Command.{Command, Push, Transmit, Request, HasNext, Peek, Get, Reading, Configuring, firstCall, lent}
 use Rattle.history.specs.History.{Event, Begin, Exchange, Fail, On, Said, called, left, arrived, idle, World, after}
@@ -294,6 +294,7 @@ TakesLast n Exchange c = ⊥
 TakesLast n Fail c = ⊥
 TakesLast n (On (Send k)) c = (k ≡ n) × (sends c n ≡ true) × (fifoAt c n .count ≡ 1)
 TakesLast n (On (Deliver k header time payload)) c = ⊥
+TakesLast n (On (Sort header time payload)) c = ⊥
 
 -- none of the events from v on is
 abbrev pub LastStays : ℕ → List Event → World → Type 0

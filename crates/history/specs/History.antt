@@ -17,7 +17,8 @@ use Rattle.state.specs.declared.Model.{Model}
 use Rattle.model.specs.Exchange.{Reply, failed, received, noLayout, Done, exchange}
 use Rattle.bus.specs.declared.arrival.Delivery.{Delivery}
 use Rattle.bus.specs.Bus.{Output, sendOutput, incoming, deliverOf}
-use Rattle.reach.specs.Bus.{Bus, Send, Deliver, stepped}
+use Rattle.bus.specs.Sort.{sortOf}
+use Rattle.reach.specs.Bus.{Bus, Send, Deliver, Sort, stepped}
 use Rattle.history.specs.Command.{Command, Push, Transmit, Request, HasNext, Peek, Get, Reading, Configuring, started, lent, firstCall, secondCall}
 
 -- a call begins; its next exchange is answered by the chip; its next exchange fails and is not carried out; a bus step
@@ -113,11 +114,13 @@ goesOn t k s h = settled (h .chip) t k (stepOf s (h .answer) (h .rx)) (h .rx)
 
 -- ---- events
 
--- what a bus step says
+-- what a bus step says; a sorted frame is its target's, and FIFO 0's, which there is not, where it is refused
 abbrev pub says : Bus → Model → Said
 says (Send n) c = left n (sendOutput c n)
 says (Deliver n header time payload) c =
     arrived n (incoming c n header (time % 2 ^ 32) payload) (deliverOf c n header (time % 2 ^ 32) payload .delivery)
+says (Sort header time payload) c =
+    let s = sortOf c header (time % 2 ^ 32) payload in arrived (s .fifo) (incoming c (s .fifo) header (time % 2 ^ 32) payload) (s .delivery)
 
 -- one call at a time: a call begins only where none is under way; without one there is nothing to answer
 unfoldable pub event : Event → Doing → Model → List Said → World

@@ -3,7 +3,7 @@
 use Rattle.reach.specs.Laws.{Laws}
 use Rattle.reach.proofs.Kept.{always-valid}
 use Rattle.reach.proofs.Told.{uinc-reads-0, freset-reads-0}
-use Rattle.reach.proofs.Chip.{send-takes, send-keeps, send-inside, deliver-appends, full-overflows, entering, resetting, inside-empty, opmod-exactly, status-reads}
+use Rattle.reach.proofs.Chip.{send-takes, send-keeps, send-inside, deliver-appends, full-overflows, sort-appends, sort-overflows, entering, resetting, inside-empty, opmod-exactly, status-reads}
 use Rattle.reach.proofs.Twins.{mode-asked, modes-alike, rtren-written, rtren-idle}
 
 pub laws : Laws
@@ -16,6 +16,8 @@ laws = record {
   sendInside = send-inside;
   deliverAppends = deliver-appends;
   fullOverflows = full-overflows;
+  sortAppends = sort-appends;
+  sortOverflows = sort-overflows;
   entering = entering;
   resetting = resetting;
   insideEmpty = inside-empty;

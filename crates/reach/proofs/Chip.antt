@@ -37,17 +37,21 @@ use Rattle.model.specs.Exchange.{performed, exchange}
 use Rattle.bus.specs.declared.arrival.Delivery.{Delivery}
 use Rattle.bus.specs.declared.arrival.Delivered.{Delivered}
 use Rattle.bus.specs.Held.{itemAt, row, held}
+use Rattle.filters.specs.Filters.{filterCount}
+use Rattle.bus.specs.Sort.{filterFor, targetFor}
 use Rattle.bus.specs.Bus.{nothing, outputOf, sends, sendOutput, sendModel, stampFor, incoming, give}
 use Rattle.bus.proofs.Laws.{oldest-sent, held-length}
 use Rattle.bus.proofs.Arriving.{by-deliver, by-give, receives-is, clash}
-use Rattle.reach.specs.Bus.{Bus, Send, Deliver, stepped}
+use Rattle.bus.proofs.Fitting.{object-fits}
+use Rattle.bus.proofs.Sorts.{by-sort}
+use Rattle.reach.specs.Bus.{Bus, Send, Deliver, Sort, stepped}
 use Rattle.reach.specs.Reach.{Happening, Exchange, On, happens, lived, Reached, Valid}
-use Rattle.reach.specs.Chip.{Requested, SendTakes, SendKeeps, SendInside, DeliverAppends, FullOverflows, Entered, Entering, Resetting, InsideEmpty, OpmodExactly}
+use Rattle.reach.specs.Chip.{Requested, SendTakes, SendKeeps, SendInside, DeliverAppends, FullOverflows, SortAppends, SortOverflows, Entered, Entering, Resetting, InsideEmpty, OpmodExactly}
 use Rattle.reach.specs.Chip.{StatusReads}
 use Rattle.reach.proofs.Kept.{at-replicate, turned-at, always-valid}
 use Rattle.reach.proofs.Sound.{Sound}
 use Rattle.reach.proofs.Slots.{fifo-told, filled, filled-held, filled-item, filled-sound, next-fifo, more-held}
-use Rattle.reach.proofs.Arrivals.{coming-fits, coming-back}
+use Rattle.reach.proofs.Arrivals.{coming-back}
 
 -- ---- what is held
 
@@ -171,7 +175,7 @@ module _ (m : Model) (r : Reached m) (n : ℕ) (header : Header) (time : ℕ) (p
       let s : Sound m = record { valid = always-valid m r; out = a } in
       let free : fifoAt m n .count < depth (frozenAt m n) = leb-false (depth (frozenAt m n)) (fifoAt m n .count) f in
       let bs = arriving header d hit (stampFor m n time) payload in
-      let fits = coming-fits m n header time payload hit d (ltb-false (payloadOf (frozenAt m n)) (length payload) c) in
+      let fits = object-fits m n hit d header time payload (ltb-false (payloadOf (frozenAt m n)) (length payload) c) in
       let item = filled-item m s n i free bs fits (incoming m n header time payload) (coming-back m n header time payload small t hit d l e) in
       sym (more-held (filled m n bs) (filled-sound m s n i free bs fits) n i (claimed (fifoAt m n)) refl refl k)
       ∙ ap₂ (λ (l : List Decoding) (x : Decoding). l ++ (if eqb n k then x ∷ [] else [])) (filled-held m s n i free bs fits k) item)
@@ -181,6 +185,16 @@ deliver-appends m r n header time payload small e k =
     by-deliver m n header time payload (Appends m r n header time payload small k)
     (λ i. other _ _ _ (λ z. omega arith)) (λ i t. other _ _ _ (λ z. omega arith)) (λ i t d. other _ _ _ (λ z. omega arith))
     (λ i t d f. gives m r n header time payload small k 0 d (omega arith) (accepted header 0 (length payload) d (ltb-false (topId (header .extended)) (header .id) t) (omega arith) f))
+    e
+
+pub sort-appends : SortAppends
+sort-appends m r header time payload small e k =
+    by-sort m header time payload
+    (λ s. s .delivery ≡ Delivery.Delivered → held (s .model) k ≡ held m k ++ (if eqb (s .fifo) k then holds (incoming m (s .fifo) header time payload) ∷ [] else []))
+    (λ t. other _ _ _ (λ z. omega arith)) (λ t f. other _ _ _ (λ z. omega arith)) (λ t d f z. other _ _ _ (λ z. omega arith))
+    (λ t d f z g. other _ _ _ (λ z. omega arith))
+    (λ t d f z g. gives m r (targetFor m (filterFor m header)) header time payload small k (filterFor m header) d (leb-false filterCount (filterFor m header) g)
+    (accepted header 0 (length payload) d (ltb-false (topId (header .extended)) (header .id) t) (omega arith) f))
     e
 
 -- bit 3, by computing
@@ -215,6 +229,13 @@ full-overflows m r n header time payload =
     by-deliver m n header time payload (Overflows m r n header time payload)
     (λ i. other _ _ _ (λ z. omega arith)) (λ i t. other _ _ _ (λ z. omega arith)) (λ i t d. other _ _ _ (λ z. omega arith))
     (λ i t d f. give-full m r n header time payload 0 d)
+
+pub sort-overflows : SortOverflows
+sort-overflows m r header time payload =
+    by-sort m header time payload (λ s. s .delivery ≡ Delivery.Full → read RXOVIF (wordOf (s .model) (Register.Status (s .fifo))) ≡ 1)
+    (λ t. other _ _ _ (λ z. omega arith)) (λ t f. other _ _ _ (λ z. omega arith)) (λ t d f z. other _ _ _ (λ z. omega arith))
+    (λ t d f z g. other _ _ _ (λ z. omega arith))
+    (λ t d f z g. give-full m r (targetFor m (filterFor m header)) header time payload (filterFor m header) d)
 
 -- ---- Configuration
 
@@ -293,13 +314,19 @@ module _ (m : Model) (h : Outside m) where
   performed-outside (Operation.WriteRam a) s want = h
   performed-outside Operation.None s want = h
 
+  give-outside : (n hit d : ℕ) (header : Header) (time : ℕ) (payload : List ℕ) → Outside (give m n hit d header time payload .model)
+  give-outside n hit d header time payload =
+      by-give m n header time payload (λ x. Outside (x .model)) hit d (λ a. h) (λ a b. h) (λ a b c. h) (λ a b c f. h) (λ a b c f. h)
+
   bus-outside : (b : Bus) → Outside (stepped b m)
   unfolding stepped sendModel
   bus-outside (Send n) = by-if Outside (isFifo n && sends m n) (λ e. h) (λ e. h)
   bus-outside (Deliver n header time payload) =
-      let P : Delivered → Type 0 = λ x. Outside (x .model) in
-      by-deliver m n header (time % 2 ^ 32) payload P (λ i. h) (λ i t. h) (λ i t d. h)
-      (λ i t d e. by-give m n header (time % 2 ^ 32) payload P 0 d (λ a. h) (λ a b. h) (λ a b c. h) (λ a b c f. h) (λ a b c f. h))
+      by-deliver m n header (time % 2 ^ 32) payload (λ x. Outside (x .model)) (λ i. h) (λ i t. h) (λ i t d. h)
+      (λ i t d e. give-outside n 0 d header (time % 2 ^ 32) payload)
+  bus-outside (Sort header time payload) =
+      by-sort m header (time % 2 ^ 32) payload (λ x. Outside (x .model)) (λ t. h) (λ t e. h) (λ t d e z. h) (λ t d e z g. h)
+      (λ t d e z g. give-outside (targetFor m (filterFor m header)) (filterFor m header) d header (time % 2 ^ 32) payload)
 
   happens-outside : (x : Happening) → Outside (happens x m)
   unfolding exchange

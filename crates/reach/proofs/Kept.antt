@@ -34,8 +34,10 @@ use Rattle.model.specs.Exchange.{performed, exchange}
 use Rattle.bus.specs.declared.arrival.Delivered.{Delivered}
 use Rattle.bus.specs.Held.{slotOf}
 use Rattle.bus.specs.Bus.{sends, sendModel, receives, appended, give, byCheck, deliverOf}
+use Rattle.bus.specs.Sort.{filterFor, targetFor, sortOf}
 use Rattle.bus.proofs.Laws.{sends-one}
-use Rattle.reach.specs.Bus.{Bus, Send, Deliver, stepped}
+use Rattle.bus.proofs.Sorts.{by-sort}
+use Rattle.reach.specs.Bus.{Bus, Send, Deliver, Sort, stepped}
 use Rattle.reach.specs.Reach.{Happening, Exchange, On, happens, lived, InOrder, Valid, AlwaysValid}
 use Rattle.reach.proofs.Order.{quiet-inside, fresh-order, overflowed-order, claimed-order, sent-order, commanded-order, any-size, configured-order, entered-order, left-order}
 
@@ -257,10 +259,16 @@ module _ (m : Model) (v : Valid m) (n : ℕ) where
   deliver-valid header time payload =
       by-if (λ (d : Delivered). Valid (d .model)) (isFifo n) (λ e. checked-valid (checkOf header 0 (length payload)) header time payload) (λ e. v)
 
+sort-valid : (m : Model) (v : Valid m) (header : Header) (time : ℕ) (payload : List ℕ) → Valid (sortOf m header time payload .model)
+sort-valid m v header time payload =
+    by-sort m header time payload (λ x. Valid (x .model)) (λ t. v) (λ t e. v) (λ t d e z. v) (λ t d e z g. v)
+    (λ t d e z g. give-valid m v (targetFor m (filterFor m header)) (filterFor m header) d header time payload)
+
 pub bus-valid : (b : Bus) (m : Model) → Valid m → Valid (stepped b m)
 unfolding stepped
 bus-valid (Send n) m v = send-valid m v n
 bus-valid (Deliver n header time payload) m v = deliver-valid m v n header (time % 2 ^ 32) payload
+bus-valid (Sort header time payload) m v = sort-valid m v header (time % 2 ^ 32) payload
 
 -- ---- one after the other
 

@@ -11,10 +11,11 @@ use Rattle.laws.specs.If.{if_then_else_}
 use Rattle.field.specs.Field.{read, flag, write}
 use Rattle.parts.specs.Parts.{part, put}
 use Rattle.words.specs.Words.{leBytes}
-use Rattle.configuration.specs.CanControl.{REQOP, TXQEN, STEF}
+use Rattle.configuration.specs.CanControl.{DNCNT, REQOP, TXQEN, STEF}
 use Rattle.fifo.specs.Control.{RXTSEN, TXEN, UINC, TXREQ, FRESET, FSIZE, PLSIZE, payloads, payloadOf, isFifo}
 use Rattle.fifo.specs.Status.{RXOVIF}
 use Rattle.header.specs.declared.Header.{Header}
+use Rattle.header.specs.Header.{sidOf, eidOf}
 use Rattle.message.specs.declared.object.Stamp.{Stamp}
 use Rattle.message.specs.declared.tx.Checked.{Checked}
 use Rattle.message.specs.Message.{checkOf, arriving}
@@ -31,10 +32,14 @@ use Rattle.state.specs.Model.{blank, reset, fifoAt, withSetup, withFifo, writte
 use Rattle.bank.specs.declared.writing.Written.{Written}
 use Rattle.bank.specs.Registers.{shownAt, wordOf, granted, conSet, turnedAll, conWritten, frozenSet, controlWritten, statusWritten, registerWritten}
 use Rattle.model.specs.Exchange.{received, noLayout, checkedBytes, performed, exchange}
+use Rattle.filters.specs.Filters.{targetOf, filterCount, filterOf}
 use Rattle.bus.specs.declared.arrival.Delivered.{Delivered}
+use Rattle.bus.specs.declared.sorting.Sorted.{Sorted}
 use Rattle.bus.specs.Held.{slotOf, itemAt}
 use Rattle.bus.specs.Bus.{Output, outputOf, sends, sendOutput, sendModel, receives, appended, give, byCheck, deliverOf}
-use Rattle.reach.specs.Bus.{Send, Deliver, stepped}
+use Rattle.bus.specs.Sort.{targetFor, byFilter, takenBy, filtered, sortedBy, sortOf}
+use Rattle.bus.specs.Numbers.{sortingNumbers, sortedNumbers}
+use Rattle.reach.specs.Bus.{Send, Deliver, Sort, stepped}
 use Rattle.reach.specs.Reach.{Happening, Exchange, On, happens}
 use Rattle.reach.specs.Twins.{SameFifo, Same, Reads}
 use Rattle.reach.proofs.Kept.{turned-at}
@@ -449,11 +454,43 @@ module _ (W : ℕ → ℕ → Type 0) (z : Blind W) where
       delivers-like n header time payload =
           by-ifs SameDelivered (isFifo n) _ refl (checked-like (checkOf header 0 (length payload)) n header time payload) (refl, t)
 
-      pub happens-like : (x : Happening) → Same C W (happens x c) (happens x d)
+      -- ---- sorted frames, where C leaves DNCNT the same
+
+      abbrev pub SameSorted : Sorted → Sorted → Type 0
+      SameSorted x y = (x .delivery ≡ y .delivery) × (x .fifo ≡ y .fifo) × (x .filter ≡ y .filter) × Same C W (x .model) (y .model)
+
+      module _ (dncnt : read DNCNT (c .fixed .con) ≡ read DNCNT (d .fixed .con)) (header : Header) (time : ℕ) (payload : List ℕ) where
+        abbrev filterIn : Setup → ℕ
+        filterIn s = filterOf (s .filter) (s .object) (s .mask) (header .extended) (sidOf (header .extended) (header .id)) (eidOf (header .extended) (header .id))
+
+        given-like : (n f k : ℕ) → SameSorted (byFilter (give c n f k header time payload) n f) (byFilter (give d n f k header time payload) n f)
+        given-like n f k = let (a, b) = give-like n f k header time payload in (a, refl, refl, b)
+
+        filtered-like : (k : ℕ) → SameSorted (filtered c k header time payload) (filtered d k header time payload)
+        filtered-like k =
+            by-ifs SameSorted _ _ (ap (λ (x : ℕ). not (eqb x 0)) dncnt) (refl, refl, refl, t)
+            (by-ifs SameSorted _ _ (ap (λ (s : Setup). leb filterCount (filterIn s)) (t .setup)) (refl, refl, refl, t)
+            (subst (λ (s : Setup). SameSorted (takenBy c (filterIn (c .setup)) k header time payload)
+            (byFilter (give d (targetOf (s .filter) (filterIn s)) (filterIn s) k header time payload) (targetOf (s .filter) (filterIn s)) (filterIn s)))
+            (t .setup) (given-like (targetFor c (filterIn (c .setup))) (filterIn (c .setup)) k)))
+
+        pub sorts-like : SameSorted (sortOf c header time payload) (sortOf d header time payload)
+        unfolding sortOf
+        sorts-like = go (checkOf header 0 (length payload))
+          where
+            go : (x : Checked) → SameSorted (sortedBy x c header time payload) (sortedBy x d header time payload)
+            go (Checked.Bad r) = (refl, refl, refl, t)
+            go (Checked.Dlc k) = filtered-like k
+
+        pub sorted-like : sortedNumbers (sortOf c header time payload) ≡ sortedNumbers (sortOf d header time payload)
+        sorted-like = let (a, b, e, m) = sorts-like in λ i. sortingNumbers (a i) (b i) (e i)
+
+      pub happens-like : read DNCNT (c .fixed .con) ≡ read DNCNT (d .fixed .con) → (x : Happening) → Same C W (happens x c) (happens x d)
       unfolding exchange stepped
-      happens-like (Exchange s want) = performed-like (asked s want) s want
-      happens-like (On (Send n)) = send-like n
-      happens-like (On (Deliver n header time payload)) = delivers-like n header (time % 2 ^ 32) payload .1
+      happens-like e (Exchange s want) = performed-like (asked s want) s want
+      happens-like e (On (Send n)) = send-like n
+      happens-like e (On (Deliver n header time payload)) = delivers-like n header (time % 2 ^ 32) payload .1
+      happens-like e (On (Sort header time payload)) = sorts-like e header (time % 2 ^ 32) payload .3
 
       pub exchanges-like : (R : Register → Type 0) → ((R Register.Con → ⊥) → wordOf c Register.Con ≡ wordOf d Register.Con)
           → ((n : ℕ) → (R (Register.Control n) → ⊥) → wordOf c (Register.Control n) ≡ wordOf d (Register.Control n))

@@ -12,7 +12,7 @@ use Rattle.laws.specs.If.{if_then_else_}
 use Rattle.laws.proofs.Table.{both}
 use Rattle.field.specs.Field.{Field, place, read, write, Fits, apart}
 use Rattle.field.proofs.Laws.{field-lt, read-write, write-other}
-use Rattle.configuration.specs.CanControl.{OPMOD, REQOP, TXQEN, STEF}
+use Rattle.configuration.specs.CanControl.{DNCNT, OPMOD, REQOP, TXQEN, STEF}
 use Rattle.fifo.specs.Control.{RXTSEN, TXEN, UINC, TXREQ, FRESET, FSIZE, PLSIZE}
 use Rattle.operation.specs.declared.place.Register.{Register}
 use Rattle.ring.specs.Registers.{frozenFields, copied}
@@ -21,7 +21,7 @@ use Rattle.state.specs.declared.Model.{Model}
 use Rattle.bank.specs.Registers.{modeOf, wordOf, registerWritten}
 use Rattle.bank.proofs.Laws.{mode-fits}
 use Rattle.reach.specs.Twins.{IsCon, conOthers, ButMode, ModeAsked, ModesAlike, IsControl, controlOthers, ButRtren, RtrenWritten, RtrenIdle}
-use Rattle.reach.proofs.Same.{Blind, same-self, con-like, control-written, control-read, outputs-like, delivers-like, happens-like, exchanges-like}
+use Rattle.reach.proofs.Same.{Blind, same-self, con-like, control-written, control-read, outputs-like, delivers-like, sorted-like, happens-like, exchanges-like}
 
 -- ---- words that are alike in some fields
 
@@ -109,7 +109,8 @@ modes-alike c d b =
       words = λ r i. go r i;
       sends = outputs-like W words-blind C k c d b;
       delivers = λ n header time payload. delivers-like W words-blind C k c d b n header time payload .0;
-      after = happens-like W words-blind C k c d b;
+      sorts = sorted-like W words-blind C k c d b (alike-at DNCNT conOthers (c .fixed .con) (d .fixed .con) refl (b .con));
+      after = happens-like W words-blind C k c d b (alike-at DNCNT conOthers (c .fixed .con) (d .fixed .con) refl (b .con));
     }
   where
     go : (r : Register) → IsCon r → Alike conOthers (wordOf c r) (wordOf d r)
@@ -170,7 +171,8 @@ rtren-idle c d b =
       words = λ r i. go r i;
       sends = outputs-like W rtren-blind C k c d b;
       delivers = λ n header time payload. delivers-like W rtren-blind C k c d b n header time payload .0;
-      after = happens-like W rtren-blind C k c d b;
+      sorts = sorted-like W rtren-blind C k c d b (ap (read DNCNT) (b .con));
+      after = happens-like W rtren-blind C k c d b (ap (read DNCNT) (b .con));
     }
   where
     go : (r : Register) → IsControl r → Alike controlOthers (wordOf c r) (wordOf d r)

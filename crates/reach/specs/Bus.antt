@@ -5,13 +5,16 @@ use mathlib.Core.List.{List}
 use Rattle.header.specs.declared.Header.{Header}
 use Rattle.state.specs.declared.Model.{Model}
 use Rattle.bus.specs.Bus.{sendModel, deliverOf}
+use Rattle.bus.specs.Sort.{sortOf}
 
--- the chip sends from a FIFO; a frame arrives for a FIFO, with a timestamp
+-- the chip sends from a FIFO; a frame arrives for a FIFO, with a timestamp; a frame arrives and the filters sort it
 pub data Bus : Type 0 where
   Send : ℕ → Bus
   Deliver : ℕ → Header → (time : ℕ) → List ℕ → Bus
+  Sort : Header → (time : ℕ) → List ℕ → Bus
 
 -- a timestamp has 32 bits
 unfoldable pub stepped : Bus → Model → Model
 stepped (Send n) m = sendModel m n
 stepped (Deliver n header time payload) m = deliverOf m n header (time % 2 ^ 32) payload .model
+stepped (Sort header time payload) m = sortOf m header (time % 2 ^ 32) payload .model

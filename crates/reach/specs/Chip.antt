@@ -24,6 +24,7 @@ use Rattle.model.specs.Exchange.{exchange}
 use Rattle.bus.specs.declared.arrival.Delivery.{Delivery}
 use Rattle.bus.specs.Held.{held}
 use Rattle.bus.specs.Bus.{nothing, outputOf, sendOutput, sendModel, incoming, deliverOf}
+use Rattle.bus.specs.Sort.{sortOf}
 use Rattle.reach.specs.Reach.{Reached}
 
 -- ---- send
@@ -67,6 +68,23 @@ abbrev pub FullOverflows : Type 0
 FullOverflows =
     (m : Model) → Reached m → (n : ℕ) (header : Header) (time : ℕ) (payload : List ℕ) → deliverOf m n header time payload .delivery ≡ Delivery.Full
     → read RXOVIF (wordOf (deliverOf m n header time payload .model) (Register.Status n)) ≡ 1
+
+-- ---- sort
+
+-- a frame that a filter took is the last that its target holds; those before it stay, and so does every other FIFO
+abbrev pub SortAppends : Type 0
+SortAppends =
+    (m : Model) → Reached m → (header : Header) (time : ℕ) (payload : List ℕ) → time < 2 ^ 32
+    → let s = sortOf m header time payload in
+    s .delivery ≡ Delivery.Delivered → (k : ℕ)
+    → held (s .model) k ≡ held m k ++ (if eqb (s .fifo) k then holds (incoming m (s .fifo) header time payload) ∷ [] else [])
+
+-- one turned down by a full FIFO sets that FIFO's overflow
+abbrev pub SortOverflows : Type 0
+SortOverflows =
+    (m : Model) → Reached m → (header : Header) (time : ℕ) (payload : List ℕ)
+    → let s = sortOf m header time payload in
+    s .delivery ≡ Delivery.Full → read RXOVIF (wordOf (s .model) (Register.Status (s .fifo))) ≡ 1
 
 -- ---- Configuration
 

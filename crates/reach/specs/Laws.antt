@@ -1,7 +1,7 @@
 -- Everything that is proved of the chips that are reached.
 -- Assumes nothing.
 use Rattle.reach.specs.Reach.{AlwaysValid, UincReads0, FresetReads0}
-use Rattle.reach.specs.Chip.{SendTakes, SendKeeps, SendInside, DeliverAppends, FullOverflows, Entering, Resetting, InsideEmpty, OpmodExactly, StatusReads}
+use Rattle.reach.specs.Chip.{SendTakes, SendKeeps, SendInside, DeliverAppends, FullOverflows, SortAppends, SortOverflows, Entering, Resetting, InsideEmpty, OpmodExactly, StatusReads}
 use Rattle.reach.specs.Twins.{ModeAsked, ModesAlike, RtrenWritten, RtrenIdle}
 
 pub record Laws : Type 0 where
@@ -13,6 +13,8 @@ pub record Laws : Type 0 where
   pub sendInside : SendInside
   pub deliverAppends : DeliverAppends
   pub fullOverflows : FullOverflows
+  pub sortAppends : SortAppends
+  pub sortOverflows : SortOverflows
   pub entering : Entering
   pub resetting : Resetting
   pub insideEmpty : InsideEmpty

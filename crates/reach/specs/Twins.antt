@@ -20,6 +20,8 @@ use Rattle.state.specs.Model.{fifoAt, frozenAt}
 use Rattle.bank.specs.Registers.{wordOf, conWritten, registerWritten}
 use Rattle.model.specs.Exchange.{exchange}
 use Rattle.bus.specs.Bus.{sendOutput, deliverOf}
+use Rattle.bus.specs.Sort.{sortOf}
+use Rattle.bus.specs.Numbers.{sortedNumbers}
 use Rattle.reach.specs.Reach.{Happening, happens}
 
 -- ---- what is the same, and what acting alike is
@@ -61,6 +63,9 @@ pub record ActAlike (Alikes : Model → Model → Type 0) (R : Register → Type
   pub delivers :
       (n : ℕ) (header : Header) (time : ℕ) (payload : List ℕ)
       → deliverOf c n header time payload .delivery ≡ deliverOf d n header time payload .delivery
+  pub sorts :
+      (header : Header) (time : ℕ) (payload : List ℕ)
+      → sortedNumbers (sortOf c header time payload) ≡ sortedNumbers (sortOf d header time payload)
   pub after : (x : Happening) → Alikes (happens x c) (happens x d)
 
 -- those of some fields that share no bit with any of others
