@@ -1,6 +1,8 @@
 #!/usr/bin/env python3
 """scenarios.py SEED COUNT: COUNT random scenarios for drive and second.py, as a script (docs/SCRIPTS.md); the same for the same seed.
-A scenario sets up some FIFOs, leaves Configuration, and then calls, delivers, sends, fails and looks, with good arguments and bad ones."""
+A scenario sets up some FIFOs and filters, leaves Configuration, and then calls, delivers, sorts, sends, fails and looks, with good
+arguments and bad ones. Filters and the frames that are sorted go by the same few identifiers, so that masks and kinds decide; filters are
+set by calls and by raw words (targets may be 0, unused bits may be 1), single bits of them change on the way, and DNCNT is now and then above 0."""
 import random, sys
 
 if sys.argv[1:2] in (['-h'], ['--help']): sys.exit(print(__doc__))
@@ -19,22 +21,45 @@ def length(fl):
 def ident():
     if rare(25): return r.choice(['s800', 'x20000000', 'sffffffff', 'xffffffff'])
     return 's%x' % r.randrange(0x800) if r.randrange(2) else 'x%x' % r.randrange(1 << 29)
+def known(): # one of the scenario's few identifiers; sometimes a bit differs, or the kind
+    i = r.choice(ids)
+    if rare(4): i ^= 1 << r.randrange(29)
+    return 'x%x' % i if r.randrange(2) else 's%x' % (i >> 18)
 def number(fifos): return r.choice([0, 32, 255, 1, 31]) if rare(15) else r.choice(fifos)
 def step(fifos):
-    if r.randrange(2): return 'send %d' % number(fifos)
-    fl = flags()
-    return 'deliver %d %s %s %08x %s' % (number(fifos), ident(), fl, r.randrange(1 << 32), hexed(length(fl)))
+    k, fl = r.randrange(6), flags()
+    if k < 2: return 'send %d' % number(fifos)
+    frame = '%s %08x %s' % (fl, r.randrange(1 << 32), hexed(length(fl)))
+    if k < 4: return 'deliver %d %s %s' % (number(fifos), ident(), frame)
+    return 'sort %s %s' % (ident() if rare(8) else known(), frame)
 def control(): # PLSIZE, FSIZE, TXAT, priority, then the low bits; FIFOs are small, so that they fill up
     return r.choice([0, 0, 1, 3, 7]) << 29 | r.randrange(4) << 24 | r.randrange(128) << 16 | r.randrange(2) << 10 | r.choice([0, 0x200]) | r.randrange(256)
 def address():
     return r.choice([0, 4, 8, 0xC, 0x14, 0x1C, 0xE00, 0xE04, 0x10, 0x400, 0xBFC, 0xC00, 0x5C + 4 * r.randrange(93), 0x1D0 + 4 * r.randrange(72)])
+
+def raw_write(a, w): return 'raw 2%03x%s 0' % (a, le(w))
+def filter_call(fifos):
+    i, m = (known(), r.choice(['s7ff', 's0', 'x1fffffff', known()])) if r.randrange(3) else (ident(), ident())
+    return 'configure_filter %d %s' % (r.choice(near), 'off' if rare(8) else '%d %s %s %s' % (number(fifos), r.choice(['std', 'ext', 'both']), i, m))
+def filter_words(fifos): # object, mask and the control word of four filters
+    f, i = r.choice(near), r.choice(ids)
+    out.append(raw_write(0x1F0 + 8 * f, i >> 18 | (i & 0x3ffff) << 11 | r.randrange(8) << 29))
+    mask = r.choice([0, 0x7FF, 0x1FFFFFFF, 1 << r.randrange(29), r.randrange(1 << 29)])
+    out.append(raw_write(0x1F4 + 8 * f, mask | r.randrange(8) << 29))
+    four = [r.choice([0, 0x80]) | r.choice([*fifos, *fifos, 0]) | r.choice([0, 0x60]) for _ in range(4)]
+    out.append(raw_write(0x1D0 + f // 4 * 4, int.from_bytes(four, 'little')))
+def filter_bit(): # of a filter's register, set or cleared
+    f = r.choice(near)
+    a = r.choice([0x1D0 + f // 4 * 4, 0x1F0 + 8 * f, 0x1F4 + 8 * f])
+    clear, set_ = r.sample([0, 1 << r.randrange(32)], 2)
+    return 'modify_register %x %08x %08x' % (a, clear, set_)
 
 def message(fifos):
     fl = flags()
     seq = r.choice([0, 1, 0x7fffff, 0x800000]) if rare(10) else r.randrange(1 << 23)
     return '%d %s %s %d %s' % (number(fifos), ident(), fl, seq, hexed(length(fl)))
 def call(fifos):
-    k = r.randrange(40)
+    k = r.randrange(44)
     if k < 9: return 'push ' + message(fifos)
     if k < 13: return 'request %d' % number(fifos)
     if k < 17: return 'transmit ' + message(fifos)
@@ -48,14 +73,18 @@ def call(fifos):
     if k == 36: return r.choice(['set_op_mode %d' % r.randrange(9), 'get_op_mode', 'verify_long', 'reset'] if rare(4) else ['get_op_mode'])
     if k == 37: return 'configure_fifo %d %d %d rx %d %d %d %d %d' % (number(fifos), r.randrange(40), r.randrange(9), *[r.randrange(2) for _ in range(5)])
     if k == 38: return 'configure_filter %d %d %s %s %s' % (r.randrange(33), number(fifos), r.choice(['std', 'ext', 'both']), ident(), ident())
+    if k == 39: return filter_call(fifos)
+    if k < 42: return filter_bit()
+    if k == 42: return 'modify_register 0 0000001f %08x' % (1 << r.randrange(5) if rare(3) else 0)
     return 'modify_register %x %08x %08x' % (0x5C + 12 * (r.choice(fifos) - 1), r.randrange(1 << 11), r.randrange(1 << 11))
 
 def action(fifos):
-    k = r.randrange(30)
+    k = r.randrange(32)
     if k < 7: out.append(step(fifos))
     elif k < 12: out.append('held %d' % number(fifos))
     elif k < 14: out.append('raw 3%03x 4' % (0x5C + 4 * r.randrange(93)))
     elif k == 14: out.append('raw %s %d' % (hexed(r.randrange(8)), r.randrange(8)))
+    elif k == 15: filter_words(fifos)
     else:
         out.append('call ' + call(fifos))
         for _ in range(r.choice([0, 0, 0, 1, 1, 2, 3])):
@@ -65,8 +94,12 @@ def action(fifos):
 for _ in range(count):
     out.append('new')
     fifos = sorted(r.sample(range(1, 32), 1 + r.randrange(4)))
-    for n in fifos: out.append('raw 2%03x%s 0' % (0x5C + 12 * (n - 1), le(control())))
-    out.append('raw 2000%s 0' % le(0x00000760 | r.choice([0, 1, 6]) << 24 | (r.choice([0x80000, 0x100000]) if rare(12) else 0)))
+    ids = [r.randrange(1 << 29) for _ in range(3)]
+    near = r.sample(range(32), 4)
+    for n in fifos: out.append(raw_write(0x5C + 12 * (n - 1), control()))
+    for _ in range(r.randrange(5)): filter_words(fifos) if r.randrange(2) else out.append('call ' + filter_call(fifos))
+    off = r.choice([0x80000, 0x100000]) if rare(12) else 0
+    out.append(raw_write(0, 0x00000760 | r.choice([0, 1, 6]) << 24 | off | (r.randrange(32) if rare(12) else 0)))
     for _ in range(10 + r.randrange(40)): action(fifos)
     for n in fifos: out.append('held %d' % n)
 sys.stdout.write('\n'.join(out) + '\n')

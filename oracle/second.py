@@ -1,8 +1,8 @@
 #!/usr/bin/env python3
 """A second model of the driver and the modelled chip, in another language: reads a script (docs/SCRIPTS.md) from standard input and writes
-the transcript that drive should write. Written from docs/01-scope.md, chip-facts.md, DECISIONS.md and the formats alone, without a look at
-the code or the definitions under crates/, so that the two can be held against each other: crates/drive/stdout is what this writes for
-crates/drive/stdin. A new request changes this file by its own words first."""
+the transcript that drive should write. Written from docs/01-scope.md, 02-change-requests.md, chip-facts.md, DECISIONS.md and the formats
+alone, without a look at the code or the definitions under crates/, so that the two can be held against each other: crates/drive/stdout is
+what this writes for crates/drive/stdin. A new request changes this file by its own words first."""
 import sys, re
 
 PL = [8, 12, 16, 20, 24, 32, 48, 64]
@@ -34,11 +34,11 @@ def len_dlc(n, fd):
 def up4(n): return (n + 3) // 4 * 4
 
 def bad_id(i): return i[1] > (0x1fffffff if i[0] == 'x' else 0x7ff)
-def header(i, flags, n, seq):
-    ext, v = i[0] == 'x', i[1]
-    w0 = ((v >> 18) & 0x7ff) | ((v & 0x3ffff) << 11) if ext else v
-    w1 = len_dlc(n, 'f' in flags) | ext << 4 | ('r' in flags) << 5 | ('b' in flags) << 6 | ('f' in flags) << 7 | ('e' in flags) << 8 | seq << 9
-    return le(w0) + le(w1)
+def word0(i): return i[1] >> 18 | (i[1] & 0x3ffff) << 11 if i[0] == 'x' else i[1]
+def header(i, flags, n, rest):
+    """rest: SEQ or FILHIT, in its place in word 1"""
+    w1 = len_dlc(n, 'f' in flags) | (i[0] == 'x') << 4 | ('r' in flags) << 5 | ('b' in flags) << 6 | ('f' in flags) << 7 | ('e' in flags) << 8 | rest
+    return le(word0(i)) + le(w1)
 def parse_header(b):
     w0, w1 = word(b[:4]), word(b[4:8])
     ext = bits(w1, 4, 4)
@@ -166,15 +166,36 @@ class Chip:
         s.old[n] = (s.old[n] + 1) % s.depth(n); s.count[n] -= 1
         if s.count[n] == 0: s.con[n] &= ~(1 << 9)
         return f
-    def deliver(s, n, i, fl, t, p):
-        if not 1 <= n <= 31: return 'refused 20'
+    def unfit(s, i, fl, p):
         if bad_id(i): return 'refused 21'
         if len_dlc(len(p), 'f' in fl) is None: return 'refused 22'
+        return None
+    def deliver(s, n, i, fl, t, p):
+        if not 1 <= n <= 31: return 'refused 20'
+        return s.unfit(i, fl, p) or s.append(n, 0, i, fl, t, p)
+    def matches(s, f, i):
+        """an enabled filter: SID and, of an extended frame, EID where the mask is 1; the kind where MIDE is 1"""
+        if not bits(s.reg[0x1D0 + 4 * (f // 4)], 8 * (f % 4) + 7, 8 * (f % 4) + 7): return False
+        obj, mask, ext = s.reg[0x1F0 + 8 * f], s.reg[0x1F4 + 8 * f], i[0] == 'x'
+        if bits(mask, 30, 30) and bits(obj, 30, 30) != ext: return False
+        return (obj ^ word0(i)) & mask & (0x1fffffff if ext else 0x7ff) == 0
+    def sort(s, i, fl, t, p):
+        bad = s.unfit(i, fl, p)
+        if bad: return bad
+        if bits(s.reg[0], 4, 0): return 'refused 31'
+        hits = [f for f in range(32) if s.matches(f, i)]
+        if not hits: return 'refused 30'
+        f = hits[0]
+        n = bits(s.reg[0x1D0 + 4 * (f // 4)], 8 * (f % 4) + 4, 8 * (f % 4))
+        answer = s.append(n, f, i, fl, t, p)
+        return 'delivered %d filter %d' % (n, f) if answer == 'delivered' else answer
+    def append(s, n, f, i, fl, t, p):
+        """a frame that filter f took, for FIFO n; 0 is no FIFO"""
         if s.conf: return 'turned down configuration'
-        if s.tx(n): return 'turned down not receiving'
+        if n == 0 or s.tx(n): return 'turned down not receiving'
         if len(p) > s.plsize(n): return 'turned down too long'
         if s.count[n] == s.depth(n): s.ovf[n] = 1; return 'turned down full'
-        o = header(i, fl, len(p), 0) + (le(t) if s.ts(n) else b'') + p
+        o = header(i, fl, len(p), f << 11) + (le(t) if s.ts(n) else b'') + p
         o += bytes(up4(len(o)) - len(o))
         a = s.slot(n, s.count[n])
         s.ram[a:a + len(o)] = o
@@ -304,7 +325,7 @@ def c_push(n, i, fl, seq, p):
     if len(p) > PL[bits(con, 31, 29)]: raise Refused(7)
     if not (yield from rd(conaddr(n) + 4)) & 1: raise Refused(8)
     a = yield from uaddr(n)
-    o = header(i, fl, len(p), seq) + p
+    o = header(i, fl, len(p), seq << 9) + p
     o += bytes(up4(len(o)) - len(o))
     ramcheck(a, len(o), 5)
     yield from ask(cmd(2, a) + o, 0, 2)
@@ -398,6 +419,7 @@ def parse_call(ts):
 def parse_step(ts):
     if ts[0] == 'send': a = args([D], ts[1:]); return lambda c: c.send(*a)
     if ts[0] == 'deliver': a = args([D, ident, flags, hexw, byts], ts[1:]); return lambda c: c.deliver(*a)
+    if ts[0] == 'sort': a = args([ident, flags, hexw, byts], ts[1:]); return lambda c: c.sort(*a)
     raise Bad
 
 def run(text, out):
@@ -446,7 +468,7 @@ def run(text, out):
                 except StopIteration as e: out.append('= ' + e.value)
                 except Refused as e: out.append('= ' + str(e))
                 out.append('')
-            elif ts[0] in ('send', 'deliver'):
+            elif ts[0] in ('send', 'deliver', 'sort'):
                 f = parse_step(ts)
                 out += ['bus %s = %s' % (' '.join(ts), f(chip)), '']
             elif ts[0] == 'raw':
