@@ -323,8 +323,8 @@ function effect(    start) {
     expression(0)
     return 1
 }
-# An expression that ends in a block ends there.
-function alone() { if (is("as") || is_kind("S") && !is("{") && !is("}")) wanted("; or a comma behind a block") }
+# An expression that ends in a block ends there; a `!` begins the next one in both languages.
+function alone() { if (is("as") || is_kind("S") && !is("{") && !is("}") && !is("!")) wanted("; or a comma behind a block") }
 
 function binding() {
     take("let")
@@ -443,6 +443,7 @@ function elements() {
 }
 function path(bare,    w, long) {
     if (is_most()) { p += 3; return }
+    if (is_count()) { p += 3; arguments(); return }
     if (is("crate")) ours()
     else if (is("Self")) w = token[p++]
     else if (is_small() && token[p + 1] == "::") from(small())
@@ -458,6 +459,8 @@ function path(bare,    w, long) {
 }
 # u64::MAX and the like; that of usize is another number at another width.
 function is_most() { return is_integer() && token[p] !~ /size$/ && token[p + 1] == "::" && token[p + 2] == "MAX" }
+# The zeros at the end of a word, of a 0 all 32: the same function in both, called by its path.
+function is_count() { return is("u32") && token[p + 1] == "::" && token[p + 2] == "trailing_zeros" && token[p + 3] == "(" }
 function arguments() { for (take("("); !is(")"); comma(")")) expression(0); p++ }
 function behind(    w) {
     while (is(".") || is("[")) {

@@ -1,6 +1,7 @@
 // What stands between calls: bus steps, raw exchanges, what a FIFO holds, a new chip. Each is done and written.
 use bus::Delivery;
 use bus::Sending;
+use header::Header;
 use message::Frame;
 use message::Reading;
 use model::Heard;
@@ -27,6 +28,22 @@ fn delivered_answer(delivery: Delivery, out: &mut [u8]) -> usize {
         Delivery::NotReceiving => lines::put(out, 0, b"turned down not receiving"),
         Delivery::TooLong => lines::put(out, 0, b"turned down too long"),
         Delivery::Full => lines::put(out, 0, b"turned down full"),
+    }
+}
+
+// Behind `delivered`: the FIFO that has the frame now, and the filter that took it.
+fn put_taken(fifo: u32, filter: u32, out: &mut [u8], at: usize) -> usize {
+    let a = lines::byte(out, at, b' ');
+    let b = lines::decimal(out, a, fifo as u64);
+    let c = lines::put(out, b, b" filter ");
+    lines::decimal(out, c, filter as u64)
+}
+
+fn sorted_answer(delivery: Delivery, fifo: u32, filter: u32, out: &mut [u8]) -> usize {
+    let n = delivered_answer(delivery, out);
+    match delivery {
+        Delivery::Delivered => put_taken(fifo, filter, out, n),
+        _ => n,
     }
 }
 
@@ -62,12 +79,30 @@ fn delivered(m: Model, words: &[u8], numbers: &[u64], payload: &[u8]) -> Model {
     d.model
 }
 
+// The header of a frame whose line has no FIFO in front.
+fn arrived(numbers: &[u64]) -> Header {
+    let behind = [0, starts::number(numbers, 0), starts::number(numbers, 1)];
+    starts::header_of(&behind)
+}
+
+fn sorted(m: Model, words: &[u8], numbers: &[u64], payload: &[u8]) -> Model {
+    let s = bus::sort(m, arrived(numbers), starts::word(numbers, 2), payload);
+    let delivery = s.delivery;
+    let mut out = [0u8; 64];
+    let n = sorted_answer(delivery, s.fifo, s.filter, &mut out);
+    answered(words, text::front(&out, n));
+    s.model
+}
+
 // A bus step, by its words, its row in a script and what they say.
 pub fn bus_step(m: Model, s: Spoken, words: &[u8], numbers: &[u64], lent: &[u8]) -> Model {
-    if s.row == script::SEND {
-        return sent(m, words, numbers);
+    let row = s.row;
+    let payload = text::front(lent, s.count);
+    match row {
+        script::SEND => sent(m, words, numbers),
+        script::DELIVER => delivered(m, words, numbers, payload),
+        _ => sorted(m, words, numbers, payload),
     }
-    delivered(m, words, numbers, text::front(lent, s.count))
 }
 
 // What came back from an exchange that was carried out, and 27 where it asked to leave Configuration and was not granted.
@@ -172,8 +207,7 @@ pub fn new_chip() -> Model {
 pub fn between(m: Model, s: Spoken, words: &[u8], numbers: &[u64], lent: &[u8]) -> Model {
     let row = s.row;
     let next = match row {
-        script::SEND => bus_step(m, s, words, numbers, lent),
-        script::DELIVER => bus_step(m, s, words, numbers, lent),
+        script::SEND | script::DELIVER | script::SORT => bus_step(m, s, words, numbers, lent),
         script::RAW => raw(
             m,
             text::front(lent, starts::number(numbers, 0) as usize),

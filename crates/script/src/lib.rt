@@ -22,13 +22,15 @@ pub const SEND: usize = 0;
 
 pub const DELIVER: usize = 1;
 
-pub const RAW: usize = 2;
+pub const SORT: usize = 2;
 
-pub const HELD: usize = 3;
+pub const RAW: usize = 3;
 
-pub const FAIL: usize = 2;
+pub const HELD: usize = 4;
 
-pub const ANSWER: usize = 3;
+pub const FAIL: usize = 3;
+
+pub const ANSWER: usize = 4;
 
 // The number of the exchange that an @ line is about.
 pub fn exchange_of(line: &[u8]) -> Number {
@@ -44,7 +46,7 @@ pub fn exchange_of(line: &[u8]) -> Number {
 pub fn note_of(line: &[u8], numbers: &mut [u64], lent: &mut [u8]) -> Line {
     spoken::row_of(
         text::rest(line, 1),
-        b"send d deliver difhb fail - answer b",
+        b"send d deliver difhb sort ifhb fail - answer b",
         numbers,
         lent,
     )
@@ -68,7 +70,7 @@ fn call(line: &[u8], numbers: &mut [u64], lent: &mut [u8]) -> Entry {
 }
 
 fn step(line: &[u8], numbers: &mut [u64], lent: &mut [u8]) -> Entry {
-    let table = b"send d deliver difhb raw bd held d new -";
+    let table = b"send d deliver difhb sort ifhb raw bd held d new -";
     match spoken::row_of(line, table, numbers, lent) {
         Line::Row(s) => Entry::Step(s),
         Line::Bad(f) => Entry::Bad(f),
