@@ -3,7 +3,8 @@ use crate::mcp::{Failed, Line};
 use crate::proved::{bus, fifo as fifos, model, state};
 use crate::{Header, Refusal};
 
-/// What a frame that arrived came to: `Delivered`, refused (20, 21, 22), or turned down by a cause.
+/// What a frame that arrived came to: `Delivered`, refused (named for a FIFO: 20, 21, 22; sorted: 21, 22, 31, 30), or turned down by a
+/// cause.
 pub use crate::proved::bus::Delivery;
 /// What a send came to: a frame, a message that is no frame, nothing to send, or refused (20).
 pub use crate::proved::bus::Sending;
@@ -17,6 +18,16 @@ pub use crate::proved::message::Payload;
 pub use crate::proved::message::Reading;
 /// The chip's state: registers, FIFOs and RAM.
 pub use crate::proved::state::Model;
+
+/// What a frame that the filters sorted came to.
+#[derive(Clone, Copy, Debug, PartialEq, Eq)]
+pub struct Sorted {
+    pub delivery: Delivery,
+    /// The FIFO that it was for, also where that turned it down; 0 where it was refused.
+    pub fifo: u32,
+    /// The filter that took it; 0 where it was refused.
+    pub filter: u32,
+}
 
 /// A chip, and what is told of its exchanges.
 #[derive(Clone, Debug, PartialEq, Eq)]
@@ -48,6 +59,13 @@ impl Chip {
         let delivered = bus::deliver(self.model, fifo, header, time, payload);
         self.model = delivered.model;
         delivered.delivery
+    }
+
+    /// A frame arrives, at this time, and the filters sort it: the lowest-numbered enabled one that matches gives it to its FIFO.
+    pub fn sort(&mut self, header: Header, time: u32, payload: &[u8]) -> Sorted {
+        let sorted = bus::sort(self.model, header, time, payload);
+        self.model = sorted.model;
+        Sorted { delivery: sorted.delivery, fifo: sorted.fifo, filter: sorted.filter }
     }
 
     /// How many messages a FIFO holds. Refused: 20.

@@ -62,7 +62,7 @@ pub use proved::driver::Header;
 pub use proved::driver::Stamp;
 /// Document 01's number of a refusal.
 pub use proved::driver::number;
-/// Why a call was refused, by document 01's table. 3 carries the address, 4 and 5 the length.
+/// Why a call was refused, by document 01's table; 30 and 31 are document 02's. 3 carries the address, 4 and 5 the length.
 ///
 /// | number | | given exactly when |
 /// |---|---|---|
@@ -88,6 +88,8 @@ pub use proved::driver::number;
 /// | 26 | `WrongAnswer` | an answer of another length or kind than asked for, at the end of a RAM read too: only in a loop of your own |
 /// | 27 | `NoLayout` | the modelled chip did not leave Configuration: never of a call |
 /// | 28 | `BufferTooSmall` | the buffer for a payload has fewer than 64 bytes, or a RAM read is not for a part inside its buffer |
+/// | 30 | `NoMatch` | no filter of the modelled chip takes a frame that it was to sort: never of a call |
+/// | 31 | `DeviceNet` | DNCNT of the modelled chip is above 0 where it was to sort a frame: never of a call |
 pub use proved::driver::Refusal;
 
 /// The calls themselves, for a loop of your own, with interrupts or DMA perhaps. No function here has a precondition.

@@ -31,6 +31,7 @@ static struct {
     uint8_t buf[72];
     mcp_message message;
     mcp_frame frame;
+    mcp_sorted sorted;
     uint32_t word, value;
     uint8_t next, accepted;
 } out, before;
@@ -272,6 +273,11 @@ static void nulls(void)
     NOTHING_DONE(mcp_chip_deliver(&chip, 3, &header, 0, NULL, 8, &out.word));
     NOTHING_DONE(mcp_chip_deliver(&chip, 3, &header, 0, bytes, too_long, &out.word));
     NOTHING_DONE(mcp_chip_deliver(&chip, 3, &header, 0, bytes, 8, NULL));
+    NOTHING_DONE(mcp_chip_sort(NULL, &header, 0, bytes, 8, &out.sorted));
+    NOTHING_DONE(mcp_chip_sort(&chip, NULL, 0, bytes, 8, &out.sorted));
+    NOTHING_DONE(mcp_chip_sort(&chip, &header, 0, NULL, 8, &out.sorted));
+    NOTHING_DONE(mcp_chip_sort(&chip, &header, 0, bytes, too_long, &out.sorted));
+    NOTHING_DONE(mcp_chip_sort(&chip, &header, 0, bytes, 8, NULL));
     NOTHING_DONE(mcp_chip_held(NULL, 1, &out.word));
     NOTHING_DONE(mcp_chip_held(&chip, 1, NULL));
     NOTHING_DONE(mcp_chip_held_at(NULL, 2, 0, &out.frame));
@@ -556,6 +562,46 @@ static void the_chip(void)
     IS(!memcmp(whole, all_of_it, 2048));
 }
 
+/* Whether a frame is sorted so: with an identifier and a payload's length, FD above 9 bytes. */
+static int comes_to(uint32_t id, size_t len, uint32_t turned_down, uint32_t fifo, uint32_t taken_by)
+{
+    const mcp_header h = { .id = id, .fdf = len > 9 };
+    return mcp_chip_sort(&chip, &h, 7, bytes, len, &out.sorted) == 0 && out.sorted.turned_down == turned_down && out.sorted.fifo == fifo &&
+           out.sorted.filter == taken_by;
+}
+
+static int refused_by(uint32_t id, size_t len)
+{
+    const mcp_header h = { .id = id, .fdf = len > 9 };
+    fresh();
+    int r = mcp_chip_sort(&chip, &h, 7, bytes, len, &out.sorted);
+    IS(untouched());
+    return r;
+}
+
+/* A frame that the filters sort: document 02's 21, 22, 31, 30, then the causes of a delivery. */
+static void sorting(void)
+{
+    mcp_filter f = filter;
+    uint8_t word[4];
+    prepare();
+    IS(refused_by(0x123, 8) == 30);
+    IS(mcp_configure_filter(&line, 0, &filter) == 0);
+    f.fifo = 3, f.object.id = 0x200;
+    IS(mcp_configure_filter(&line, 9, &f) == 0);
+    f.fifo = 1, f.object.id = 0x300;
+    IS(mcp_configure_filter(&line, 31, &f) == 0);
+    IS(comes_to(0x123, 8, MCP_DELIVERED, 2, 0) && held(2) == 2);
+    IS(comes_to(0x223, 5, MCP_DELIVERED, 3, 9) && held(3) == 2);
+    /* FILHIT, bits 15 to 11 of word 1: FIFO 3 is behind 4 x 16 and 2 x 76 bytes, the frame in its second slot. */
+    IS(mcp_read_ram(&line, 0x400 + 64 + 152 + 16 + 4, word, 4) == 0 && word[0] == 5 && word[1] == 9 << 3 && word[2] == 0);
+    IS(comes_to(0x223, 8, MCP_FULL, 3, 9) && comes_to(0x223, 12, MCP_TOO_LONG, 3, 9) && comes_to(0x323, 12, MCP_NOT_RECEIVING, 1, 31));
+    IS(mcp_set_op_mode(&line, 4) == 0 && comes_to(0x323, 12, MCP_IN_CONFIGURATION, 1, 31));
+    IS(refused_by(0x423, 12) == MCP_NO_MATCH);
+    IS(mcp_modify_register(&line, 0, 0x1F, 0x10) == 0);
+    IS(refused_by(0x423, 12) == MCP_DEVICE_NET && refused_by(0x423, 9) == MCP_BAD_PAYLOAD && refused_by(0x800, 9) == MCP_BAD_IDENTIFIER);
+}
+
 int main(void)
 {
     failing();
@@ -567,6 +613,7 @@ int main(void)
     filter_fields();
     header_fields();
     the_chip();
+    sorting();
     printf("calls: %lu looked at, all as written down\n", looked);
     return 0;
 }

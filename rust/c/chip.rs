@@ -24,9 +24,17 @@ pub struct CFrame {
     payload: [u8; 64],
 }
 
+#[repr(C)]
+pub struct CSorted {
+    turned_down: u32,
+    fifo: u32,
+    filter: u32,
+}
+
 layout! {
     CChip 2800, words 0;
     CFrame 88, header 0, seq 12, time 16, kind 20, stamped 21, len 22, payload 23;
+    CSorted 12, turned_down 0, fifo 4, filter 8;
 }
 
 /// What `kind` says: MCP_NOTHING, MCP_FRAME and MCP_NO_FRAME.
@@ -129,6 +137,18 @@ pub unsafe extern "C" fn mcp_chip_send(p: *mut CChip, fifo: u32, frame: *mut CFr
     .unwrap_or(NULL)
 }
 
+/// MCP_DELIVERED and the causes, or a refusal.
+fn why(delivery: Delivery) -> Result<u32, Refusal> {
+    match delivery {
+        Delivery::Delivered => Ok(0),
+        Delivery::Configuration => Ok(1),
+        Delivery::NotReceiving => Ok(2),
+        Delivery::TooLong => Ok(3),
+        Delivery::Full => Ok(4),
+        Delivery::Refused(r) => Err(r),
+    }
+}
+
 #[no_mangle]
 pub unsafe extern "C" fn mcp_chip_deliver(
     p: *mut CChip,
@@ -142,15 +162,25 @@ pub unsafe extern "C" fn mcp_chip_deliver(
     (|| {
         there(turned_down)?;
         let (header, payload) = (header.as_ref()?.header(), bytes(payload, len)?);
-        let why = match chip(p)?.deliver(fifo, header, time, payload) {
-            Delivery::Delivered => Ok(0),
-            Delivery::Configuration => Ok(1),
-            Delivery::NotReceiving => Ok(2),
-            Delivery::TooLong => Ok(3),
-            Delivery::Full => Ok(4),
-            Delivery::Refused(r) => Err(r),
-        };
-        Some(told(why, turned_down))
+        Some(told(why(chip(p)?.deliver(fifo, header, time, payload)), turned_down))
+    })()
+    .unwrap_or(NULL)
+}
+
+#[no_mangle]
+pub unsafe extern "C" fn mcp_chip_sort(
+    p: *mut CChip,
+    header: *const CHeader,
+    time: u32,
+    payload: *const u8,
+    len: usize,
+    sorted: *mut CSorted,
+) -> c_int {
+    (|| {
+        there(sorted)?;
+        let (header, payload) = (header.as_ref()?.header(), bytes(payload, len)?);
+        let s = chip(p)?.sort(header, time, payload);
+        Some(told(why(s.delivery).map(|turned_down| CSorted { turned_down, fifo: s.fifo, filter: s.filter }), sorted))
     })()
     .unwrap_or(NULL)
 }

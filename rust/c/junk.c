@@ -77,8 +77,8 @@ static void wait(void *context, uint32_t microseconds) { IS(context == &chip && 
 
 /* The calls, and how many exchanges each asks for at most, whatever is answered. */
 enum { RESET, READ, WRITE, MODIFY, CHECKED, READ_RAM, WRITE_RAM, VERIFY, VERIFY_LONG, SET_MODE, GET_MODE, CONFIGURE, OSC, IO, TIMING, FIFO,
-       FILTER, DISABLE, PUSH, REQUEST, TRANSMIT, HAS_NEXT, PEEK, GET, SEND, DELIVER, HELD, HELD_AT, KINDS };
-static const unsigned bound[KINDS] = { 1, 1, 1, 2, 3, 1, 1, 64, 2, 7, 1, 96, 5, 2, 6, 2, 8, 2, 5, 2, 7, 2, 7, 9, 0, 0, 0, 0 };
+       FILTER, DISABLE, PUSH, REQUEST, TRANSMIT, HAS_NEXT, PEEK, GET, SEND, DELIVER, SORT, HELD, HELD_AT, KINDS };
+static const unsigned bound[KINDS] = { 1, 1, 1, 2, 3, 1, 1, 64, 2, 7, 1, 96, 5, 2, 6, 2, 8, 2, 5, 2, 7, 2, 7, 9, 0, 0, 0, 0, 0 };
 
 /* Whether document 01 has a number for a call: what a failed exchange is; what is tested before the first; what comes later. */
 static int is_answer(int call, int r)
@@ -93,7 +93,8 @@ static int is_answer(int call, int r)
         [PUSH] = { { 1, 2 }, { 20, 21, 24, 22, 6, 7, 8, 25, 3 } }, [REQUEST] = { { 1 }, { 20 } },
         [TRANSMIT] = { { 1, 2 }, { 20, 21, 24, 22, 6, 7, 8, 25, 3 } }, [HAS_NEXT] = { { 1 }, { 20, 9 } },
         [PEEK] = { { 1 }, { 20, 28, 9, 25, 3, 23 } }, [GET] = { { 1 }, { 20, 28, 9, 25, 3, 23 } },
-        [SEND] = { { 0 }, { 20 } }, [DELIVER] = { { 0 }, { 20, 21, 22 } }, [HELD] = { { 0 }, { 20 } }, [HELD_AT] = { { 0 }, { 20 } },
+        [SEND] = { { 0 }, { 20 } }, [DELIVER] = { { 0 }, { 20, 21, 22 } }, [SORT] = { { 0 }, { 21, 22, 31, 30 } },
+        [HELD] = { { 0 }, { 20 } }, [HELD_AT] = { { 0 }, { 20 } },
     };
     if (failed)
         return r > 0 && (r == has[call].failed[0] || r == has[call].failed[1]);
@@ -117,7 +118,8 @@ static void settle(void)
     IS(mcp_chip_new(&chip) == 0 && mcp_configure(&line, &settings) == 0);
     for (uint32_t n = 1; n <= 4; n++) {
         const mcp_fifo fifo = { .size = 1 + next() % 4, .plsize = next() % 8, .transmit = n % 2, .rxtsen = next() % 2 };
-        IS(mcp_configure_fifo(&line, n, &fifo) == 0);
+        const mcp_filter filter = { .fifo = n, .mode = next() % 3, .object = { next() % 0x800, 0 }, .mask = { next() % 4, 0 } };
+        IS(mcp_configure_fifo(&line, n, &fifo) == 0 && mcp_configure_filter(&line, n, &filter) == 0);
     }
     IS(mcp_set_op_mode(&line, 0) == 0);
 }
@@ -133,13 +135,14 @@ static struct {
     uint8_t to[4096 + 8];
     mcp_message message;
     mcp_frame frame;
+    mcp_sorted sorted;
     uint32_t word, value;
     uint8_t flag, accepted;
 } out, before;
 
 int main(int argc, char **argv)
 {
-    unsigned long calls = argc > 1 ? strtoul(argv[1], NULL, 0) : 100000, counts[30] = { 0 };
+    unsigned long calls = argc > 1 ? strtoul(argv[1], NULL, 0) : 100000, counts[33] = { 0 };
     static const uint8_t lengths[16] = { 0, 1, 2, 3, 4, 5, 6, 7, 8, 12, 16, 20, 24, 32, 48, 64 };
     static uint8_t from[4096];
     if (argc > 2)
@@ -162,6 +165,7 @@ int main(int argc, char **argv)
         const mcp_line *l = next() % 64 ? &line : NULL;
         mcp_message *m = next() % 32 ? &out.message : NULL;
         mcp_frame *f = next() % 32 ? &out.frame : NULL;
+        mcp_sorted *s = next() % 32 ? &out.sorted : NULL;
         uint32_t *w = next() % 32 ? &out.word : NULL;
         uint8_t *x = next() % 4 ? &out.accepted : NULL;
         int call = (int)(next() % KINDS), none, no_to, no_from, r;
@@ -187,7 +191,7 @@ int main(int argc, char **argv)
             b %= 0x800000;
             a %= next() % 2 ? 6 : next() % 2 ? 34 : 0x1000;
             if (next() % 2) header.fdf = header.extended = 0;
-            if (lent == len && (call == PUSH || call == TRANSMIT || call == DELIVER)) lent = len = lengths[next() % 16];
+            if (lent == len && (call == PUSH || call == TRANSMIT || call == DELIVER || call == SORT)) lent = len = lengths[next() % 16];
             if (lent == len && (call == PEEK || call == GET)) lent = len |= 64;
         }
         no_to = lent && (!p || lent != len), no_from = lent && (!q || lent != len);
@@ -223,6 +227,7 @@ int main(int argc, char **argv)
         case GET: r = mcp_get(l, a, p, lent, m); none |= !m || no_to; break;
         case SEND: r = mcp_chip_send(&chip, a, f); none |= !f; break;
         case DELIVER: r = mcp_chip_deliver(&chip, a, h, c, q, lent, w); none |= !h || !w || no_from; break;
+        case SORT: r = mcp_chip_sort(&chip, h, c, q, lent, s); none |= !h || !s || no_from; break;
         case HELD: r = mcp_chip_held(&chip, a, w); none |= !w; break;
         default: r = mcp_chip_held_at(&chip, a, b, f); none |= !f; break;
         }
@@ -250,12 +255,13 @@ int main(int argc, char **argv)
             IS(!memcmp(out.to + filled, before.to + filled, sizeof out.to - filled));
             IS(call == HAS_NEXT ? out.flag <= 1 : out.flag == 0x5A);
             IS((call != SEND && call != HELD_AT) || (out.frame.kind <= MCP_NO_FRAME && out.frame.len <= 64));
+            IS(call != SORT || (out.sorted.turned_down <= MCP_FULL && out.sorted.fifo < 32 && out.sorted.filter < 32));
             IS((call != DELIVER || out.word <= MCP_FULL) && (call != HELD || out.word <= 32) && (call != GET_MODE || out.word <= 7));
             IS(out.value == before.value);
         }
         counts[r + 1]++;
     }
-    for (int r = 0; r < 30; r++)
+    for (int r = 0; r < 33; r++)
         if (counts[r]) printf("%d: %lu\n", r - 1, counts[r]);
     return 0;
 }

@@ -47,6 +47,8 @@ enum {
     MCP_WRONG_ANSWER = 26,               /* never answered here: the loop gives each answer as it was asked for */
     MCP_NO_LAYOUT = 27,                  /* never answered here: see mcp_chip_no_layout */
     MCP_BUFFER_TOO_SMALL = 28,           /* the buffer for a payload has fewer than 64 bytes */
+    MCP_NO_MATCH = 30,                   /* mcp_chip_sort: no enabled filter matches the frame */
+    MCP_DEVICE_NET = 31,                 /* mcp_chip_sort: DNCNT is above 0 */
     /* A pointer is NULL that must not be, one of the line's functions too, or a length is above PTRDIFF_MAX, as no object has it. Nothing
      * was done. This is told before any refusal. NULL with a length of 0 is an empty buffer. */
     MCP_NULL = -1
@@ -201,6 +203,12 @@ enum { MCP_DELIVERED = 0, MCP_IN_CONFIGURATION = 1, MCP_NOT_RECEIVING = 2, MCP_T
 int mcp_chip_deliver(mcp_chip *chip, uint32_t fifo, const mcp_header *header, uint32_t time,
                      const uint8_t *payload, size_t len, uint32_t *turned_down);                        /* 20, 21, 22 */
 
+/* A frame arrives, and the filters sort it: the lowest-numbered enabled one that matches gives it to its FIFO. turned_down is as above;
+ * fifo and filter are those that the frame was for, also where it was turned down. */
+typedef struct { uint32_t turned_down, fifo, filter; } mcp_sorted;
+int mcp_chip_sort(mcp_chip *chip, const mcp_header *header, uint32_t time,
+                  const uint8_t *payload, size_t len, mcp_sorted *sorted);                              /* 21, 22, 31, 30 */
+
 /* How many messages a FIFO holds, and the one k places behind the oldest, decoded from the chip's RAM. */
 int mcp_chip_held(const mcp_chip *chip, uint32_t fifo, uint32_t *count);                                /* 20 */
 int mcp_chip_held_at(const mcp_chip *chip, uint32_t fifo, uint32_t k, mcp_frame *frame);                /* 20 */
@@ -238,6 +246,7 @@ MCP_LAYOUT(mcp_filter, 24, MCP_AT(mcp_filter, fifo, 0) && MCP_AT(mcp_filter, mod
 MCP_LAYOUT(mcp_chip, 2800, MCP_AT(mcp_chip, words, 0));
 MCP_LAYOUT(mcp_frame, 88, MCP_AT(mcp_frame, header, 0) && MCP_AT(mcp_frame, seq, 12) && MCP_AT(mcp_frame, time, 16) &&
     MCP_AT(mcp_frame, kind, 20) && MCP_AT(mcp_frame, stamped, 21) && MCP_AT(mcp_frame, len, 22) && MCP_AT(mcp_frame, payload, 23));
+MCP_LAYOUT(mcp_sorted, 12, MCP_AT(mcp_sorted, turned_down, 0) && MCP_AT(mcp_sorted, fifo, 4) && MCP_AT(mcp_sorted, filter, 8));
 #undef MCP_LAYOUT
 #undef MCP_AT
 

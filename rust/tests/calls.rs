@@ -2,7 +2,7 @@
 //! not, what lent buffers hold afterwards, scratch that is too short, turns that are left. What is expected was written down from
 //! document 01.
 use masevuru::calls::*;
-use masevuru::chip::{Chip, Delivery, Reading, Sending};
+use masevuru::chip::{Chip, Delivery, Reading, Sending, Sorted};
 use masevuru::*;
 
 /// The chip, with one exchange that fails and some whose answers are changed.
@@ -401,6 +401,38 @@ fn refusals() {
     assert_eq!((told(twisted(dlc).get(3, &mut buf)), told(twisted(dlc).peek(2, &mut buf))), (23, 23));
     assert_eq!(buf, [0x5A; 72]);
     assert_eq!(Refusal::InvalidRamAddress(3072).to_string(), "refused 3: InvalidRamAddress(3072)");
+}
+
+/// A frame that the filters sort. Document 02: 21, 22, 31, 30, then the causes of a delivery; FILHIT is bits 15 to 11 of word 1.
+#[test]
+fn sorting() {
+    let to = |fifo, id| FilterConfiguration { fifo, object: Identifier { extended: false, id }, ..filter() };
+    let sort = |m: &mut Driver, id, bytes: &[u8]| m.line.chip.sort(Header { id, fdf: bytes.len() > 9, ..HEADER }, 7, bytes);
+    let for_fifo = |delivery, fifo, filter| Sorted { delivery, fifo, filter };
+    let refused = |r| Sorted { delivery: Delivery::Refused(r), fifo: 0, filter: 0 };
+    let mut m = prepared();
+    assert_eq!(sort(&mut m, 0x123, &BYTES), refused(Refusal::NoMatch));
+    m.configure_filter(0, filter()).unwrap();
+    m.configure_filter(9, to(3, 0x200)).unwrap();
+    m.configure_filter(31, to(1, 0x300)).unwrap();
+    assert_eq!(sort(&mut m, 0x123, &BYTES), for_fifo(Delivery::Delivered, 2, 0));
+    assert_eq!(sort(&mut m, 0x223, &BYTES[..5]), for_fifo(Delivery::Delivered, 3, 9));
+    assert_eq!(m.line.chip.held_at(3, 1).unwrap().unwrap().frame.header.id, 0x223);
+    // FIFO 3 is behind 4 x 16 and 2 x 76 bytes; the frame is in its second slot
+    let mut word = [0; 4];
+    m.read_ram(0x400 + 64 + 152 + 16 + 4, &mut word).unwrap();
+    assert_eq!(u32::from_le_bytes(word), 9 << 11 | 5);
+    assert_eq!(sort(&mut m, 0x223, &BYTES), for_fifo(Delivery::Full, 3, 9));
+    assert_eq!(sort(&mut m, 0x223, &[0; 12]), for_fifo(Delivery::TooLong, 3, 9));
+    assert_eq!(sort(&mut m, 0x323, &[0; 12]), for_fifo(Delivery::NotReceiving, 1, 31));
+    m.set_op_mode(4).unwrap();
+    assert_eq!(sort(&mut m, 0x323, &[0; 12]), for_fifo(Delivery::Configuration, 1, 31));
+    assert_eq!(sort(&mut m, 0x423, &[0; 12]), refused(Refusal::NoMatch));
+    m.modify_register(0x000, 0x1F, 0x10).unwrap();
+    assert_eq!(sort(&mut m, 0x423, &[0; 12]), refused(Refusal::DeviceNet));
+    assert_eq!(sort(&mut m, 0x423, &[0; 9]), refused(Refusal::BadPayload));
+    assert_eq!(sort(&mut m, 0x800, &[0; 9]), refused(Refusal::BadIdentifier));
+    assert_eq!((number(Refusal::NoMatch), number(Refusal::DeviceNet)), (30, 31));
 }
 
 /// What a call that is done leaves in the lent buffer; an empty FIFO.

@@ -2,7 +2,7 @@
 //! no instruction, go on after a failed exchange, change a byte where it is refused, be refused for what document 01 does not have for it,
 //! or take more turns than it said.
 use masevuru::calls::*;
-use masevuru::chip::Chip;
+use masevuru::chip::{Chip, Delivery, Sorted};
 use masevuru::*;
 
 #[derive(Clone)]
@@ -192,6 +192,7 @@ fn settle(mcp: &mut Mcp<Junk>) {
         for n in 1..=4 {
             let g = given(&mut mcp.line);
             let _ = mcp.configure_fifo(n, FifoConfiguration { size: 1 + g.a % 4, ..g.area });
+            let _ = mcp.configure_filter(n, FilterConfiguration { fifo: n, ..g.filter });
         }
         let _ = mcp.set_op_mode(0);
     }
@@ -202,7 +203,7 @@ fn a_hundred_thousand() {
     let mut mcp = Mcp::new(Junk::new(0x9E37_79B9_7F4A_7C15));
     let bytes: Vec<u8> = (0..4096).map(|i| i as u8).collect();
     let (mut buf, before) = (vec![0x5Au8; 4096], vec![0x5Au8; 4096]);
-    let mut counts = [0u32; 29];
+    let (mut counts, mut sorted) = ([0u32; 29], [0u32; 37]);
     for i in 0..100_000 {
         if i % 64 == 0 {
             settle(&mut mcp);
@@ -255,11 +256,31 @@ fn a_hundred_thousand() {
         let g = given(&mut mcp.line);
         let _ = mcp.line.chip.send(g.fifo);
         let _ = mcp.line.chip.deliver(g.fifo, g.header, g.c, &bytes[..g.len]);
+        sorted[sorted_number(mcp.line.chip.sort(g.header, g.c, &bytes[..g.len]))] += 1;
         assert!(mcp.line.chip.held(g.fifo).map_or(!(1..32).contains(&g.fifo), |held| held <= 32));
+    }
+    for (n, count) in sorted.iter().enumerate() {
+        assert_eq!(*count == 0, !matches!(n, 21 | 22 | 30..=36), "a sorted frame was answered {n} {count} times: {sorted:?}");
     }
     for (n, count) in counts.iter().enumerate() {
         let is_never = matches!(n, 15..=19 | 26 | 27);
         assert_eq!(*count == 0, is_never, "{n} was answered {count} times: {counts:?}");
+    }
+}
+
+/// A refusal's number, and 32 and more for what else a frame that is sorted may come to.
+fn sorted_number(s: Sorted) -> usize {
+    assert!(s.fifo < 32 && s.filter < 32);
+    match s.delivery {
+        Delivery::Refused(r) => {
+            assert!(s.fifo == 0 && s.filter == 0);
+            number(r) as usize
+        }
+        Delivery::Delivered => 32,
+        Delivery::Configuration => 33,
+        Delivery::NotReceiving => 34,
+        Delivery::TooLong => 35,
+        Delivery::Full => 36,
     }
 }
 
