@@ -1,6 +1,6 @@
 /* calls: what the header promises, call by call, on the modelled chip: exchanges that fail one after the other, NULLs, numbers too wide,
  * what refusals carry, and that each field of each structure is where the library looks for it. What is expected was written down
- * from document 01 and the data sheet's bits. Says how many things were looked at, or which line found another. */
+ * from documents 01 and 02 and the data sheet's bits. Says how many things were looked at, or which line found another. */
 #include "masevuru.h"
 #include <stdio.h>
 #include <stdlib.h>

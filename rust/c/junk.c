@@ -1,6 +1,6 @@
 /* junk [CALLS [SEED]]: random calls with random numbers, NULLs and lengths over a line that fails, answers junk, fills only part of what
  * was wanted, and otherwise is the modelled chip. No call may panic (which ends the program), send what is no instruction, go on after
- * a failed exchange, change a byte where it is refused, write outside what it was lent, or answer what document 01 does not have for it.
+ * a failed exchange, change a byte where it is refused, write outside what it was lent, or answer what documents 01 and 02 do not have for it.
  * Prints how often each number was answered. */
 #include "masevuru.h"
 #include <stdio.h>

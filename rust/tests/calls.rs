@@ -1,6 +1,6 @@
 //! Call by call on the modelled chip: exchanges that fail one after the other, answers that come late or wrong, numbers that there are
-//! not, what lent buffers hold afterwards, scratch that is too short, turns that are left. What is expected was written down from
-//! document 01.
+//! not, what lent buffers hold afterwards, scratch that is too short, turns that are left, frames that the filters sort. What is
+//! expected was written down from documents 01 and 02.
 use masevuru::calls::*;
 use masevuru::chip::{Chip, Delivery, Reading, Sending, Sorted};
 use masevuru::*;
