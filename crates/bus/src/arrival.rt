@@ -98,7 +98,13 @@ fn appended(m: Model, n: u8, len: usize, object: &[u8]) -> Delivered
     ensures { λ r. ⌜ r ≡ appended m n len (now (object .entry)) ⌝ }
 {
     let f = fifo_at(m, n);
-    let c = cause(m.fixed.configuring, receives(m, n), frozen_at(m, n), f.count, len);
+    let c = cause(
+        m.fixed.configuring,
+        receives(m, n),
+        frozen_at(m, n),
+        f.count,
+        len,
+    );
     match c {
         Delivery::Delivered => told(c, placed(m, n, object)),
         Delivery::Full => told(c, state::with_fifo(m, n, ring::overflowed(true, f))),

@@ -79,7 +79,8 @@ fn filtered(m: Model, dlc: u32, header: Header, time: u32, payload: &[u8]) -> So
         return unsorted(Refusal::NoMatch, m);
     }
     let n = target_for(m, f as u8);
-    by_filter(arrival::give(m, n as u8, f, dlc, header, time, payload), n, f)
+    let d = arrival::give(m, n as u8, f, dlc, header, time, payload);
+    by_filter(d, n, f)
 }
 
 pub fn sort(m: Model, header: Header, time: u32, payload: &[u8]) -> Sorted
