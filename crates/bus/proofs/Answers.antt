@@ -1,7 +1,7 @@
--- What a send answers, by the message read; and where the bytes of a frame that arrived stand.
+-- What a send answers, by the message read; what a frame that was checked is like, and where its bytes stand.
 -- Assumes nothing.
 use mathlib.Core.Path.{_≡_, ap, _∙_}
-use Prim.Native.Nat.{ℕ, _≤_}
+use Prim.Native.Nat.{ℕ, _≤_, _<_}
 use native.Mathlib.Omega.{arith}
 use mathlib.Core.List.{List, [], _∷_}
 use lib.ListN.{length, take}
@@ -12,12 +12,15 @@ use Rattle.parts.specs.Parts.{zeroed}
 use Rattle.parts.proofs.Laws.{length-zeroed}
 use Rattle.words.proofs.Laws.{le-length}
 use Rattle.header.specs.declared.Header.{Header}
-use Rattle.header.specs.Header.{word0, received1}
+use Rattle.header.specs.Header.{topId, word0, received1}
+use Rattle.header.proofs.Dlcs.{dlc-16, payload-le}
 use Rattle.message.specs.declared.object.Stamp.{Stamp}
 use Rattle.message.specs.declared.rx.Reading.{Reading}
 use Rattle.message.specs.declared.rx.Decoded.{Decoded}
 use Rattle.message.specs.Object.{stampBytes}
-use Rattle.message.specs.Message.{arriving, Decoding, holds, bad, short}
+use Rattle.message.specs.declared.tx.Checked.{Checked}
+use Rattle.message.specs.Message.{checkOf, arriving, Decoding, holds, bad, short}
+use Rattle.message.proofs.Checks.{sound}
 use Rattle.message.specs.Structs.{Object, objectIn, decodedAs}
 use Rattle.message.proofs.rx.Reading.{the-type}
 use Rattle.message.proofs.Round.{object-length}
@@ -58,3 +61,9 @@ module _ (bytes : List ℕ) (len : ℕ) (bs : List ℕ) (most : length bs ≤ 76
   pub front : take len bytes ≡ bs
   unfolding zeroed
   front = ap (λ (o : Object). take (o .len) (o .bytes)) e ∙ take-append-seam bs _
+
+-- a frame that was checked is as its writing asks for it
+pub asked-for : (h : Header) (n d : ℕ) → checkOf h 0 n ≡ Checked.Dlc d → (h .id ≤ topId (h .extended)) × (d < 16) × (n ≤ 64)
+asked-for h n d e =
+    let s = sound h 0 n d e in
+    (s .id, dlc-16 (h .fdf) n d (s .dlc), payload-le (h .fdf) n d (s .dlc))

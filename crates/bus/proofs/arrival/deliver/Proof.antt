@@ -4,10 +4,9 @@ use mathlib.Core.Path.{sym, _∙_}
 use native.Mathlib.Omega.{arith}
 use borrow.Author.Needs.{needs}
 use borrow.Author.Tests.{not-true, not-false}
-use Rattle.header.proofs.Dlcs.{dlc-16, payload-le}
-use Rattle.message.proofs.Checks.{sound}
 use Rattle.bus.specs.Bus.{deliverOf}
 use Rattle.bus.proofs.Laws.{fifo-fits}
+use Rattle.bus.proofs.Answers.{asked-for}
 use Rattle.bus.proofs.arrival.deliver.Statement.{statement}
 use Rattle.bus.proofs.arrival.deliver.Tie as tie
 
@@ -21,15 +20,10 @@ deliver-spec =
     (λ c.
     let q = c .before .before .before .before in
     record { fits = fifo-fits _ (sym (q .before .is-fifo .ensures) ∙ not-false _ (q .if1 .left)) })
-    (λ c.
-    let k = c .before .before .before in
-    let d = c .before .d .given in
-    record { fits = omega (arith, dlc-16 _ _ _ (sound _ _ _ (d .0 .0) (sym (k .check .ensures) ∙ d .1) .dlc)) })
+    (λ c. record { fits = omega (arith, asked-for _ _ _ (sym (c .before .before .before .check .ensures) ∙ c .before .d .given .1) .1) })
     (λ c κs.
-    let k = c .before .before .before in
-    let d = c .before .d .given in
-    let s = sound _ _ _ (d .0 .0) (sym (k .check .ensures) ∙ d .1) in
-    (s .id, dlc-16 _ _ _ (s .dlc), omega arith, payload-le _ _ _ (s .dlc)))
+    let p = asked-for _ _ _ (sym (c .before .before .before .check .ensures) ∙ c .before .d .given .1) in
+    (p .0, p .1, omega arith, p .2))
     (search needs) (λ c κs. search needs)
     (λ c.
     let k = c .before .before .before .before in
