@@ -1,7 +1,6 @@
 // What stands between calls: bus steps, raw exchanges, what a FIFO holds, a new chip. Each is done and written.
 use bus::Delivery;
 use bus::Sending;
-use header::Header;
 use message::Frame;
 use message::Reading;
 use model::Heard;
@@ -68,7 +67,7 @@ fn delivered(m: Model, words: &[u8], numbers: &[u64], payload: &[u8]) -> Model {
     let d = bus::deliver(
         m,
         starts::word(numbers, 0),
-        starts::header_of(numbers),
+        starts::header_of(starts::number(numbers, 1), starts::number(numbers, 2)),
         starts::word(numbers, 3),
         payload,
     );
@@ -79,14 +78,9 @@ fn delivered(m: Model, words: &[u8], numbers: &[u64], payload: &[u8]) -> Model {
     d.model
 }
 
-// The header of a frame whose line has no FIFO in front.
-fn arrived(numbers: &[u64]) -> Header {
-    let behind = [0, starts::number(numbers, 0), starts::number(numbers, 1)];
-    starts::header_of(&behind)
-}
-
 fn sorted(m: Model, words: &[u8], numbers: &[u64], payload: &[u8]) -> Model {
-    let s = bus::sort(m, arrived(numbers), starts::word(numbers, 2), payload);
+    let header = starts::header_of(starts::number(numbers, 0), starts::number(numbers, 1));
+    let s = bus::sort(m, header, starts::word(numbers, 2), payload);
     let delivery = s.delivery;
     let mut out = [0u8; 64];
     let n = sorted_answer(delivery, s.fifo, s.filter, &mut out);

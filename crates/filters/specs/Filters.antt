@@ -35,6 +35,7 @@ matches enabled object mask extended sid eid = enabled && kindAgrees object mask
 
 -- ---- the filters: filter f is byte f % 4 of control word f / 4, object word f, mask word f
 
+-- the control word that filter f has a byte of
 abbrev pub controlAt : List ℕ → ℕ → ℕ
 controlAt control f = getD control (f / 4) 0
 
@@ -42,6 +43,7 @@ controlAt control f = getD control (f / 4) 0
 abbrev pub targetOf : List ℕ → ℕ → ℕ
 targetOf control f = read (FBP (f % 4)) (controlAt control f)
 
+-- filter f matches; FLTEN enables it
 abbrev pub hits : (control object mask : List ℕ) → (extended : Bool) → (sid eid f : ℕ) → Bool
 hits control object mask extended sid eid f =
     matches (flag (FLTEN (f % 4)) (controlAt control f)) (getD object f 0) (getD mask f 0) extended sid eid
@@ -53,6 +55,7 @@ unfoldable pub tests : (ℕ → Bool) → (k n : ℕ) → ℕ
 tests p k zero = 0
 tests p k (suc n) = digit (p k) + 2 * tests p (suc k) n
 
+-- the filters that there are
 abbrev pub filterCount : ℕ
 filterCount = 32
 

@@ -11,10 +11,8 @@ fn has(flags: u64, n: u64) -> bool {
     flags & n == n
 }
 
-// The header of a message whose line has its FIFO in front.
-pub fn header_of(a: &[u64]) -> Header {
-    let id = number(a, 1);
-    let flags = number(a, 2);
+// The header of a message, by the numbers of its identifier and of its flags.
+pub fn header_of(id: u64, flags: u64) -> Header {
     Header {
         extended: is_extended(id),
         id: identifier(id),
@@ -27,9 +25,10 @@ pub fn header_of(a: &[u64]) -> Header {
 
 // The row's call: push, transmit, has_next, peek, get.
 pub fn fifo_call(row: usize, a: &[u64], payload: &[u8]) -> Call {
+    let header = header_of(number(a, 1), number(a, 2));
     match row {
-        20 => driver::push(word(a, 0), header_of(a), word(a, 3), payload),
-        21 => driver::transmit(word(a, 0), header_of(a), word(a, 3), payload),
+        20 => driver::push(word(a, 0), header, word(a, 3), payload),
+        21 => driver::transmit(word(a, 0), header, word(a, 3), payload),
         22 => driver::has_next(word(a, 0)),
         23 => driver::peek(word(a, 0), crate::ROOM),
         _ => driver::get(word(a, 0), crate::ROOM),
