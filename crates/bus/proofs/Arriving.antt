@@ -20,6 +20,7 @@ use Rattle.header.specs.Dlc.{dlcOf}
 use Rattle.header.specs.Header.{topId}
 use Rattle.message.specs.declared.tx.Checked.{Checked}
 use Rattle.message.specs.Message.{byDlc, checkOf, arriving}
+use Rattle.message.proofs.Round.{accepted}
 use Rattle.ring.specs.Ring.{sending, depth, claimed, overflowed}
 use Rattle.state.specs.declared.Model.{Model}
 use Rattle.state.specs.Model.{fifoAt, frozenAt, withFifo, written}
@@ -51,17 +52,20 @@ module _ (m : Model) (n : ℕ) (header : Header) (time : ℕ) (payload : List �
   pub by-check : (Q : Checked → Type 0)
       → (tooHigh ≡ true → Q (Checked.Bad Refusal.BadIdentifier))
       → (tooHigh ≡ false → dlc ≡ Dlc.Bad → Q (Checked.Bad Refusal.BadPayload))
-      → (tooHigh ≡ false → (d : ℕ) → dlc ≡ Dlc.Is d → Q (Checked.Dlc d))
+      → (tooHigh ≡ false → (d : ℕ) → dlc ≡ Dlc.Is d → checkOf header 0 (length payload) ≡ Checked.Dlc d → Q (Checked.Dlc d))
       → Q (checkOf header 0 (length payload))
   unfolding checkOf
-  by-check Q = by-checked Q tooHigh dlc
+  by-check Q a b c =
+      by-checked Q tooHigh dlc a b
+      (λ t d e. c t d e (accepted header 0 (length payload) d (ltb-false (topId (header .extended)) (header .id) t) (omega arith) e))
 
   -- what holds of each answer holds of deliver's; each may use the tests that lead to it
   pub by-deliver : (P : Delivered → Type 0)
       → (isFifo n ≡ false → P (delivered (Delivery.Refused Refusal.BadNumber) m))
       → (isFifo n ≡ true → tooHigh ≡ true → P (delivered (Delivery.Refused Refusal.BadIdentifier) m))
       → (isFifo n ≡ true → tooHigh ≡ false → dlc ≡ Dlc.Bad → P (delivered (Delivery.Refused Refusal.BadPayload) m))
-      → (isFifo n ≡ true → tooHigh ≡ false → (d : ℕ) → dlc ≡ Dlc.Is d → P (give m n 0 d header time payload))
+      → (isFifo n ≡ true → tooHigh ≡ false → (d : ℕ) → dlc ≡ Dlc.Is d → checkOf header 0 (length payload) ≡ Checked.Dlc d
+      → P (give m n 0 d header time payload))
       → P (deliverOf m n header time payload)
   unfolding deliverOf
   by-deliver P a b c f =
@@ -114,7 +118,7 @@ deliver-answers m n header time payload =
     (λ i. rw i)
     (λ i t. rw (i, t))
     (λ i t d. rw (i, t, d))
-    (λ i t d e. rw (i, t, e) (give-told m n 0 d header time payload (λ x c. deliveryNumbers x ≡ 0 ∷ c ∷ []) refl refl refl refl refl))
+    (λ i t d e k. rw (i, t, e) (give-told m n 0 d header time payload (λ x c. deliveryNumbers x ≡ 0 ∷ c ∷ []) refl refl refl refl refl))
 
 -- a fact that is both true and false
 pub clash : {X : Type 0} {b : Bool} → b ≡ false → b ≡ true → X
@@ -159,7 +163,7 @@ delivered-iff m n header time payload =
     (λ i. (never _ refl, λ h. clash i (h .fifo)))
     (λ i t. (never _ refl, λ h. absurd (omega (arith, h .identifier, ltb-true))))
     (λ i t d. (never _ refl, λ h. clash (ap hasDlc d) (h .allowed)))
-    (λ i t d e. give-iff m n 0 d header time payload t e)
+    (λ i t d e k. give-iff m n 0 d header time payload t e)
 
 -- an answer that says that nothing changed: neither delivered nor full
 abbrev still : List ℕ → Bool
@@ -193,4 +197,4 @@ turned-down m n header time payload =
     (λ i. kept (20 ∷ []) m n refl)
     (λ i t. kept (21 ∷ []) m n refl)
     (λ i t d. kept (22 ∷ []) m n refl)
-    (λ i t d e. give-leaves m n 0 d header time payload)
+    (λ i t d e k. give-leaves m n 0 d header time payload)

@@ -17,6 +17,8 @@ use Rattle.header.specs.declared.dlc.Dlc.{Dlc}
 use Rattle.header.specs.declared.Header.{Header}
 use Rattle.header.specs.Dlc.{dlcOf}
 use Rattle.header.specs.Header.{topId}
+use Rattle.message.specs.declared.tx.Checked.{Checked}
+use Rattle.message.specs.Message.{checkOf}
 use Rattle.filters.specs.Filters.{filterCount}
 use Rattle.state.specs.declared.Model.{Model}
 use Rattle.bus.specs.declared.arrival.Delivery.{Delivery}
@@ -36,13 +38,14 @@ module _ (m : Model) (header : Header) (time : ℕ) (payload : List ℕ) where
       → (ltb (topId (header .extended)) (header .id) ≡ false → (d : ℕ) → dlcOf (header .fdf) (length payload) ≡ Dlc.Is d
       → eqb (read DNCNT (m .fixed .con)) 0 ≡ true → leb filterCount (filterFor m header) ≡ true → P (unsorted Refusal.NoMatch m))
       → (ltb (topId (header .extended)) (header .id) ≡ false → (d : ℕ) → dlcOf (header .fdf) (length payload) ≡ Dlc.Is d
-      → eqb (read DNCNT (m .fixed .con)) 0 ≡ true → leb filterCount (filterFor m header) ≡ false → P (takenBy m (filterFor m header) d header time payload))
+      → eqb (read DNCNT (m .fixed .con)) 0 ≡ true → leb filterCount (filterFor m header) ≡ false → checkOf header 0 (length payload) ≡ Checked.Dlc d
+      → P (takenBy m (filterFor m header) d header time payload))
       → P (sortOf m header time payload)
   unfolding sortOf
   by-sort P a b c d e =
       by-check m 0 header time payload (λ y. P (sortedBy y m header time payload)) a b
-      (λ t k f. by-if P (not (eqb (read DNCNT (m .fixed .con)) 0)) (λ x. c t k f (not-true _ x))
-      (λ x. by-if P (leb filterCount (filterFor m header)) (d t k f (not-false _ x)) (e t k f (not-false _ x))))
+      (λ t k f w. by-if P (not (eqb (read DNCNT (m .fixed .con)) 0)) (λ x. c t k f (not-true _ x))
+      (λ x. by-if P (leb filterCount (filterFor m header)) (d t k f (not-false _ x)) (λ y. e t k f (not-false _ x) y w)))
 
 pub sort-answers : SortAnswers
 sort-answers m header time payload =
@@ -53,7 +56,7 @@ sort-answers m header time payload =
     (λ t e. rw (t, e))
     (λ t d e z. rw (t, e, z))
     (λ t d e z g. rw (t, e, z, g))
-    (λ t d e z g. rw (t, e, z, g) (give-told m n f d header time payload (λ x c. sortingNumbers x n f ≡ 0 ∷ c ∷ n ∷ f ∷ []) refl refl refl refl refl))
+    (λ t d e z g k. rw (t, e, z, g) (give-told m n f d header time payload (λ x c. sortingNumbers x n f ≡ 0 ∷ c ∷ n ∷ f ∷ []) refl refl refl refl refl))
 
 pub sorted-iff : SortedIff
 sorted-iff m header time payload =
@@ -64,7 +67,7 @@ sorted-iff m header time payload =
     (λ t e. (never _ refl, λ h. clash (ap hasDlc e) (h .deliverable .allowed)))
     (λ t d e z. (never _ refl, λ h. clash z (eq-eqb _ _ (h .dncnt))))
     (λ t d e z g. (never _ refl, λ h. clash (lt-leb _ _ (h .match)) g))
-    (λ t d e z g.
+    (λ t d e z g k.
     let (to, back) = give-iff m n f d header time payload t e in (
       λ q. record { dncnt = eqb-true _ _ z; match = leb-false filterCount f g; deliverable = to q },
       λ h. back (h .deliverable),
@@ -77,4 +80,4 @@ sort-leaves m header time payload =
     (λ t e. kept (22 ∷ []) m 0 refl)
     (λ t d e z. kept (31 ∷ []) m 0 refl)
     (λ t d e z g. kept (30 ∷ []) m 0 refl)
-    (λ t d e z g. give-leaves m (targetFor m (filterFor m header)) (filterFor m header) d header time payload)
+    (λ t d e z g k. give-leaves m (targetFor m (filterFor m header)) (filterFor m header) d header time payload)

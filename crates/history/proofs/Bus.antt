@@ -17,10 +17,8 @@ use Rattle.field.specs.Field.{flag}
 use Rattle.fifo.specs.Control.{TXREQ, isFifo}
 use Rattle.spi.specs.declared.refusal.Refusal.{Refusal}
 use Rattle.header.specs.declared.Header.{Header}
-use Rattle.header.specs.Header.{topId}
 use Rattle.message.specs.declared.tx.Checked.{Checked}
 use Rattle.message.specs.Message.{Message, checkOf, Decoding, holds, decoding}
-use Rattle.message.proofs.Round.{accepted as passes}
 use Rattle.ring.specs.declared.ring.Fifo.{Fifo}
 use Rattle.ring.specs.Ring.{sending, depth, place, claimed, taken, controlled, overflowed, sent}
 use Rattle.ring.specs.Layout.{stamped, size}
@@ -299,7 +297,7 @@ module _ (c : Model) (s : Sound c) where
     deliver-step small =
         by-deliver c n header time payload Answered
         (λ i. unmoved _ (λ j. only-none j n)) (λ i t. unmoved _ (λ j. only-none j n)) (λ i t d. unmoved _ (λ j. only-none j n))
-        (λ i t d e. give-step small 0 d (omega arith) (passes header 0 (length payload) d (ltb-false (topId (header .extended)) (header .id) t) (omega arith) e))
+        (λ i t d e. give-step small 0 d (omega arith))
 
   -- one that the filters sort
   sort-step : (header : Header) (time : ℕ) (payload : List ℕ) → time < 2 ^ 32
@@ -309,8 +307,7 @@ module _ (c : Model) (s : Sound c) where
       by-sort c header time payload (λ r. Step c (arrived (r .fifo) (incoming c (r .fifo) header time payload) (r .delivery)) (r .model))
       (λ t. unmoved 0 header time payload _ (λ j. only-none j 0)) (λ t e. unmoved 0 header time payload _ (λ j. only-none j 0))
       (λ t d e z. unmoved 0 header time payload _ (λ j. only-none j 0)) (λ t d e z g. unmoved 0 header time payload _ (λ j. only-none j 0))
-      (λ t d e z g. give-step n header time payload small (filterFor c header) d (leb-false filterCount (filterFor c header) g)
-      (passes header 0 (length payload) d (ltb-false (topId (header .extended)) (header .id) t) (omega arith) e))
+      (λ t d e z g. give-step n header time payload small (filterFor c header) d (leb-false filterCount (filterFor c header) g))
 
 pub bus-good : (c : Model) → Sound c → (t : List Said) → Listed c t → (b : Bus) → Good c b
 unfolding stepped sendOutput sendModel

@@ -16,7 +16,7 @@ use Rattle.header.specs.declared.Header.{Header}
 use Rattle.message.specs.declared.tx.Checked.{Checked}
 use Rattle.message.specs.Message.{checkOf}
 use Rattle.ring.specs.declared.ring.Fifo.{Fifo}
-use Rattle.ring.specs.Ring.{sending, depth, overflowed, sent}
+use Rattle.ring.specs.Ring.{depth, overflowed, sent}
 use Rattle.state.specs.declared.Model.{Model}
 use Rattle.state.specs.Model.{fifoAt, frozenAt, withFifo, written}
 use Rattle.state.proofs.Store.{put-front, put-behind}

@@ -6,8 +6,7 @@ use native.Mathlib.Omega.{arith}
 use mathlib.Core.Path.{_≡_, refl, sym, ap, subst, _∙_}
 use mathlib.Core.Bool.{true, false, _&&_}
 use mathlib.Core.List.{List, [], _∷_}
-use lib.ListN.{length}
-use lib.Dec.{ltb, leb, eqb}
+use lib.Dec.{eqb}
 use lib.Pow.{pow-pos}
 use borrow.Author.Tests.{eqb-true, lt-ltb}
 use Rattle.laws.proofs.Choice.{by-if}
@@ -16,7 +15,7 @@ use Rattle.field.specs.Field.{read, flag}
 use Rattle.field.specs.Settings.{_:=_, settings}
 use Rattle.field.proofs.Laws.{read-write}
 use Rattle.field.proofs.Sets.{off}
-use Rattle.fifo.specs.Control.{CiFIFOCON, UINC, TXREQ, FRESET, payloadOf, isFifo}
+use Rattle.fifo.specs.Control.{CiFIFOCON, UINC, TXREQ, FRESET, isFifo}
 use Rattle.header.specs.declared.Header.{Header}
 use Rattle.message.specs.Message.{Decoding}
 use Rattle.plan.specs.Change.{modified}
@@ -25,7 +24,7 @@ use Rattle.transmit.specs.Transmit.{requestChange}
 use Rattle.driver.specs.Start.{idlePush, idleFetch}
 use Rattle.operation.specs.declared.place.Register.{Register}
 use Rattle.ring.specs.declared.ring.Fifo.{Fifo}
-use Rattle.ring.specs.Ring.{sending, depth, claimed, taken, overflowed, sent}
+use Rattle.ring.specs.Ring.{sending, claimed, taken, overflowed, sent}
 use Rattle.ring.proofs.Laws.{control-off}
 use Rattle.state.specs.declared.Model.{Model}
 use Rattle.state.specs.Model.{fifoAt, frozenAt, withFifo}
@@ -87,10 +86,10 @@ module _ (n : ℕ) (c : Model) (o : Sound c) (q : Asked (Only n) c) where
   unfolding stepped
   bus-asked (Send k) last = send-asked k last
   bus-asked (Deliver k header time payload) last =
-      by-deliver c k header (time % 2 ^ 32) payload Well (λ i. q) (λ i t. q) (λ i t d. q) (λ i t d e. give-asked k 0 d header (time % 2 ^ 32) payload)
+      by-deliver c k header (time % 2 ^ 32) payload Well (λ i. q) (λ i t. q) (λ i t d. q) (λ i t d e w. give-asked k 0 d header (time % 2 ^ 32) payload)
   bus-asked (Sort header time payload) last =
       by-sort c header (time % 2 ^ 32) payload (λ x. Asked (Only n) (x .model)) (λ t. q) (λ t e. q) (λ t d e z. q) (λ t d e z g. q)
-      (λ t d e z g. give-asked (targetFor c (filterFor c header)) (filterFor c header) d header (time % 2 ^ 32) payload)
+      (λ t d e z g w. give-asked (targetFor c (filterFor c header)) (filterFor c header) d header (time % 2 ^ 32) payload)
 
 -- ---- any events of which none is
 

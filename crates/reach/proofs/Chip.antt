@@ -17,10 +17,8 @@ use Rattle.configuration.specs.CanControl.{REQOP}
 use Rattle.fifo.specs.Control.{TXEN, TXREQ, payloadOf, isFifo, CiFIFOCON}
 use Rattle.fifo.specs.Status.{RXOVIF}
 use Rattle.header.specs.declared.Header.{Header}
-use Rattle.header.specs.Header.{topId}
 use Rattle.message.specs.declared.tx.Checked.{Checked}
 use Rattle.message.specs.Message.{checkOf, arriving, Decoding, holds}
-use Rattle.message.proofs.Round.{accepted}
 use Rattle.operation.specs.declared.place.Register.{Register}
 use Rattle.operation.specs.declared.operation.Operation.{Operation}
 use Rattle.operation.specs.Operation.{asked}
@@ -184,7 +182,7 @@ pub deliver-appends : DeliverAppends
 deliver-appends m r n header time payload small e k =
     by-deliver m n header time payload (Appends m r n header time payload small k)
     (λ i. other _ _ _ (λ z. omega arith)) (λ i t. other _ _ _ (λ z. omega arith)) (λ i t d. other _ _ _ (λ z. omega arith))
-    (λ i t d f. gives m r n header time payload small k 0 d (omega arith) (accepted header 0 (length payload) d (ltb-false (topId (header .extended)) (header .id) t) (omega arith) f))
+    (λ i t d f. gives m r n header time payload small k 0 d (omega arith))
     e
 
 pub sort-appends : SortAppends
@@ -193,8 +191,7 @@ sort-appends m r header time payload small e k =
     (λ s. s .delivery ≡ Delivery.Delivered → held (s .model) k ≡ held m k ++ (if eqb (s .fifo) k then holds (incoming m (s .fifo) header time payload) ∷ [] else []))
     (λ t. other _ _ _ (λ z. omega arith)) (λ t f. other _ _ _ (λ z. omega arith)) (λ t d f z. other _ _ _ (λ z. omega arith))
     (λ t d f z g. other _ _ _ (λ z. omega arith))
-    (λ t d f z g. gives m r (targetFor m (filterFor m header)) header time payload small k (filterFor m header) d (leb-false filterCount (filterFor m header) g)
-    (accepted header 0 (length payload) d (ltb-false (topId (header .extended)) (header .id) t) (omega arith) f))
+    (λ t d f z g. gives m r (targetFor m (filterFor m header)) header time payload small k (filterFor m header) d (leb-false filterCount (filterFor m header) g))
     e
 
 -- bit 3, by computing
@@ -228,14 +225,14 @@ pub full-overflows : FullOverflows
 full-overflows m r n header time payload =
     by-deliver m n header time payload (Overflows m r n header time payload)
     (λ i. other _ _ _ (λ z. omega arith)) (λ i t. other _ _ _ (λ z. omega arith)) (λ i t d. other _ _ _ (λ z. omega arith))
-    (λ i t d f. give-full m r n header time payload 0 d)
+    (λ i t d f w. give-full m r n header time payload 0 d)
 
 pub sort-overflows : SortOverflows
 sort-overflows m r header time payload =
     by-sort m header time payload (λ s. s .delivery ≡ Delivery.Full → read RXOVIF (wordOf (s .model) (Register.Status (s .fifo))) ≡ 1)
     (λ t. other _ _ _ (λ z. omega arith)) (λ t f. other _ _ _ (λ z. omega arith)) (λ t d f z. other _ _ _ (λ z. omega arith))
     (λ t d f z g. other _ _ _ (λ z. omega arith))
-    (λ t d f z g. give-full m r (targetFor m (filterFor m header)) header time payload (filterFor m header) d)
+    (λ t d f z g w. give-full m r (targetFor m (filterFor m header)) header time payload (filterFor m header) d)
 
 -- ---- Configuration
 
@@ -323,10 +320,10 @@ module _ (m : Model) (h : Outside m) where
   bus-outside (Send n) = by-if Outside (isFifo n && sends m n) (λ e. h) (λ e. h)
   bus-outside (Deliver n header time payload) =
       by-deliver m n header (time % 2 ^ 32) payload (λ x. Outside (x .model)) (λ i. h) (λ i t. h) (λ i t d. h)
-      (λ i t d e. give-outside n 0 d header (time % 2 ^ 32) payload)
+      (λ i t d e w. give-outside n 0 d header (time % 2 ^ 32) payload)
   bus-outside (Sort header time payload) =
       by-sort m header (time % 2 ^ 32) payload (λ x. Outside (x .model)) (λ t. h) (λ t e. h) (λ t d e z. h) (λ t d e z g. h)
-      (λ t d e z g. give-outside (targetFor m (filterFor m header)) (filterFor m header) d header (time % 2 ^ 32) payload)
+      (λ t d e z g w. give-outside (targetFor m (filterFor m header)) (filterFor m header) d header (time % 2 ^ 32) payload)
 
   happens-outside : (x : Happening) → Outside (happens x m)
   unfolding exchange

@@ -262,7 +262,7 @@ module _ (m : Model) (v : Valid m) (n : ℕ) where
 sort-valid : (m : Model) (v : Valid m) (header : Header) (time : ℕ) (payload : List ℕ) → Valid (sortOf m header time payload .model)
 sort-valid m v header time payload =
     by-sort m header time payload (λ x. Valid (x .model)) (λ t. v) (λ t e. v) (λ t d e z. v) (λ t d e z g. v)
-    (λ t d e z g. give-valid m v (targetFor m (filterFor m header)) (filterFor m header) d header time payload)
+    (λ t d e z g w. give-valid m v (targetFor m (filterFor m header)) (filterFor m header) d header time payload)
 
 pub bus-valid : (b : Bus) (m : Model) → Valid m → Valid (stepped b m)
 unfolding stepped
