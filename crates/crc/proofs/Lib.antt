@@ -1,2 +1,5 @@
 mod Steps
+mod Xor
+mod Table
+mod Linear
 pub mod Laws

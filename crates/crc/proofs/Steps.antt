@@ -1,21 +1,13 @@
--- How a loop steps through the shifts and through the bytes.
+-- How the loop steps through the bytes.
 -- Assumes nothing.
 use mathlib.Core.Path.{_≡_}
 use mathlib.Core.List.{List}
-use Prim.Native.Nat.{ℕ, suc, _+_, _-_, _≤_, _<_}
+use Prim.Native.Nat.{ℕ, _+_, _≤_, _<_}
 use native.Mathlib.Omega.{arith}
 use native.Mathlib.Numerals.{add-one}
 use lib.ListN.{length, getD, drop}
 use lib.Seq.{drop-cons, drop-length}
-use Rattle.crc.specs.Crc.{shift1, shifts, crcByte, crcFrom}
-
-pub one-less : (n i x : ℕ) → i < n → shifts (n - i) x ≡ shifts (n - (i + 1)) (shift1 x)
-unfolding shifts
-one-less n i x h = let e : n - i ≡ suc (n - (i + 1)) = omega arith in rw e
-
-pub none-left : (n i x : ℕ) → n ≤ i → shifts (n - i) x ≡ x
-unfolding shifts
-none-left n i x h = let e : n - i ≡ 0 = omega arith in rw e
+use Rattle.crc.specs.Crc.{crcByte, crcFrom}
 
 -- one byte taken, y being what it makes of the register x; r is the result
 pub again : (s : List ℕ) (i x : ℕ) {y r : ℕ} → i < length s → y ≡ crcByte x (getD s i 0) → crcFrom x (drop i s) ≡ r → crcFrom y (drop (i + 1) s) ≡ r

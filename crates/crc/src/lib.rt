@@ -1,32 +1,47 @@
-// CRC-16/CMS, bit by bit.
+// CRC-16/CMS, four bits at a time.
 ghost use mathlib.Core.Path.{_≡_};
-ghost use Rattle.crc.specs.Crc.{shift1, crcByte, crcFrom, crcOf};
+ghost use Prim.Native.Nat.{_<_, _*_};
+ghost use lib.Bits.{bitXor};
+ghost use Rattle.crc.specs.Crc.{shifts, crcByte, crcFrom, crcOf};
 
 // What the register holds before the first byte.
 pub const START: u16 = 0xFFFF;
 
-// The register, one bit on.
-fn shift(c: u16) -> u16
-    ensures { λ r. ⌜ r ≡ shift1 c ⌝ }
+// Word n: the register four bits on, where it held n in its top four bits and 0 below.
+const NIBBLES: [u16; 16] = [
+    0x0000,
+    0x8005,
+    0x800F,
+    0x000A,
+    0x801B,
+    0x001E,
+    0x0014,
+    0x8011,
+    0x8033,
+    0x0036,
+    0x003C,
+    0x8039,
+    0x0028,
+    0x802D,
+    0x8027,
+    0x0022,
+];
+
+// The register, four bits on: n enters at the top.
+fn nibble(c: u16, n: u16) -> u16
+    requires { ⌜ n < 16 ⌝ }
+    ensures { λ r. ⌜ r ≡ shifts 4 (bitXor c (n * 0x1000)) ⌝ }
 {
-    if c < 0x8000 {
-        c << 1
-    } else {
-        (c << 1) ^ 0x8005
-    }
+    (c << 4) ^ NIBBLES[((c >> 12) ^ n) as usize]
 }
 
-// The register, one byte on.
+// The register, one byte on: the byte's high four bits first, then its low ones.
 fn byte(c: u16, b: u8) -> u16
     ensures { λ r. ⌜ r ≡ crcByte c b ⌝ }
 {
-    let mut x = c ^ (b as u16) << 8;
-    let mut i: u8 = 0;
-    while i < 8 {
-        x = shift(x);
-        i += 1;
-    }
-    x
+    let high = (b >> 4) as u16;
+    let low = (b & 0x0F) as u16;
+    nibble(nibble(c, high), low)
 }
 
 // The register after the bytes of `s`, which it met with `c` in it: the bytes of one CRC may be given in parts.
