@@ -34,7 +34,7 @@ half a b = xor-shr a b 1
 low : (a b : ℕ) → bitXor a b % 2 ≡ differ (a % 2) (b % 2)
 low a b = ap (λ (x : ℕ). x % 2) (xor-step a b) ∙ digits-mod (bitXor (a / 2) (b / 2)) (bits-lt _ _ (bit-lt a) (bit-lt b))
 
--- bit by bit
+-- by halves, from the low bit on
 pub xor-assoc : (a b c : ℕ) → bitXor (bitXor a b) c ≡ bitXor a (bitXor b c)
 xor-assoc a =
     bin-ind (λ (n : ℕ). (b c : ℕ) → bitXor (bitXor n b) c ≡ bitXor n (bitXor b c)) (λ b c. refl)
