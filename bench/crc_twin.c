@@ -1,4 +1,4 @@
-/* One byte of the CRC in C, as in crc.rt, for the listing of a processor that no program here is run for. It includes nothing: a bare clang
+/* One byte of the CRC in C, as in crc.rs, for the listing of a processor that no program here is run for. It includes nothing: a bare clang
    compiles it. */
 static const unsigned short NIBBLES[16] = {0x0000, 0x8005, 0x800F, 0x000A, 0x801B, 0x001E, 0x0014, 0x8011,
                                            0x8033, 0x0036, 0x003C, 0x8039, 0x0028, 0x802D, 0x8027, 0x0022};
