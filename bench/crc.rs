@@ -1,6 +1,6 @@
 // Three forms of the CRC: the driver's, four bits at a time from a table of 16 words; the one that it had before, bit by bit; and the
-// first with a `match` for its table. Rattle and rustc both read this file; a name in .rt would have to be a crate's, for ./check. What is
-// proved of the last two is that they end: bench/crc compares what they give.
+// first with a `match` for its table. Rattle and rustc both read this file; it is no .rt, since ./check wants each of these in a crate. What
+// is proved of the last two is that they end: bench/crc compares what they give.
 
 #[no_mangle]
 pub extern "C" fn driver(s: &[u8]) -> u16 {
