@@ -9,10 +9,10 @@ use Rattle.laws.specs.If.{if_then_else_}
 use Rattle.field.specs.Field.{flag}
 use Rattle.fifo.specs.Control.{TXREQ, payloadOf, isFifo}
 use Rattle.spi.specs.declared.refusal.Refusal.{Refusal}
+use Rattle.spi.specs.declared.refusal.Done.{Done}
 use Rattle.header.specs.declared.Header.{Header}
 use Rattle.message.specs.declared.object.Stamp.{Stamp}
-use Rattle.message.specs.declared.tx.Checked.{Checked}
-use Rattle.message.specs.Message.{Message, checkOf, arriving, Decoding, holds, bad, short}
+use Rattle.message.specs.Message.{Message, arrivalCheck, arriving, Decoding, holds, short}
 use Rattle.message.specs.Structs.{frameOf, blank}
 use Rattle.ring.specs.Ring.{sending, depth, sent, claimed, overflowed}
 use Rattle.ring.specs.Layout.{stamped}
@@ -35,7 +35,7 @@ pub data Output : Type 0 where
 -- a slot that does not decode is no frame
 abbrev pub outputOf : Decoding → Output
 outputOf (holds m) = frame m
-outputOf (bad r) = noFrame
+outputOf Decoding.noFrame = noFrame
 outputOf short = noFrame
 
 -- FIFO n transmits, TXREQ is 1, and one is held
@@ -64,9 +64,9 @@ sentAs (refused r) m = record { sending = Sending.Refused r; frame = frameOf bla
 abbrev pub stampFor : Model → (n time : ℕ) → Stamp
 stampFor m n time = if stamped (frozenAt m n) then Stamp.At time else Stamp.None
 
--- a frame as FIFO n receives it: no SEQ
-unfoldable pub incoming : Model → ℕ → Header → ℕ → List ℕ → Message
-incoming m n header time payload = record { header = header; seq = 0; stamp = stampFor m n time; payload = payload }
+-- a frame as FIFO n receives it: with its DLC, and no SEQ
+unfoldable pub incoming : Model → ℕ → Header → (dlc time : ℕ) → List ℕ → Message
+incoming m n header dlc time payload = record { header = header; dlc = dlc; seq = 0; stamp = stampFor m n time; payload = payload }
 
 abbrev pub delivered : Delivery → Model → Delivered
 delivered answer m = record { delivery = answer; model = m }
@@ -88,13 +88,13 @@ appended m n len object =
 unfoldable pub give : Model → (n hit dlc : ℕ) → Header → ℕ → List ℕ → Delivered
 give m n hit dlc header time payload = appended m n (length payload) (arriving header dlc hit (stampFor m n time) payload)
 
--- 21 and 22 for a frame that no push could carry; one that names its FIFO has filter 0
-abbrev pub byCheck : Checked → Model → ℕ → Header → ℕ → List ℕ → Delivered
-byCheck (Checked.Bad r) m n header time payload = delivered (Delivery.Refused r) m
-byCheck (Checked.Dlc d) m n header time payload = give m n 0 d header time payload
+-- 21 and 22; a frame that names its FIFO has filter 0
+abbrev pub byCheck : Done → Model → ℕ → Header → (dlc time : ℕ) → List ℕ → Delivered
+byCheck (Done.Bad r) m n header dlc time payload = delivered (Delivery.Refused r) m
+byCheck Done.Good m n header dlc time payload = give m n 0 dlc header time payload
 
 -- a frame arrives for FIFO n
-unfoldable pub deliverOf : Model → ℕ → Header → ℕ → List ℕ → Delivered
-deliverOf m n header time payload =
-    if isFifo n then byCheck (checkOf header 0 (length payload)) m n header time payload
+unfoldable pub deliverOf : Model → ℕ → Header → (dlc time : ℕ) → List ℕ → Delivered
+deliverOf m n header dlc time payload =
+    if isFifo n then byCheck (arrivalCheck header dlc (length payload)) m n header dlc time payload
     else delivered (Delivery.Refused Refusal.BadNumber) m

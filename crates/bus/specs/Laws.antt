@@ -2,7 +2,7 @@
 -- Assumes nothing.
 use Prim.Native.Nat.{ℕ, _+_, _≤_, _<_}
 use mathlib.Core.Path.{_≡_}
-use mathlib.Core.Bool.{Bool, true, false, not}
+use mathlib.Core.Bool.{Bool, true, false, not, _&&_}
 use mathlib.Core.Logic.{_↔_}
 use mathlib.Core.List.{List, [], _∷_}
 use lib.ListN.{length, getD}
@@ -11,11 +11,10 @@ use Rattle.laws.specs.If.{if_then_else_}
 use Rattle.field.specs.Field.{read}
 use Rattle.configuration.specs.CanControl.{DNCNT}
 use Rattle.fifo.specs.Control.{payloadOf, isFifo}
-use Rattle.header.specs.declared.dlc.Dlc.{Dlc}
 use Rattle.header.specs.declared.Header.{Header}
-use Rattle.header.specs.Dlc.{dlcOf}
+use Rattle.header.specs.Dlc.{receivedLength}
 use Rattle.header.specs.Header.{topId}
-use Rattle.message.specs.Message.{Decoding, holds, bad, short}
+use Rattle.message.specs.Message.{Decoding, holds, short}
 use Rattle.filters.specs.Filters.{filterCount}
 use Rattle.ring.specs.Ring.{sending, depth, claimed, overflowed}
 use Rattle.ring.specs.Layout.{size}
@@ -50,7 +49,7 @@ OldestSent =
 -- what a message taken from its slot comes to: a slot that does not decode is no frame
 abbrev pub takenNumbers : Decoding → List ℕ
 takenNumbers (holds x) = 0 ∷ 1 ∷ messageNumbers x
-takenNumbers (bad r) = 0 ∷ 1 ∷ []
+takenNumbers Decoding.noFrame = 0 ∷ 1 ∷ []
 takenNumbers short = 0 ∷ 1 ∷ []
 
 -- what a send answers: 20 for a number that is no FIFO's, nothing sent, or what the oldest comes to
@@ -62,10 +61,9 @@ SendAnswers =
 
 -- ---- deliver
 
--- a payload's length has a DLC
-abbrev pub hasDlc : Dlc → Bool
-hasDlc (Dlc.Is d) = true
-hasDlc Dlc.Bad = false
+-- the DLC is at most 15, and the payload has the length that it means
+abbrev pub fitting : Header → (dlc : ℕ) → List ℕ → Bool
+fitting header dlc payload = leb dlc 15 && eqb (receivedLength (header .fdf) dlc) (length payload)
 
 -- the first cause to turn a frame down, by its place in document 01's order: Configuration, not receiving, payload longer than PLSIZE
 -- means, full; 0 where it is delivered
@@ -77,27 +75,38 @@ firstCause m n payload =
     else if leb (depth (frozenAt m n)) (length (held m n)) then 4
     else 0
 
--- 21 and 22 for a frame that no push could carry; otherwise this
-abbrev pub ifCarried : Header → List ℕ → List ℕ → List ℕ
-ifCarried header payload answer =
+-- 21 for an identifier that no push could carry, 22 for a payload of another length than the DLC means, or a DLC above 15; otherwise this
+abbrev pub ifCarried : Header → (dlc : ℕ) → List ℕ → List ℕ → List ℕ
+ifCarried header dlc payload answer =
     if ltb (topId (header .extended)) (header .id) then 21 ∷ []
-    else if not (hasDlc (dlcOf (header .fdf) (length payload))) then 22 ∷ []
+    else if not (fitting header dlc payload) then 22 ∷ []
     else answer
 
 -- what deliver answers: 20, 21, 22, then the first cause
-abbrev pub deliverAnswer : Model → ℕ → Header → List ℕ → List ℕ
-deliverAnswer m n header payload = if not (isFifo n) then 20 ∷ [] else ifCarried header payload (0 ∷ firstCause m n payload ∷ [])
+abbrev pub deliverAnswer : Model → ℕ → Header → (dlc : ℕ) → List ℕ → List ℕ
+deliverAnswer m n header dlc payload = if not (isFifo n) then 20 ∷ [] else ifCarried header dlc payload (0 ∷ firstCause m n payload ∷ [])
 
 abbrev pub DeliverAnswers : Type 0
 DeliverAnswers =
-    (m : Model) (n : ℕ) (header : Header) (time : ℕ) (payload : List ℕ)
-    → deliveryNumbers (deliverOf m n header time payload .delivery) ≡ deliverAnswer m n header payload
+    (m : Model) (n : ℕ) (header : Header) (dlc time : ℕ) (payload : List ℕ)
+    → deliveryNumbers (deliverOf m n header dlc time payload .delivery) ≡ deliverAnswer m n header dlc payload
 
--- a frame is delivered exactly if a push could carry it, and nothing turns it down
-pub record Deliverable (m : Model) (n : ℕ) (header : Header) (payload : List ℕ) : Type 0 where
+-- deliver's 22, exactly: not both, a DLC of at most 15 and a payload of the length that it means
+pub record Misfits (header : Header) (dlc : ℕ) (payload : List ℕ) : Type 0 where
+  pub identifier : header .id ≤ topId (header .extended)
+  pub not-both : dlc ≤ 15 → receivedLength (header .fdf) dlc ≡ length payload → ⊥
+
+abbrev pub Deliver22 : Type 0
+Deliver22 =
+    (m : Model) (n : ℕ) (header : Header) (dlc time : ℕ) (payload : List ℕ) → isFifo n ≡ true
+    → (deliveryNumbers (deliverOf m n header dlc time payload .delivery) ≡ 22 ∷ []) ↔ Misfits header dlc payload
+
+-- a frame is delivered exactly if its identifier, DLC and payload are those of a frame, and nothing turns it down
+pub record Deliverable (m : Model) (n : ℕ) (header : Header) (dlc : ℕ) (payload : List ℕ) : Type 0 where
   pub fifo : isFifo n ≡ true
   pub identifier : header .id ≤ topId (header .extended)
-  pub allowed : hasDlc (dlcOf (header .fdf) (length payload)) ≡ true
+  pub dlc-fits : dlc ≤ 15
+  pub meant : receivedLength (header .fdf) dlc ≡ length payload
   pub outside : m .fixed .configuring ≡ false
   pub receives : sending (frozenAt m n) ≡ false
   pub fits : length payload ≤ payloadOf (frozenAt m n)
@@ -105,8 +114,8 @@ pub record Deliverable (m : Model) (n : ℕ) (header : Header) (payload : List �
 
 abbrev pub DeliveredIff : Type 0
 DeliveredIff =
-    (m : Model) (n : ℕ) (header : Header) (time : ℕ) (payload : List ℕ)
-    → (deliverOf m n header time payload .delivery ≡ Delivery.Delivered) ↔ Deliverable m n header payload
+    (m : Model) (n : ℕ) (header : Header) (dlc time : ℕ) (payload : List ℕ)
+    → (deliverOf m n header dlc time payload .delivery ≡ Delivery.Delivered) ↔ Deliverable m n header dlc payload
 
 -- FIFO n took an object, and nothing else changed: it stands in the slot behind those held, and one more is counted
 pub record Took (m after : Model) (n : ℕ) : Type 0 where
@@ -123,39 +132,48 @@ pub record Leaves (answer : List ℕ) (m after : Model) (n : ℕ) : Type 0 where
 -- a frame that is delivered changes its FIFO only; one turned down changes nothing but, at a full FIFO, that one's overflow
 abbrev pub TurnedDown : Type 0
 TurnedDown =
-    (m : Model) (n : ℕ) (header : Header) (time : ℕ) (payload : List ℕ)
-    → Leaves (deliveryNumbers (deliverOf m n header time payload .delivery)) m (deliverOf m n header time payload .model) n
+    (m : Model) (n : ℕ) (header : Header) (dlc time : ℕ) (payload : List ℕ)
+    → let d = deliverOf m n header dlc time payload in
+    Leaves (deliveryNumbers (d .delivery)) m (d .model) n
 
 -- ---- sort
 
 -- what sort answers: 21, 22, 31 where DNCNT is above 0, 30 where no filter matches; then, of the lowest-numbered filter that matches, the
 -- first cause at its target, that FIFO and the filter
-abbrev pub sortAnswer : Model → Header → List ℕ → List ℕ
-sortAnswer m header payload =
-    ifCarried header payload
+abbrev pub sortAnswer : Model → Header → (dlc : ℕ) → List ℕ → List ℕ
+sortAnswer m header dlc payload =
+    ifCarried header dlc payload
     (if not (eqb (read DNCNT (m .fixed .con)) 0) then 31 ∷ []
     else if leb filterCount (filterFor m header) then 30 ∷ []
     else 0 ∷ firstCause m (targetFor m (filterFor m header)) payload ∷ targetFor m (filterFor m header) ∷ filterFor m header ∷ [])
 
 abbrev pub SortAnswers : Type 0
-SortAnswers = (m : Model) (header : Header) (time : ℕ) (payload : List ℕ) → sortedNumbers (sortOf m header time payload) ≡ sortAnswer m header payload
+SortAnswers =
+    (m : Model) (header : Header) (dlc time : ℕ) (payload : List ℕ) → sortedNumbers (sortOf m header dlc time payload) ≡ sortAnswer m header dlc payload
+
+-- its 22 is deliver's
+abbrev pub Sort22 : Type 0
+Sort22 =
+    (m : Model) (header : Header) (dlc time : ℕ) (payload : List ℕ)
+    → (sortedNumbers (sortOf m header dlc time payload) ≡ 22 ∷ []) ↔ Misfits header dlc payload
 
 -- a frame is sorted into its FIFO exactly if DNCNT is 0, a filter matches, and it could be delivered to that filter's target
-pub record Sortable (m : Model) (header : Header) (payload : List ℕ) : Type 0 where
+pub record Sortable (m : Model) (header : Header) (dlc : ℕ) (payload : List ℕ) : Type 0 where
   pub dncnt : read DNCNT (m .fixed .con) ≡ 0
   pub match : filterFor m header < filterCount
-  pub deliverable : Deliverable m (targetFor m (filterFor m header)) header payload
+  pub deliverable : Deliverable m (targetFor m (filterFor m header)) header dlc payload
 
 abbrev pub SortedIff : Type 0
 SortedIff =
-    (m : Model) (header : Header) (time : ℕ) (payload : List ℕ)
-    → (sortOf m header time payload .delivery ≡ Delivery.Delivered) ↔ Sortable m header payload
+    (m : Model) (header : Header) (dlc time : ℕ) (payload : List ℕ)
+    → (sortOf m header dlc time payload .delivery ≡ Delivery.Delivered) ↔ Sortable m header dlc payload
 
 -- it touches its target only, and for a refusal nothing
 abbrev pub SortLeaves : Type 0
 SortLeaves =
-    (m : Model) (header : Header) (time : ℕ) (payload : List ℕ)
-    → Leaves (deliveryNumbers (sortOf m header time payload .delivery)) m (sortOf m header time payload .model) (sortOf m header time payload .fifo)
+    (m : Model) (header : Header) (dlc time : ℕ) (payload : List ℕ)
+    → let s = sortOf m header dlc time payload in
+    Leaves (deliveryNumbers (s .delivery)) m (s .model) (s .fifo)
 
 -- ---- the messages held
 
@@ -174,9 +192,11 @@ pub record Laws : Type 1 where
   pub oldestSent : OldestSent
   pub sendAnswers : SendAnswers
   pub deliverAnswers : DeliverAnswers
+  pub deliver22 : Deliver22
   pub deliveredIff : DeliveredIff
   pub turnedDown : TurnedDown
   pub sortAnswers : SortAnswers
+  pub sort22 : Sort22
   pub sortedIff : SortedIff
   pub sortLeaves : SortLeaves
   pub rowLength : RowLength

@@ -9,10 +9,10 @@ use Rattle.laws.specs.If.{if_then_else_}
 use Rattle.field.specs.Field.{read}
 use Rattle.configuration.specs.CanControl.{DNCNT}
 use Rattle.spi.specs.declared.refusal.Refusal.{Refusal}
+use Rattle.spi.specs.declared.refusal.Done.{Done}
 use Rattle.header.specs.declared.Header.{Header}
 use Rattle.header.specs.Header.{sidOf, eidOf}
-use Rattle.message.specs.declared.tx.Checked.{Checked}
-use Rattle.message.specs.Message.{checkOf}
+use Rattle.message.specs.Message.{arrivalCheck}
 use Rattle.filters.specs.Filters.{targetOf, filterCount, filterOf}
 use Rattle.state.specs.declared.Model.{Model}
 use Rattle.bus.specs.declared.arrival.Delivery.{Delivery}
@@ -47,11 +47,11 @@ filtered m dlc header time payload =
     else if leb filterCount (filterFor m header) then unsorted Refusal.NoMatch m
     else takenBy m (filterFor m header) dlc header time payload
 
--- before these 21 and 22, for a frame that no push could carry
-abbrev pub sortedBy : Checked → Model → Header → ℕ → List ℕ → Sorted
-sortedBy (Checked.Bad r) m header time payload = unsorted r m
-sortedBy (Checked.Dlc d) m header time payload = filtered m d header time payload
+-- before these 21 and 22
+abbrev pub sortedBy : Done → Model → Header → (dlc time : ℕ) → List ℕ → Sorted
+sortedBy (Done.Bad r) m header dlc time payload = unsorted r m
+sortedBy Done.Good m header dlc time payload = filtered m dlc header time payload
 
 -- a frame arrives
-unfoldable pub sortOf : Model → Header → (time : ℕ) → List ℕ → Sorted
-sortOf m header time payload = sortedBy (checkOf header 0 (length payload)) m header time payload
+unfoldable pub sortOf : Model → Header → (dlc time : ℕ) → List ℕ → Sorted
+sortOf m header dlc time payload = sortedBy (arrivalCheck header dlc (length payload)) m header dlc time payload

@@ -16,8 +16,8 @@ ghost use Rattle.bus.specs.Bus.{stampFor, delivered, receives, appended,
 use crate::held;
 use fifo::FifoControl;
 use header::Header;
-use message::Checked;
 use message::Stamp;
+use spi::Done;
 use spi::Refusal;
 use state::Model;
 use state::fifo_at;
@@ -130,14 +130,21 @@ pub fn give(
     appended(m, n, payload.len(), &object[..len])
 }
 
-pub fn deliver(m: Model, n: u32, header: Header, time: u32, payload: &[u8]) -> Delivered
-    ensures { λ r. ⌜ r ≡ deliverOf m n header time (now (payload .entry)) ⌝ }
+pub fn deliver(
+    m: Model,
+    n: u32,
+    header: Header,
+    dlc: u32,
+    time: u32,
+    payload: &[u8],
+) -> Delivered
+    ensures { λ r. ⌜ r ≡ deliverOf m n header dlc time (now (payload .entry)) ⌝ }
 {
     if !fifo::is_fifo(n) {
         return told(Delivery::Refused(Refusal::BadNumber), m);
     }
-    match message::check(header, 0, payload.len()) {
-        Checked::Dlc(d) => give(m, n as u8, 0, d as u32, header, time, payload),
-        Checked::Bad(r) => told(Delivery::Refused(r), m),
+    match message::check_arrival(header, dlc, payload.len()) {
+        Done::Good => give(m, n as u8, 0, dlc, header, time, payload),
+        Done::Bad(r) => told(Delivery::Refused(r), m),
     }
 }

@@ -10,7 +10,7 @@ use crate::Delivery;
 use crate::arrival;
 use configuration::CanControl;
 use header::Header;
-use message::Checked;
+use spi::Done;
 use spi::Refusal;
 use state::Model;
 
@@ -83,11 +83,11 @@ fn filtered(m: Model, dlc: u32, header: Header, time: u32, payload: &[u8]) -> So
     by_filter(d, n, f)
 }
 
-pub fn sort(m: Model, header: Header, time: u32, payload: &[u8]) -> Sorted
-    ensures { λ r. ⌜ r ≡ sortOf m header time (now (payload .entry)) ⌝ }
+pub fn sort(m: Model, header: Header, dlc: u32, time: u32, payload: &[u8]) -> Sorted
+    ensures { λ r. ⌜ r ≡ sortOf m header dlc time (now (payload .entry)) ⌝ }
 {
-    match message::check(header, 0, payload.len()) {
-        Checked::Dlc(d) => filtered(m, d as u32, header, time, payload),
-        Checked::Bad(r) => unsorted(r, m),
+    match message::check_arrival(header, dlc, payload.len()) {
+        Done::Good => filtered(m, dlc, header, time, payload),
+        Done::Bad(r) => unsorted(r, m),
     }
 }

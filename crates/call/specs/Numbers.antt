@@ -18,9 +18,9 @@ abbrev pub stampNumbers : Stamp → List ℕ
 stampNumbers Stamp.None = []
 stampNumbers (Stamp.At t) = t ∷ []
 
--- what is told of a message: the length of its payload, header, timestamp
+-- what is told of a message: the length of its payload, header, DLC, timestamp
 abbrev pub foundNumbers : Found → List ℕ
-foundNumbers f = f .len ∷ headerNumbers (f .header) ++ stampNumbers (f .stamp)
+foundNumbers f = f .len ∷ headerNumbers (f .header) ++ (f .dlc ∷ stampNumbers (f .stamp))
 
 -- a refusal has document 01's number and values; an answer that is none has 0 in the number's place, which document 01 gives to no
 -- refusal, and its values; a call that still asks has no answer

@@ -10,8 +10,7 @@ use Rattle.field.specs.Field.{read, flag}
 use Rattle.fifo.specs.Control.{TXEN, RXTSEN}
 use Rattle.fifo.specs.Status.{TFNRFNIF}
 use Rattle.words.specs.Words.{roundUp}
-use Rattle.header.specs.declared.dlc.Length.{Length}
-use Rattle.header.specs.Dlc.{lengthOf}
+use Rattle.header.specs.Dlc.{receivedLength}
 use Rattle.header.specs.Header.{DLC, FDF, headerOf}
 use Rattle.message.specs.declared.object.Stamp.{Stamp}
 use Rattle.spi.specs.declared.refusal.Refusal.{Refusal}
@@ -51,13 +50,13 @@ afterAddress u =
     else if inRange (u + 0x400) 8 then FetchAt.Header (u + 0x400)
     else FetchAt.Refused (Refusal.InvalidRamAddress (u + 0x400))
 
--- by the header's words: 23, or what they say of the message
-abbrev pub byLength : Length → ℕ → ℕ → ℕ → FetchAt
-byLength (Length.Is n) m a b = FetchAt.Again m (record { header = headerOf a b; stamp = Stamp.None; len = n })
-byLength Length.Bad m a b = FetchAt.Refused Refusal.BadDlc
+-- what the header's words say of the message
+abbrev pub foundBy : (a b : ℕ) → Found
+foundBy a b = record { header = headerOf a b; dlc = read DLC b; stamp = Stamp.None; len = receivedLength (flag FDF b) (read DLC b) }
 
+-- by the header's words
 unfoldable pub afterHeader : ℕ → ℕ → ℕ → FetchAt
-afterHeader m a b = byLength (lengthOf (flag FDF b) (read DLC b)) m a b
+afterHeader m a b = FetchAt.Again m (foundBy a b)
 
 -- a timestamp at x: 3
 unfoldable pub toTime : ℕ → Found → FetchAt
@@ -72,7 +71,7 @@ unfoldable pub afterAgain : ℕ → Found → ℕ → FetchAt
 afterAgain m f w = if flag RXTSEN w then toTime (m + 8) f else toBody (m + 8) f
 
 abbrev pub stamped : Found → ℕ → Found
-stamped f t = record { header = f .header; stamp = Stamp.At t; len = f .len }
+stamped f t = record { header = f .header; dlc = f .dlc; stamp = Stamp.At t; len = f .len }
 
 -- by the timestamp word at x
 unfoldable pub afterTime : ℕ → Found → ℕ → FetchAt

@@ -11,7 +11,6 @@ ghost use Rattle.fetch.specs.Numbers.{foundIn, fetchAt, standing, starte
 use call::Found;
 use fifo::FifoControl;
 use fifo::FifoStatus;
-use header::Length;
 use spi::Answer;
 use spi::Done;
 use spi::OneWord;
@@ -197,17 +196,12 @@ fn after_address(c: FetchNumbers, reply: OneWord) -> FetchNumbers
 fn to_again(c: FetchNumbers, a: u32, b: u32) -> FetchNumbers
     ensures { λ r. ⌜ standing r ≡ (c .fifo, c .want, afterHeader (c .m) a b) ⌝ }
 {
-    match header::length_of(b) {
-        Length::Is(l) => {
-            let mut n = at_stage(c, FetchStage::Again);
-            n.a = a;
-            n.b = b;
-            n.stamped = false;
-            n.len = l as u8;
-            n
-        }
-        Length::Bad => refused(c, Refusal::BadDlc),
-    }
+    let mut n = at_stage(c, FetchStage::Again);
+    n.a = a;
+    n.b = b;
+    n.stamped = false;
+    n.len = header::received_length_of(b) as u8;
+    n
 }
 
 fn after_header(c: FetchNumbers, reply: TwoWords) -> FetchNumbers

@@ -2,7 +2,7 @@
 ghost use mathlib.Core.Path.{_≡_};
 ghost use mathlib.Core.Bool.{true};
 ghost use Prim.Native.Nat.{_≤_};
-ghost use Rattle.header.specs.Dlc.{dlcs, lengthOf, dlcOf};
+ghost use Rattle.header.specs.Dlc.{dlcs, lengthOf, receivedLength, dlcOf};
 
 // What DLC 0 to 15 mean, in bytes.
 pub const LENGTHS: [usize; 16] = [0, 1, 2, 3, 4, 5, 6, 7, 8, 12, 16, 20, 24, 32, 48, 64];
@@ -24,6 +24,7 @@ fn count(fdf: bool) -> usize
     if fdf { 16 } else { 9 }
 }
 
+// In a frame to send.
 pub fn len_for_dlc(dlc: usize, fdf: bool) -> Length
     ensures { λ r. ⌜ r ≡ lengthOf fdf dlc ⌝ }
 {
@@ -32,6 +33,19 @@ pub fn len_for_dlc(dlc: usize, fdf: bool) -> Length
     } else {
         Length::Bad
     }
+}
+
+// In a frame received: a classic frame with a DLC above 8 has 8 bytes. There is no DLC above 15, and such a number means no byte.
+pub fn received_len(dlc: usize, fdf: bool) -> usize
+    ensures { λ r. ⌜ (r ≡ receivedLength fdf dlc) × (r ≤ 64) ⌝ }
+{
+    if 15 < dlc {
+        return 0;
+    }
+    if fdf {
+        return LENGTHS[dlc];
+    }
+    if dlc <= 8 { dlc } else { 8 }
 }
 
 // The DLC of an FD frame's payload.

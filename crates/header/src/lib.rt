@@ -4,7 +4,7 @@ ghost use Prim.Native.Nat.{_<_, _≤_, _^_};
 ghost use Rattle.field.specs.Field.{read, flag, Fits};
 ghost use Rattle.field.specs.Settings.{settings};
 ghost use Rattle.header.specs.Header.{SEQ, FILHIT, DLC, FDF, topId, sidOf, eidOf, idIn, word0, kind1, word1, received1, headerOf};
-ghost use Rattle.header.specs.Dlc.{lengthOf};
+ghost use Rattle.header.specs.Dlc.{lengthOf, receivedLength};
 
 mod dlc;
 
@@ -13,6 +13,7 @@ pub use dlc::LENGTHS;
 pub use dlc::Length;
 pub use dlc::dlc_for_len;
 pub use dlc::len_for_dlc;
+pub use dlc::received_len;
 
 pub struct Header {
     pub extended: bool,
@@ -100,9 +101,23 @@ pub fn header_of(a: u32, b: u32) -> Header
     }
 }
 
-// The payload length that the second word means.
+// The DLC that the second word has.
+pub fn dlc_of(b: u32) -> u8
+    ensures { λ r. ⌜ (r ≡ read DLC b) × (r < 16) ⌝ }
+{
+    field::get(b, 0, 4) as u8
+}
+
+// The payload length that the second word means, of an object to send.
 pub fn length_of(b: u32) -> Length
     ensures { λ r. ⌜ r ≡ lengthOf (flag FDF b) (read DLC b) ⌝ }
 {
-    len_for_dlc(field::get(b, 0, 4) as usize, field::bit(b, 7))
+    len_for_dlc(dlc_of(b) as usize, field::bit(b, 7))
+}
+
+// Of one received.
+pub fn received_length_of(b: u32) -> usize
+    ensures { λ r. ⌜ (r ≡ receivedLength (flag FDF b) (read DLC b)) × (r ≤ 64) ⌝ }
+{
+    received_len(dlc_of(b) as usize, field::bit(b, 7))
 }

@@ -17,7 +17,7 @@ use Rattle.spi.specs.Refusals.{numbered}
 use Rattle.operation.specs.declared.place.Register.{Register}
 use Rattle.operation.specs.Laws.{among}
 use Rattle.header.specs.declared.Header.{Header}
-use Rattle.message.specs.Message.{Message, Encoding, Decoding, holds, bad, short}
+use Rattle.message.specs.Message.{Message, Encoding, Decoding, holds, noFrame, short}
 use Rattle.call.specs.declared.Outcome.{Outcome}
 use Rattle.call.specs.Numbers.{outcomeNumbers}
 use Rattle.tx_fifo.specs.Step.{toSend, encodingFor}
@@ -147,7 +147,7 @@ PushedIff =
 -- of a message read: what is told of it, and its payload at the front of the lent buffer; by the lists every slot held has one
 abbrev pub readAs : Decoding → List ℕ → Ending
 readAs (holds m) buf = answer (Outcome.Message (foundOf m)) (put buf 0 (m .payload))
-readAs (bad r) buf = answer (Outcome.Refused r) buf
+readAs noFrame buf = answer Outcome.Running buf
 readAs short buf = answer Outcome.Running buf
 
 -- how a get or a peek ends, d being the chip at the status read: 9, that none is held, or the oldest
@@ -293,8 +293,8 @@ TakesLast n (Begin k) c = ⊥
 TakesLast n Exchange c = ⊥
 TakesLast n Fail c = ⊥
 TakesLast n (On (Send k)) c = (k ≡ n) × (sends c n ≡ true) × (fifoAt c n .count ≡ 1)
-TakesLast n (On (Deliver k header time payload)) c = ⊥
-TakesLast n (On (Sort header time payload)) c = ⊥
+TakesLast n (On (Deliver k header dlc time payload)) c = ⊥
+TakesLast n (On (Sort header dlc time payload)) c = ⊥
 
 -- none of the events from v on is
 abbrev pub LastStays : ℕ → List Event → World → Type 0
@@ -321,10 +321,10 @@ TransmitSends =
     → (bs : List (List Bus)) → length bs ≡ 7
     → Takes (atStatus v bs) n payload → GoesOut (after (Begin (Transmit n header seq payload) ∷ calm bs) v) n)
 
--- ---- 7. no push, request, transmit, has-next, peek or get answers 3, 23, 25 or 26
+-- ---- 7. no push, request, transmit, has-next, peek or get answers 3, 25 or 26
 
 abbrev pub NotCaused : Refusal → Type 0
-NotCaused r = among (3 ∷ 23 ∷ 25 ∷ 26 ∷ []) (getD (numbered r) 0 0) ≡ false
+NotCaused r = among (3 ∷ 25 ∷ 26 ∷ []) (getD (numbered r) 0 0) ≡ false
 
 abbrev pub Ordinary : Outcome → Type 0
 Ordinary Outcome.Running = ⊥

@@ -74,14 +74,14 @@ buffer = replicate 64 0xFF
 abbrev pub story : Event → List Event
 story e =
     Begin (Push 1 torque 5 torqueBytes) ∷ Exchange ∷ Exchange ∷ On (Send 1) ∷ Exchange ∷ e ∷ Exchange
-    ∷ Begin (Request 1) ∷ Exchange ∷ Exchange ∷ On (Send 1) ∷ On (Deliver 2 feedback 77 feedbackBytes)
+    ∷ Begin (Request 1) ∷ Exchange ∷ Exchange ∷ On (Send 1) ∷ On (Deliver 2 feedback 3 77 feedbackBytes)
     ∷ Begin (Get 2 buffer) ∷ Exchange ∷ Exchange ∷ Exchange ∷ Exchange ∷ Exchange ∷ Exchange ∷ Exchange ∷ Exchange ∷ Exchange ∷ []
 
 -- ---- what is said
 
 -- the frame as FIFO 2 receives it
 abbrev pub received : Message
-received = record { header = feedback; seq = 0; stamp = Stamp.At 77; payload = feedbackBytes }
+received = record { header = feedback; dlc = 3; seq = 0; stamp = Stamp.At 77; payload = feedbackBytes }
 
 -- what the push ends with, and what the send after the request then finds
 abbrev pub saying : Outcome → Output → List Said

@@ -117,10 +117,10 @@ goesOn t k s h = settled (h .chip) t k (stepOf s (h .answer) (h .rx)) (h .rx)
 -- what a bus step says; a sorted frame is its target's, and FIFO 0's, which there is not, where it is refused
 abbrev pub says : Bus → Model → Said
 says (Send n) c = left n (sendOutput c n)
-says (Deliver n header time payload) c =
-    arrived n (incoming c n header (time % 2 ^ 32) payload) (deliverOf c n header (time % 2 ^ 32) payload .delivery)
-says (Sort header time payload) c =
-    let s = sortOf c header (time % 2 ^ 32) payload in arrived (s .fifo) (incoming c (s .fifo) header (time % 2 ^ 32) payload) (s .delivery)
+says (Deliver n header dlc time payload) c =
+    arrived n (incoming c n header dlc (time % 2 ^ 32) payload) (deliverOf c n header dlc (time % 2 ^ 32) payload .delivery)
+says (Sort header dlc time payload) c =
+    let s = sortOf c header dlc (time % 2 ^ 32) payload in arrived (s .fifo) (incoming c (s .fifo) header dlc (time % 2 ^ 32) payload) (s .delivery)
 
 -- one call at a time: a call begins only where none is under way; without one there is nothing to answer
 unfoldable pub event : Event → Doing → Model → List Said → World

@@ -12,12 +12,13 @@ use Rattle.words.specs.Words.{leAt, roundUp}
 use Rattle.header.specs.declared.dlc.Dlc.{Dlc}
 use Rattle.header.specs.declared.Header.{Header}
 use Rattle.message.specs.declared.object.Stamp.{Stamp}
-use Rattle.message.specs.declared.tx.Checked.{Checked}
-use Rattle.header.specs.Dlc.{dlcOf}
+use Rattle.spi.specs.declared.refusal.Done.{Done}
+use Rattle.spi.specs.Refusals.{doneNumbers}
+use Rattle.header.specs.Dlc.{dlcOf, receivedLength}
 use Rattle.header.specs.Header.{DLC, IDE, FDF, FILHIT, topId, meaning0, meaning1}
 use Rattle.message.specs.Object.{stampBytes, objectBytes}
-use Rattle.message.specs.Message.{Message, checkOf, object, encoding, arriving, holds, decoding, bodyAt}
-use Rattle.message.specs.Numbers.{encodingNumbers, decodingNumbers}
+use Rattle.message.specs.Message.{Message, Encoding, object, encoding, arrivalCheck, arriving, holds, noFrame, decoding, bodyAt}
+use Rattle.message.specs.Numbers.{encodingNumbers}
 
 -- a timestamp is a word, and is there exactly where RXTSEN is 1
 abbrev pub Stamped : Bool → Stamp → Type 0
@@ -31,16 +32,17 @@ pub record Suits (sending stamped : Bool) (m : Message) : Type 0 where
   pub seq : (if sending then m .seq else 0) ≡ m .seq
   pub stamp : Stamped stamped (m .stamp)
 
--- every field comes back from the object, whatever bytes stand behind it
+-- every field comes back from the object, whatever bytes stand behind it; the DLC is that of the payload's length
 abbrev pub RoundTrip : Type 0
 RoundTrip =
-    (sending stamped : Bool) (m : Message) (bs r : List ℕ) → encoding m ≡ object bs → Suits sending stamped m → decoding sending stamped (bs ++ r) ≡ holds m
+    (sending stamped : Bool) (m : Message) (bs r : List ℕ) → encoding m ≡ object bs → dlcOf (m .header .fdf) (length (m .payload)) ≡ Dlc.Is (m .dlc)
+    → Suits sending stamped m → decoding sending stamped (bs ++ r) ≡ holds m
 
--- so it does from the object of a frame that arrived, whichever filter took it
+-- so it does from the object of a frame that arrived, whichever filter took it: the DLC is the one that it brought
 abbrev pub ArrivalTrip : Type 0
 ArrivalTrip =
-    (stamped : Bool) (m : Message) (dlc hit : ℕ) (r : List ℕ) → checkOf (m .header) (m .seq) (length (m .payload)) ≡ Checked.Dlc dlc → hit < 32
-    → Suits false stamped m → decoding false stamped (arriving (m .header) dlc hit (m .stamp) (m .payload) ++ r) ≡ holds m
+    (stamped : Bool) (m : Message) (hit : ℕ) (r : List ℕ) → arrivalCheck (m .header) (m .dlc) (length (m .payload)) ≡ Done.Good → hit < 32
+    → Suits false stamped m → decoding false stamped (arriving (m .header) (m .dlc) hit (m .stamp) (m .payload) ++ r) ≡ holds m
 
 -- and FILHIT of its word 1 is that filter's number
 abbrev pub ArrivalFilter : Type 0
@@ -54,10 +56,16 @@ meaningful sending stamped n b =
     objectBytes (meaning0 (flag IDE (leAt b 4)) (leAt b 0)) (meaning1 sending (leAt b 4))
     (if stamped then Stamp.At (leAt b 8) else Stamp.None) (take n (drop (bodyAt stamped) b))
 
+-- what a message is written as: one to send, and one received as of a frame that filter 0 took
+abbrev pub writtenAs : (sending : Bool) → Message → Encoding
+writtenAs true m = encoding m
+writtenAs false m = object (arriving (m .header) (m .dlc) 0 (m .stamp) (m .payload))
+
 -- a message that bytes hold is written as their meaningful bytes
 abbrev pub Back : Type 0
 Back =
-    (sending stamped : Bool) (b : List ℕ) (m : Message) → decoding sending stamped b ≡ holds m → encoding m ≡ object (meaningful sending stamped (length (m .payload)) b)
+    (sending stamped : Bool) (b : List ℕ) (m : Message) → decoding sending stamped b ≡ holds m
+    → writtenAs sending m ≡ object (meaningful sending stamped (length (m .payload)) b)
 
 -- an object's length: 8, 4 with a timestamp, the payload rounded up to 4
 abbrev pub Lengths : Type 0
@@ -77,11 +85,35 @@ pub record RefusedFor (m : Message) : Type 0 where
 abbrev pub Refuses : Type 0
 Refuses = (m : Message) → RefusedFor m
 
--- a received object that has its header is refused exactly so: 23 for a classic frame with a DLC above 8
-abbrev pub Refuses23 : Type 0
-Refuses23 =
-    (sending stamped : Bool) (b : List ℕ) → bodyAt stamped ≤ length b
-    → (decodingNumbers (decoding sending stamped b) ≡ 23 ∷ []) ↔ ((flag FDF (leAt b 4) ≡ false) × (8 < read DLC (leAt b 4)))
+-- a frame that arrives is refused exactly so: 21 for the identifier, then 22 for a DLC above 15 or a payload of another length than it means
+pub record ArrivalRefusedFor (h : Header) (dlc n : ℕ) : Type 0 where
+  pub identifier : topId (h .extended) < h .id → doneNumbers (arrivalCheck h dlc n) ≡ 21 ∷ []
+  pub dlc-above : h .id ≤ topId (h .extended) → 15 < dlc → doneNumbers (arrivalCheck h dlc n) ≡ 22 ∷ []
+  pub other-length : h .id ≤ topId (h .extended) → (receivedLength (h .fdf) dlc ≡ n → ⊥) → doneNumbers (arrivalCheck h dlc n) ≡ 22 ∷ []
+  pub none : h .id ≤ topId (h .extended) → dlc ≤ 15 → receivedLength (h .fdf) dlc ≡ n → arrivalCheck h dlc n ≡ Done.Good
+
+abbrev pub ArrivalRefuses : Type 0
+ArrivalRefuses = (h : Header) (dlc n : ℕ) → ArrivalRefusedFor h dlc n
+
+-- a classic message is written with a DLC of at most 8
+abbrev pub ClassicDlc : Type 0
+ClassicDlc = (m : Message) (bs r : List ℕ) → m .header .fdf ≡ false → encoding m ≡ object bs → read DLC (leAt (bs ++ r) 4) ≤ 8
+
+-- of bytes of an object: the payload's length that the DLC means on reception
+abbrev pub meantIn : List ℕ → ℕ
+meantIn b = receivedLength (flag FDF (leAt b 4)) (read DLC (leAt b 4))
+
+-- a received object that is long enough always holds a message: whatever its DLC, which is kept
+abbrev pub AlwaysHolds : Type 0
+AlwaysHolds =
+    (stamped : Bool) (b : List ℕ) → bodyAt stamped + meantIn b ≤ length b
+    → (m : Message) × (decoding false stamped b ≡ holds m) × (length (m .payload) ≡ meantIn b) × (m .dlc ≡ read DLC (leAt b 4))
+
+-- an object to send that has its header is no frame exactly if it is a classic one with a DLC above 8
+abbrev pub NoFrameIff : Type 0
+NoFrameIff =
+    (stamped : Bool) (b : List ℕ) → bodyAt stamped ≤ length b
+    → (decoding true stamped b ≡ noFrame) ↔ ((flag FDF (leAt b 4) ≡ false) × (8 < read DLC (leAt b 4)))
 
 -- all of them
 pub record Laws : Type 0 where
@@ -91,4 +123,7 @@ pub record Laws : Type 0 where
   pub back : Back
   pub lengths : Lengths
   pub refuses : Refuses
-  pub refuses23 : Refuses23
+  pub arrivalRefuses : ArrivalRefuses
+  pub classicDlc : ClassicDlc
+  pub alwaysHolds : AlwaysHolds
+  pub noFrameIff : NoFrameIff

@@ -12,7 +12,7 @@ use Rattle.message.specs.declared.rx.Frame.{Frame}
 use Rattle.message.specs.declared.rx.Reading.{Reading}
 use Rattle.message.specs.declared.rx.Decoded.{Decoded}
 use Rattle.message.specs.declared.tx.Written.{Written}
-use Rattle.message.specs.Message.{Message, Encoding, refused, object, Decoding, holds, bad, short}
+use Rattle.message.specs.Message.{Message, Encoding, refused, object, Decoding, holds, noFrame, short}
 
 -- an object's bytes, the first `len` of an array
 pub record Object : Type 0 where
@@ -41,12 +41,13 @@ abbrev pub payloadIn : List ℕ → Payload
 payloadIn bs = record { bytes = zeroed 64 bs; len = length bs }
 
 abbrev pub frameOf : Message → Frame
-frameOf m = record { header = m .header; seq = m .seq; stamp = m .stamp; payload = payloadIn (m .payload) }
+frameOf m = record { header = m .header; dlc = m .dlc; seq = m .seq; stamp = m .stamp; payload = payloadIn (m .payload) }
 
 -- what stands in a frame where there is none
 abbrev pub blank : Message
 blank = record {
   header = record { extended = false; id = 0; rtr = false; brs = false; fdf = false; esi = false };
+  dlc = 0;
   seq = 0;
   stamp = Stamp.None;
   payload = [];
@@ -54,5 +55,5 @@ blank = record {
 
 abbrev pub decodedAs : Decoding → Decoded
 decodedAs (holds m) = record { reading = Reading.Whole; frame = frameOf m }
-decodedAs (bad r) = record { reading = Reading.Bad r; frame = frameOf blank }
+decodedAs noFrame = record { reading = Reading.NoFrame; frame = frameOf blank }
 decodedAs short = record { reading = Reading.Short; frame = frameOf blank }

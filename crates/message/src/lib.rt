@@ -5,6 +5,7 @@ mod rx;
 mod tx;
 
 pub use arrived::arrive;
+pub use arrived::check_arrival;
 pub use object::Stamp;
 pub use object::clear;
 pub use rx::Decoded;
@@ -14,5 +15,4 @@ pub use rx::Reading;
 pub use rx::decode;
 pub use tx::Checked;
 pub use tx::Written;
-pub use tx::check;
 pub use tx::encode;

@@ -3,18 +3,19 @@ ghost use mathlib.Core.Path.{_≡_};
 ghost use Prim.Native.Nat.{_+_, _≤_};
 ghost use lib.ListN.{length};
 ghost use Rattle.laws.specs.If.{if_then_else_};
-ghost use Rattle.field.specs.Field.{read};
+ghost use Rattle.field.specs.Field.{read, flag};
 ghost use Rattle.words.specs.Words.{leAt};
-ghost use Rattle.header.specs.Header.{SEQ};
-ghost use Rattle.message.specs.Message.{bodyAt, messageIn, decoding};
+ghost use Rattle.header.specs.Header.{DLC, FDF, SEQ};
+ghost use Rattle.message.specs.Message.{bodyAt, messageIn, lengthIn, decoding};
 ghost use Rattle.message.specs.Structs.{payloadIn, frameOf, blank, decodedAs};
 ghost use Rattle.message.specs.declared.object.Stamp.{Stamp};
 use crate::Stamp;
 use header::Header;
 use header::Length;
+use header::dlc_of;
 use header::header_of;
 use header::length_of;
-use spi::Refusal;
+use header::received_length_of;
 
 // What lies behind the first `len` bytes is 0.
 pub struct Payload {
@@ -24,16 +25,17 @@ pub struct Payload {
 
 pub struct Frame {
     pub header: Header,
+    pub dlc: u8,
     pub seq: u32,
     pub stamp: Stamp,
     pub payload: Payload,
 }
 
-// What an object's bytes are read as: a whole message; a refusal, for a classic frame with a DLC above 8; or fewer bytes
-// than the DLC means.
+// What an object's bytes are read as: a whole message; no frame, of one to send that is classic and has a DLC above 8; or fewer
+// bytes than the DLC means.
 pub enum Reading {
     Whole,
-    Bad(Refusal),
+    NoFrame,
     Short,
 }
 
@@ -72,6 +74,7 @@ fn nothing(reading: Reading) -> Decoded
     };
     let f = Frame {
         header: h,
+        dlc: 0,
         seq: 0,
         stamp: Stamp::None,
         payload: p,
@@ -117,10 +120,20 @@ fn frame_in(sending: bool, stamped: bool, start: usize, n: usize, b: &[u8]) -> F
     let p = hold(&b[start..end]);
     Frame {
         header: h,
+        dlc: dlc_of(w),
         seq: seq_in(sending, w),
         stamp: s,
         payload: p,
     }
+}
+
+fn length_in(sending: bool, w: u32) -> Length
+    ensures { λ r. ⌜ r ≡ lengthIn sending (flag FDF w) (read DLC w) ⌝ }
+{
+    if sending {
+        return length_of(w);
+    }
+    Length::Is(received_length_of(w))
 }
 
 // An object to send or received, with a timestamp or without; any bytes may follow it.
@@ -131,7 +144,7 @@ pub fn decode(sending: bool, stamped: bool, b: &[u8]) -> Decoded
     if b.len() < start {
         return nothing(Reading::Short);
     }
-    match length_of(words::le_at(b, 4)) {
+    match length_in(sending, words::le_at(b, 4)) {
         Length::Is(n) => {
             if start + n <= b.len() {
                 let f = frame_in(sending, stamped, start, n, b);
@@ -143,6 +156,6 @@ pub fn decode(sending: bool, stamped: bool, b: &[u8]) -> Decoded
                 nothing(Reading::Short)
             }
         }
-        Length::Bad => nothing(Reading::Bad(Refusal::BadDlc)),
+        Length::Bad => nothing(Reading::NoFrame),
     }
 }

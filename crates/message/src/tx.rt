@@ -1,7 +1,7 @@
 // A message to send: tested, and written as an object.
 ghost use mathlib.Core.Path.{_≡_};
 ghost use Rattle.header.specs.Header.{topId};
-ghost use Rattle.message.specs.Message.{checkOf, encoding};
+ghost use Rattle.message.specs.Message.{toWrite, checkOf, encoding};
 ghost use Rattle.message.specs.Structs.{encodedAs, encodedIn};
 use crate::Stamp;
 use crate::object;
@@ -24,14 +24,14 @@ pub struct Written {
     pub len: usize,
 }
 
-fn top_id(extended: bool) -> u32
+pub fn top_id(extended: bool) -> u32
     ensures { λ r. ⌜ r ≡ topId extended ⌝ }
 {
     if extended { 0x1FFF_FFFF } else { 0x7FF }
 }
 
 // The DLC of a message with a payload of n bytes, or its refusal.
-pub fn check(h: Header, seq: u32, n: usize) -> Checked
+fn check(h: Header, seq: u32, n: usize) -> Checked
     ensures { λ r. ⌜ r ≡ checkOf h seq n ⌝ }
 {
     if top_id(h.extended) < h.id {
@@ -54,7 +54,7 @@ pub fn encode(
     payload: &[u8],
     body: &mut [u8; 76],
 ) -> Written
-    ensures { λ r. ⌜ encodedIn r (now (body .exit)) ≡ encodedAs (encoding (record { header = header; seq = seq; stamp = stamp; payload = now (payload .entry) })) ⌝ }
+    ensures { λ r. ⌜ encodedIn r (now (body .exit)) ≡ encodedAs (encoding (toWrite header seq stamp (now (payload .entry)))) ⌝ }
 {
     match check(header, seq, payload.len()) {
         Checked::Dlc(d) => {

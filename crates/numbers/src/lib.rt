@@ -24,7 +24,6 @@ pub fn number(refusal: Refusal) -> u32
         Refusal::BadNumber => 20,
         Refusal::BadIdentifier => 21,
         Refusal::BadPayload => 22,
-        Refusal::BadDlc => 23,
         Refusal::BadSetting => 24,
         Refusal::BadUserAddress => 25,
         Refusal::WrongAnswer => 26,

@@ -7,14 +7,14 @@ use Rattle.state.specs.declared.Model.{Model}
 use Rattle.bus.specs.Bus.{sendModel, deliverOf}
 use Rattle.bus.specs.Sort.{sortOf}
 
--- the chip sends from a FIFO; a frame arrives for a FIFO, with a timestamp; a frame arrives and the filters sort it
+-- the chip sends from a FIFO; a frame arrives for a FIFO, with its DLC and a timestamp; a frame arrives and the filters sort it
 pub data Bus : Type 0 where
   Send : ℕ → Bus
-  Deliver : ℕ → Header → (time : ℕ) → List ℕ → Bus
-  Sort : Header → (time : ℕ) → List ℕ → Bus
+  Deliver : ℕ → Header → (dlc time : ℕ) → List ℕ → Bus
+  Sort : Header → (dlc time : ℕ) → List ℕ → Bus
 
 -- a timestamp has 32 bits
 unfoldable pub stepped : Bus → Model → Model
 stepped (Send n) m = sendModel m n
-stepped (Deliver n header time payload) m = deliverOf m n header (time % 2 ^ 32) payload .model
-stepped (Sort header time payload) m = sortOf m header (time % 2 ^ 32) payload .model
+stepped (Deliver n header dlc time payload) m = deliverOf m n header dlc (time % 2 ^ 32) payload .model
+stepped (Sort header dlc time payload) m = sortOf m header dlc (time % 2 ^ 32) payload .model

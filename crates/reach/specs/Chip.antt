@@ -59,31 +59,31 @@ SendInside =
 -- a frame that is delivered is the last that FIFO n holds, as that receives it; those before it stay, and so does every other FIFO
 abbrev pub DeliverAppends : Type 0
 DeliverAppends =
-    (m : Model) → Reached m → (n : ℕ) (header : Header) (time : ℕ) (payload : List ℕ) → time < 2 ^ 32
-    → deliverOf m n header time payload .delivery ≡ Delivery.Delivered → (k : ℕ)
-    → held (deliverOf m n header time payload .model) k ≡ held m k ++ (if eqb n k then holds (incoming m n header time payload) ∷ [] else [])
+    (m : Model) → Reached m → (n : ℕ) (header : Header) (dlc time : ℕ) (payload : List ℕ) → time < 2 ^ 32
+    → deliverOf m n header dlc time payload .delivery ≡ Delivery.Delivered → (k : ℕ)
+    → held (deliverOf m n header dlc time payload .model) k ≡ held m k ++ (if eqb n k then holds (incoming m n header dlc time payload) ∷ [] else [])
 
 -- one turned down by a full FIFO sets overflow: status bit 3 reads 1
 abbrev pub FullOverflows : Type 0
 FullOverflows =
-    (m : Model) → Reached m → (n : ℕ) (header : Header) (time : ℕ) (payload : List ℕ) → deliverOf m n header time payload .delivery ≡ Delivery.Full
-    → read RXOVIF (wordOf (deliverOf m n header time payload .model) (Register.Status n)) ≡ 1
+    (m : Model) → Reached m → (n : ℕ) (header : Header) (dlc time : ℕ) (payload : List ℕ) → deliverOf m n header dlc time payload .delivery ≡ Delivery.Full
+    → read RXOVIF (wordOf (deliverOf m n header dlc time payload .model) (Register.Status n)) ≡ 1
 
 -- ---- sort
 
 -- a frame that a filter took is the last that its target holds; those before it stay, and so does every other FIFO
 abbrev pub SortAppends : Type 0
 SortAppends =
-    (m : Model) → Reached m → (header : Header) (time : ℕ) (payload : List ℕ) → time < 2 ^ 32
-    → let s = sortOf m header time payload in
+    (m : Model) → Reached m → (header : Header) (dlc time : ℕ) (payload : List ℕ) → time < 2 ^ 32
+    → let s = sortOf m header dlc time payload in
     s .delivery ≡ Delivery.Delivered → (k : ℕ)
-    → held (s .model) k ≡ held m k ++ (if eqb (s .fifo) k then holds (incoming m (s .fifo) header time payload) ∷ [] else [])
+    → held (s .model) k ≡ held m k ++ (if eqb (s .fifo) k then holds (incoming m (s .fifo) header dlc time payload) ∷ [] else [])
 
 -- one turned down by a full FIFO sets that FIFO's overflow
 abbrev pub SortOverflows : Type 0
 SortOverflows =
-    (m : Model) → Reached m → (header : Header) (time : ℕ) (payload : List ℕ)
-    → let s = sortOf m header time payload in
+    (m : Model) → Reached m → (header : Header) (dlc time : ℕ) (payload : List ℕ)
+    → let s = sortOf m header dlc time payload in
     s .delivery ≡ Delivery.Full → read RXOVIF (wordOf (s .model) (Register.Status (s .fifo))) ≡ 1
 
 -- ---- Configuration

@@ -61,11 +61,11 @@ pub record ActAlike (Alikes : Model → Model → Type 0) (R : Register → Type
   pub words : (r : Register) → R r → Alike fs (wordOf c r) (wordOf d r)
   pub sends : (n : ℕ) → sendOutput c n ≡ sendOutput d n
   pub delivers :
-      (n : ℕ) (header : Header) (time : ℕ) (payload : List ℕ)
-      → deliverOf c n header time payload .delivery ≡ deliverOf d n header time payload .delivery
+      (n : ℕ) (header : Header) (dlc time : ℕ) (payload : List ℕ)
+      → deliverOf c n header dlc time payload .delivery ≡ deliverOf d n header dlc time payload .delivery
   pub sorts :
-      (header : Header) (time : ℕ) (payload : List ℕ)
-      → sortedNumbers (sortOf c header time payload) ≡ sortedNumbers (sortOf d header time payload)
+      (header : Header) (dlc time : ℕ) (payload : List ℕ)
+      → sortedNumbers (sortOf c header dlc time payload) ≡ sortedNumbers (sortOf d header dlc time payload)
   pub after : (x : Happening) → Alikes (happens x c) (happens x d)
 
 -- those of some fields that share no bit with any of others

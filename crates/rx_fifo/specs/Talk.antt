@@ -6,17 +6,12 @@ use mathlib.Core.List.{List}
 use lib.ListN.{length}
 use lib.Dec.{ltb, leb}
 use Rattle.laws.specs.If.{if_then_else_}
-use Rattle.field.specs.Field.{read, flag, mark}
+use Rattle.field.specs.Field.{flag, mark}
 use Rattle.fifo.specs.Control.{CiFIFOCON, TXEN, RXTSEN, UINC, isFifo}
 use Rattle.fifo.specs.Status.{CiFIFOSTA, TFNRFNIF}
 use Rattle.fifo.specs.UserAddress.{CiFIFOUA}
 use Rattle.words.specs.Words.{roundUp}
 use Rattle.parts.specs.Parts.{put}
-use Rattle.header.specs.declared.Header.{Header}
-use Rattle.header.specs.declared.dlc.Length.{Length}
-use Rattle.header.specs.Dlc.{lengthOf}
-use Rattle.header.specs.Header.{DLC, FDF, headerOf}
-use Rattle.message.specs.declared.object.Stamp.{Stamp}
 use Rattle.message.specs.Message.{Message}
 use Rattle.spi.specs.declared.refusal.Refusal.{Refusal}
 use Rattle.spi.specs.Ram.{inRange}
@@ -26,7 +21,7 @@ use Rattle.call.specs.declared.Outcome.{Outcome}
 use Rattle.fetch.specs.declared.Want.{Want}
 use Rattle.rx_fifo.specs.Fetch.{Fetch}
 use Rattle.fetch.specs.FetchAt.{FetchAt}
-use Rattle.fetch.specs.Step.{stamped}
+use Rattle.fetch.specs.Step.{foundBy, stamped}
 use Rattle.rx_fifo.specs.Outcome.{messageOf, foundOf, toldOf}
 
 -- how such a call is done: whether there is a next message; the oldest message; none is held
@@ -73,14 +68,9 @@ againTalk want fifo m f =
     readWord Refusal.SpiRead (CiFIFOCON .address fifo)
     (λ w. if flag RXTSEN w then toTimeTalk want fifo (m + 8) f else toBodyTalk want fifo (m + 8) f)
 
--- 23 at the header's answer
-abbrev pub foundTalk : Want → (fifo m : ℕ) → Header → Length → Talk Fetched
-foundTalk want fifo m h (Length.Is n) = againTalk want fifo m (record { header = h; stamp = Stamp.None; len = n })
-foundTalk want fifo m h Length.Bad = refused Refusal.BadDlc
-
 -- 8 header bytes, at m
 abbrev pub headerTalk : Want → (fifo m : ℕ) → Talk Fetched
-headerTalk want fifo m = readPair Refusal.SpiRead m (λ a b. foundTalk want fifo m (headerOf a b) (lengthOf (flag FDF b) (read DLC b)))
+headerTalk want fifo m = readPair Refusal.SpiRead m (λ a b. againTalk want fifo m (foundBy a b))
 
 -- 25, then 3 for the header: the object is 0x400 above the user address
 abbrev pub toHeaderTalk : Want → (fifo u : ℕ) → Talk Fetched

@@ -17,7 +17,6 @@ pub enum Refusal {
     BadNumber,
     BadIdentifier,
     BadPayload,
-    BadDlc,
     BadSetting,
     BadUserAddress,
     WrongAnswer,

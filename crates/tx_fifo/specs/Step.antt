@@ -11,7 +11,7 @@ use Rattle.fifo.specs.Control.{CiFIFOCON, TXEN, UINC, payloadOf, isFifo}
 use Rattle.fifo.specs.Status.{CiFIFOSTA, TFNRFNIF}
 use Rattle.fifo.specs.UserAddress.{CiFIFOUA}
 use Rattle.header.specs.declared.Header.{Header}
-use Rattle.message.specs.Message.{Message, Encoding, encoding}
+use Rattle.message.specs.Message.{Message, toWrite, Encoding, encoding}
 use Rattle.message.specs.Structs.{Encoded, encodedAs}
 use Rattle.message.specs.declared.object.Stamp.{Stamp}
 use Rattle.spi.specs.Ram.{inRange}
@@ -29,7 +29,7 @@ use Rattle.tx_fifo.specs.PushAt.{PushAt}
 
 -- a message to send has no timestamp
 abbrev pub toSend : Header → ℕ → List ℕ → Message
-toSend header seq payload = record { header = header; seq = seq; stamp = Stamp.None; payload = payload }
+toSend header seq payload = toWrite header seq Stamp.None payload
 
 -- the object for a FIFO, or 20, or what the message is refused for
 unfoldable pub encodingFor : ℕ → Header → ℕ → List ℕ → Encoding
