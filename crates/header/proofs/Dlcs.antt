@@ -3,15 +3,16 @@
 use mathlib.Core.Path.{_≡_, refl, sym, ap, _∙_}
 use mathlib.Core.Bool.{Bool, true, false, false≢true}
 use mathlib.Core.List.{List, [], _∷_}
-use Prim.Native.Nat.{ℕ, suc, _+_, _-_, _≤_, _<_}
+use Prim.Native.Nat.{ℕ, zero, suc, _+_, _-_, _≤_, _<_, min}
+use native.Mathlib.Nat.{le-of-suc-le-suc}
 use native.Mathlib.Omega.{arith}
 use lib.ListN.{length, getD, take}
 use lib.Seq.{getD-take}
 use lib.Dec.{ltb, leb, eqb}
-use borrow.Author.Tests.{lt-ltb, ltb-true, leb-true, eqb-true}
+use borrow.Author.Tests.{lt-ltb, ltb-true, ltb-false, leb-true, eqb-true}
 use Rattle.laws.proofs.Choice.{by-if}
 use Rattle.laws.proofs.Table.{every, at}
-use Rattle.header.specs.Dlc.{lengths, dlcs, lengthOf, seek, dlcOf}
+use Rattle.header.specs.Dlc.{lengths, dlcs, lengthOf, receivedLength, seek, dlcOf}
 use Rattle.header.specs.declared.dlc.Length.{Length}
 use Rattle.header.specs.declared.dlc.Dlc.{Dlc}
 
@@ -100,3 +101,61 @@ dlc-16 fdf n d e = omega (arith, dlc-lt fdf n d e, dlcs-le fdf)
 
 pub payload-le : (fdf : Bool) (n d : ℕ) → dlcOf fdf n ≡ Dlc.Is d → n ≤ 64
 payload-le fdf n d e = length-le fdf n d (length-back fdf n d e)
+
+-- ---- a frame received
+
+-- behind the table there is nothing
+past : (xs : List ℕ) (d : ℕ) → length xs ≤ d → getD xs d 0 ≡ 0
+past [] d h = refl
+past (x ∷ xs) zero h = absurd (omega arith)
+past (x ∷ xs) (suc d) h = past xs d (le-of-suc-le-suc h)
+
+pub received-past : (fdf : Bool) (d : ℕ) → 15 < d → 0 ≡ receivedLength fdf d
+unfolding receivedLength
+received-past true d h = sym (past lengths d h)
+received-past false d h = rw (past lengths d h)
+
+pub received-fd : (d : ℕ) → getD lengths d 0 ≡ receivedLength true d
+unfolding receivedLength
+received-fd d = refl
+
+-- a classic DLC means itself up to 8, and from there on 8
+eight : ℕ → Bool
+eight d = eqb (min d 8) (min (getD lengths d 0) 8)
+
+all-eight : every eight 16 ≡ true
+unfolding eight
+all-eight = refl
+
+pub received-classic : (d : ℕ) → d ≤ 15 → min d 8 ≡ receivedLength false d
+unfolding receivedLength eight
+received-classic d h = eqb-true _ _ (at eight 16 all-eight d (omega arith))
+
+-- what a DLC to send means it means on reception
+classic : ℕ → Bool
+classic d = leb (getD lengths d 0) 8
+
+all-classic : every classic 9 ≡ true
+unfolding classic
+all-classic = refl
+
+pub received-sent : (fdf : Bool) (n d : ℕ) → lengthOf fdf d ≡ Length.Is n → receivedLength fdf d ≡ n
+unfolding lengthOf receivedLength classic
+received-sent fdf n d =
+    by-if (λ (l : Length). l ≡ Length.Is n → receivedLength fdf d ≡ n) (ltb d (dlcs fdf))
+    (λ t e. let f : getD lengths d 0 ≡ n = cc in go fdf f (ltb-true d (dlcs fdf) t))
+    (λ t e. let z : _≡_ {A = ℕ} 0 1 = cc in absurd (omega arith))
+  where
+    go : (x : Bool) → getD lengths d 0 ≡ n → d < dlcs x → receivedLength x d ≡ n
+    go true f h = f
+    go false f h = omega (arith, f, leb-true (getD lengths d 0) 8 (at classic 9 all-classic d h))
+
+-- no payload received is longer than 64 bytes
+pub received-le : (fdf : Bool) (d : ℕ) → receivedLength fdf d ≤ 64
+unfolding receivedLength short
+received-le true d = go (ltb d 16) refl
+  where
+    go : (b : Bool) → ltb d 16 ≡ b → getD lengths d 0 ≤ 64
+    go true t = leb-true _ 64 (at short 16 all-short d (ltb-true d 16 t))
+    go false t = rw (past lengths d (ltb-false d 16 t)) (omega arith)
+received-le false d = omega arith

@@ -171,14 +171,18 @@ abbrev low : List Field
 low = DLC ∷ IDE ∷ RTR ∷ BRS ∷ FDF ∷ ESI ∷ []
 
 -- the flags as they were read
-same-flags : (a b seq : ℕ) → word1 (headerOf a b) seq (read DLC b) ≡ write SEQ seq (b % 2 ^ 9)
-unfolding word1 headerOf
-same-flags a b seq =
+same-flags : (a b : ℕ) → settings (kind1 (headerOf a b) (read DLC b)) 0 ≡ b % 2 ^ 9
+unfolding headerOf
+same-flags a b =
     rw (flag-again 4 b, flag-again 5 b, flag-again 6 b, flag-again 7 b, flag-again 8 b)
-    (ap (write SEQ seq) (ap (settings (DLC := read DLC b ∷ IDE := read IDE b ∷ RTR := read RTR b ∷ BRS := read BRS b ∷ FDF := read FDF b ∷ ESI := read ESI b ∷ [])) (sym (start b)) ∙ tiled b 0 9 low refl))
+    (ap (settings (DLC := read DLC b ∷ IDE := read IDE b ∷ RTR := read RTR b ∷ BRS := read BRS b ∷ FDF := read FDF b ∷ ESI := read ESI b ∷ [])) (sym (start b)) ∙ tiled b 0 9 low refl)
 
-pub word1-again : (sending : Bool) (a b : ℕ) → word1 (headerOf a b) (if sending then read SEQ b else 0) (read DLC b) ≡ meaning1 sending b
-word1-again true a b = same-flags a b (read SEQ b) ∙ tiled b 9 32 (SEQ ∷ []) refl
-word1-again false a b =
-    let none : read SEQ (b % 2 ^ 9) ≡ 0 = omega arith in
-    same-flags a b 0 ∙ ap (λ (v : ℕ). write SEQ v (b % 2 ^ 9)) (sym none) ∙ write-read SEQ (b % 2 ^ 9)
+pub word1-again : (a b : ℕ) → word1 (headerOf a b) (read SEQ b) (read DLC b) ≡ meaning1 true b
+unfolding word1
+word1-again a b = ap (write SEQ (read SEQ b)) (same-flags a b) ∙ tiled b 9 32 (SEQ ∷ []) refl
+
+pub received1-again : (a b : ℕ) → received1 (headerOf a b) (read DLC b) 0 ≡ meaning1 false b
+unfolding received1
+received1-again a b =
+    let none : read FILHIT (b % 2 ^ 9) ≡ 0 = omega arith in
+    ap (write FILHIT 0) (same-flags a b) ∙ ap (λ (v : ℕ). write FILHIT v (b % 2 ^ 9)) (sym none) ∙ write-read FILHIT (b % 2 ^ 9)

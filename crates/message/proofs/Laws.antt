@@ -1,7 +1,7 @@
 -- What is proved of messages and objects, in one.
 -- Assumes nothing.
 use Rattle.message.specs.Laws.{Laws}
-use Rattle.message.proofs.Round.{round-trip, arrival-trip, arrival-filter, back, lengths-hold, refuses, refuses-23}
+use Rattle.message.proofs.Round.{round-trip, arrival-trip, arrival-filter, back, lengths-hold, refuses, arrival-refuses, classic-dlc, always-holds, no-frame-iff}
 
 pub laws : Laws
 laws = record {
@@ -11,5 +11,8 @@ laws = record {
   back = back;
   lengths = lengths-hold;
   refuses = refuses;
-  refuses23 = refuses-23;
+  arrivalRefuses = arrival-refuses;
+  classicDlc = classic-dlc;
+  alwaysHolds = always-holds;
+  noFrameIff = no-frame-iff;
 }

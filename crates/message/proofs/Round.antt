@@ -1,34 +1,36 @@
 -- From a message to its object and back, and from bytes to their message and back.
 -- Assumes nothing.
 use mathlib.Core.Path.{_≡_, refl, sym, ap, ap₂, _∙_}
-use mathlib.Core.Bool.{Bool, true, false}
+use mathlib.Core.Bool.{Bool, true, false, false≢true}
 use mathlib.Core.List.{List, [], _∷_, _++_, append-assoc}
 use Prim.Native.Nat.{ℕ, _+_, _^_, _≤_, _<_}
 use native.Mathlib.Omega.{arith}
 use lib.ListN.{length, take, drop, getD, length-append, length-replicate, length-take, length-drop}
 use lib.Seq.{take-append-seam}
-use lib.Dec.{ltb, leb}
-use borrow.Author.Tests.{lt-ltb, le-ltb, le-leb, lt-leb, leb-true, ltb-false}
+use lib.Dec.{ltb, leb, eqb}
+use borrow.Author.Tests.{lt-ltb, le-ltb, le-leb, lt-leb, eq-eqb, ne-eqb, leb-true, ltb-false}
 use Rattle.laws.specs.If.{if_then_else_}
 use Rattle.laws.proofs.Choice.{by-if}
 use Rattle.field.specs.Field.{read, flag}
 use Rattle.field.proofs.Laws.{field-lt}
 use Rattle.words.specs.Words.{leBytes, leAt, roundUp}
+use Rattle.spi.specs.declared.refusal.Refusal.{Refusal}
+use Rattle.spi.specs.declared.refusal.Done.{Done}
+use Rattle.spi.specs.Refusals.{doneNumbers}
 use Rattle.words.proofs.Laws.{le-back, le-drop, le-length}
 use Rattle.header.specs.declared.dlc.Dlc.{Dlc}
 use Rattle.header.specs.declared.dlc.Length.{Length}
 use Rattle.header.specs.declared.Header.{Header}
 use Rattle.message.specs.declared.object.Stamp.{Stamp}
 use Rattle.message.specs.declared.tx.Checked.{Checked}
-use Rattle.header.specs.Dlc.{dlcOf, lengthOf}
+use Rattle.header.specs.Dlc.{dlcOf, lengthOf, receivedLength}
 use Rattle.header.specs.Header.{DLC, FDF, SEQ, FILHIT, topId, word0, word1, received1, headerOf}
 use Rattle.message.specs.Object.{stampBytes, padded, objectBytes}
-use Rattle.message.specs.Message.{Message, checkOf, object, coded, encoding, arriving, Decoding, holds, bodyAt, messageIn, byLength, decoding}
-use Rattle.message.specs.Numbers.{decodingNumbers}
-use Rattle.message.specs.Laws.{Stamped, RoundTrip, ArrivalTrip, ArrivalFilter, meaningful, Back, Lengths, Refuses, Refuses23}
-use Rattle.header.proofs.Dlcs.{length-back, dlc-back, dlc-16, payload-le}
-use Rattle.message.proofs.Checks.{Sound, sound}
-use Rattle.header.proofs.Fields.{word0-lt, Second, word1-says, seq-field, received1-says, hit-field, header-small, header-fdf, word0-again, word1-again}
+use Rattle.message.specs.Message.{Message, checkOf, object, coded, encoding, arrivalCheck, arriving, Decoding, holds, noFrame, bodyAt, messageIn, lengthIn, byLength, decoding}
+use Rattle.message.specs.Laws.{Stamped, RoundTrip, ArrivalTrip, ArrivalFilter, meaningful, writtenAs, Back, Lengths, Refuses, ArrivalRefuses, ClassicDlc, AlwaysHolds, NoFrameIff}
+use Rattle.header.proofs.Dlcs.{dlc-lt, length-back, dlc-back, dlc-16, payload-le, received-sent}
+use Rattle.message.proofs.Checks.{Sound, sound, Fitting, fitting}
+use Rattle.header.proofs.Fields.{word0-lt, Second, word1-says, seq-field, received1-says, hit-field, header-small, header-fdf, word0-again, word1-again, received1-again}
 
 -- ---- a message that is not refused
 
@@ -72,9 +74,9 @@ object-le m bs e =
 
 -- ---- reading back
 
-module _ (sending : Bool) (w₀ w₁ : ℕ) (p : List ℕ) (hl : lengthOf (flag FDF w₁) (read DLC w₁) ≡ Length.Is (length p)) where
+module _ (sending : Bool) (w₀ w₁ : ℕ) (p : List ℕ) (hl : lengthIn sending (flag FDF w₁) (read DLC w₁) ≡ Length.Is (length p)) where
   abbrev result : Stamp → Message
-  result s = record { header = headerOf w₀ w₁; seq = if sending then read SEQ w₁ else 0; stamp = s; payload = p }
+  result s = record { header = headerOf w₀ w₁; dlc = read DLC w₁; seq = if sending then read SEQ w₁ else 0; stamp = s; payload = p }
 
   -- bytes with these words, this timestamp and this payload
   read-as : (stamped : Bool) (b : List ℕ) (s : Stamp) → leAt b 0 ≡ w₀ → leAt b 4 ≡ w₁ → (if stamped then Stamp.At (leAt b 8) else Stamp.None) ≡ s
@@ -82,7 +84,7 @@ module _ (sending : Bool) (w₀ w₁ : ℕ) (p : List ℕ) (hl : lengthOf (flag 
   unfolding decoding messageIn
   read-as stamped b s f₀ f₁ fs fp long =
       let first : ltb (length b) (bodyAt stamped) ≡ false = le-ltb (length b) (bodyAt stamped) (omega arith) in
-      let len : lengthOf (flag FDF (leAt b 4)) (read DLC (leAt b 4)) ≡ Length.Is (length p) = ap (λ (w : ℕ). lengthOf (flag FDF w) (read DLC w)) f₁ ∙ hl in
+      let len : lengthIn sending (flag FDF (leAt b 4)) (read DLC (leAt b 4)) ≡ Length.Is (length p) = ap (λ (w : ℕ). lengthIn sending (flag FDF w) (read DLC w)) f₁ ∙ hl in
       let second : leb (bodyAt stamped + length p) (length b) ≡ true = le-leb (bodyAt stamped + length p) (length b) long in
       rw (first, len, second, f₀, f₁, fs, fp)
 
@@ -114,32 +116,43 @@ module _ (sending : Bool) (w₀ w₁ : ℕ) (p : List ℕ) (hl : lengthOf (flag 
     by-stamp false Stamp.None h = without
 
 -- every field comes back where the second word says the header and SEQ
-returns : (sending stamped : Bool) (m : Message) (dlc w : ℕ) (r : List ℕ) → Sound (m .header) (m .seq) (length (m .payload)) dlc
-    → Second (m .header) dlc w → (if sending then read SEQ w else 0) ≡ m .seq → Stamped stamped (m .stamp)
+returns : (sending stamped : Bool) (m : Message) (w : ℕ) (r : List ℕ) → m .header .id ≤ topId (m .header .extended)
+    → lengthIn sending (m .header .fdf) (m .dlc) ≡ Length.Is (length (m .payload))
+    → Second (m .header) (m .dlc) w → (if sending then read SEQ w else 0) ≡ m .seq → Stamped stamped (m .stamp)
     → decoding sending stamped (objectBytes (word0 (m .header)) w (m .stamp) (m .payload) ++ r) ≡ holds m
-returns sending stamped m dlc w r g k sq st =
+returns sending stamped m w r id long k sq st =
     let h : Header = m .header in
-    let len : lengthOf (flag FDF w) (read DLC w) ≡ Length.Is (length (m .payload))
-    = ap₂ lengthOf (k .fdf-is) (k .dlc-is) ∙ length-back (h .fdf) (length (m .payload)) dlc (g .dlc) in
-    let hd : headerOf (word0 h) w ≡ h = k .header-is (g .id) in
-    by-stamp sending (word0 h) w (m .payload) len (word0-lt h (g .id)) (k .small) r stamped (m .stamp) st
-    ∙ (λ i. holds (record { header = hd i; seq = sq i; stamp = m .stamp; payload = m .payload }))
+    let len : lengthIn sending (flag FDF w) (read DLC w) ≡ Length.Is (length (m .payload)) = ap₂ (lengthIn sending) (k .fdf-is) (k .dlc-is) ∙ long in
+    let hd : headerOf (word0 h) w ≡ h = k .header-is id in
+    by-stamp sending (word0 h) w (m .payload) len (word0-lt h id) (k .small) r stamped (m .stamp) st
+    ∙ (λ i. holds (record { header = hd i; dlc = k .dlc-is i; seq = sq i; stamp = m .stamp; payload = m .payload }))
+
+-- the DLC of a payload's length means that length, to send and on reception
+means : (sending fdf : Bool) (n d : ℕ) → dlcOf fdf n ≡ Dlc.Is d → lengthIn sending fdf d ≡ Length.Is n
+unfolding lengthIn
+means true fdf n d e = length-back fdf n d e
+means false fdf n d e = ap Length.Is (received-sent fdf n d (length-back fdf n d e))
 
 pub round-trip : RoundTrip
-round-trip sending stamped m bs r e s =
+round-trip sending stamped m bs r e o s =
     let c = is-coded m bs e in
     let g = sound (m .header) (m .seq) (length (m .payload)) (c .dlc) (c .checked) in
-    let small = dlc-16 (m .header .fdf) (length (m .payload)) (c .dlc) (g .dlc) in
-    ap (λ (b : List ℕ). decoding sending stamped (b ++ r)) (sym (c .bytes))
-    ∙ returns sending stamped m (c .dlc) (word1 (m .header) (m .seq) (c .dlc)) r g (word1-says (m .header) (c .dlc) small (m .seq) (g .seq-fits))
-    (ap (λ (x : ℕ). if sending then x else 0) (seq-field (m .header) (c .dlc) small (m .seq) (g .seq-fits)) ∙ s .seq) (s .stamp)
+    let d : c .dlc ≡ m .dlc = dlc-same (sym (g .dlc) ∙ o) in
+    let small = dlc-16 (m .header .fdf) (length (m .payload)) (m .dlc) o in
+    ap (λ (b : List ℕ). decoding sending stamped (b ++ r)) (sym (c .bytes) ∙ ap (bytesOf m) d)
+    ∙ returns sending stamped m (word1 (m .header) (m .seq) (m .dlc)) r (g .id) (means sending (m .header .fdf) (length (m .payload)) (m .dlc) o)
+    (word1-says (m .header) (m .dlc) small (m .seq) (g .seq-fits))
+    (ap (λ (x : ℕ). if sending then x else 0) (seq-field (m .header) (m .dlc) small (m .seq) (g .seq-fits)) ∙ s .seq) (s .stamp)
+  where
+    dlc-same : {x y : ℕ} → Dlc.Is x ≡ Dlc.Is y → x ≡ y
+    dlc-same e = cc
 
 pub arrival-trip : ArrivalTrip
-unfolding arriving
-arrival-trip stamped m dlc hit r e l s =
-    let g = sound (m .header) (m .seq) (length (m .payload)) dlc e in
-    let small = dlc-16 (m .header .fdf) (length (m .payload)) dlc (g .dlc) in
-    returns false stamped m dlc (received1 (m .header) dlc hit) r g (received1-says (m .header) dlc small hit l) (s .seq) (s .stamp)
+unfolding arriving lengthIn
+arrival-trip stamped m hit r e l s =
+    let g = fitting (m .header) (m .dlc) (length (m .payload)) e in
+    returns false stamped m (received1 (m .header) (m .dlc) hit) r (g .id) (ap Length.Is (g .meant))
+    (received1-says (m .header) (m .dlc) (omega (arith, g .dlc-fits)) hit l) (s .seq) (s .stamp)
 
 pub arrival-filter : ArrivalFilter
 unfolding arriving objectBytes leBytes
@@ -152,7 +165,7 @@ arrival-filter h dlc hit stamp payload r small l =
 -- what bytes that hold a message are like
 pub record Held (sending stamped : Bool) (b : List ℕ) (m : Message) : Type 0 where
   pub long : ℕ
-  pub length-is : lengthOf (flag FDF (leAt b 4)) (read DLC (leAt b 4)) ≡ Length.Is long
+  pub length-is : lengthIn sending (flag FDF (leAt b 4)) (read DLC (leAt b 4)) ≡ Length.Is long
   pub fits : bodyAt stamped + long ≤ length b
   pub message : messageIn sending stamped long b ≡ m
 
@@ -161,9 +174,9 @@ unfolding decoding
 is-held sending stamped b m =
     by-if (λ (x : Decoding). x ≡ holds m → Held sending stamped b m) (ltb (length b) (bodyAt stamped))
     (λ t e. let z : _≡_ {A = ℕ} 0 1 = cc in absurd (omega arith))
-    (λ t. go (lengthOf (flag FDF (leAt b 4)) (read DLC (leAt b 4))) refl)
+    (λ t. go (lengthIn sending (flag FDF (leAt b 4)) (read DLC (leAt b 4))) refl)
   where
-    go : (l : Length) → lengthOf (flag FDF (leAt b 4)) (read DLC (leAt b 4)) ≡ l → byLength l sending stamped b ≡ holds m → Held sending stamped b m
+    go : (l : Length) → lengthIn sending (flag FDF (leAt b 4)) (read DLC (leAt b 4)) ≡ l → byLength l sending stamped b ≡ holds m → Held sending stamped b m
     go (Length.Is n) f =
         by-if (λ (x : Decoding). x ≡ holds m → Held sending stamped b m) (leb (bodyAt stamped + n) (length b))
         (λ t e. record { long = n; length-is = f; fits = leb-true (bodyAt stamped + n) (length b) t; message = cc })
@@ -175,35 +188,35 @@ pub accepted : (h : Header) (seq n d : ℕ) → h .id ≤ topId (h .extended) �
 unfolding checkOf
 accepted h seq n d i s e = rw (le-ltb (topId (h .extended)) (h .id) i, lt-leb (2 ^ 23) seq s, e)
 
-seq-lt : (sending : Bool) (w : ℕ) → (if sending then read SEQ w else 0) < 2 ^ 23
-seq-lt true w = field-lt w 9 23
-seq-lt false w = omega arith
-
 payload-is : (sending stamped : Bool) (n : ℕ) (b : List ℕ) → length (take n (drop (bodyAt stamped) b)) ≡ length (messageIn sending stamped n b .payload)
 unfolding messageIn
 payload-is sending stamped n b = refl
 
-module _ (sending stamped : Bool) (b : List ℕ) (n : ℕ) (len : lengthOf (flag FDF (leAt b 4)) (read DLC (leAt b 4)) ≡ Length.Is n) (fits : bodyAt stamped + n ≤ length b) where
+module _ (sending stamped : Bool) (b : List ℕ) (n : ℕ) (fits : bodyAt stamped + n ≤ length b) where
   cut : length (take n (drop (bodyAt stamped) b)) ≡ n
   cut = simp (length-take, length-drop) (omega arith)
 
-  written : encoding (messageIn sending stamped n b) ≡ object (meaningful sending stamped n b)
-  unfolding encoding messageIn
-  written =
-      let w₀ : ℕ = leAt b 0 in
-      let w₁ : ℕ = leAt b 4 in
-      let c : checkOf (headerOf w₀ w₁) (if sending then read SEQ w₁ else 0) (length (take n (drop (bodyAt stamped) b))) ≡ Checked.Dlc (read DLC w₁)
-      = ap (checkOf (headerOf w₀ w₁) (if sending then read SEQ w₁ else 0)) cut
-      ∙ accepted (headerOf w₀ w₁) _ n (read DLC w₁) (header-small w₀ w₁) (seq-lt sending w₁) (ap (λ (f : Bool). dlcOf f n) (header-fdf w₀ w₁) ∙ dlc-back (flag FDF w₁) n (read DLC w₁) len) in
-      rw (c, word0-again w₀ w₁, word1-again sending w₀ w₁)
+-- one to send, and one received, are written as their meaningful bytes
+written : (sending stamped : Bool) (b : List ℕ) (n : ℕ) → bodyAt stamped + n ≤ length b
+    → lengthIn sending (flag FDF (leAt b 4)) (read DLC (leAt b 4)) ≡ Length.Is n
+    → writtenAs sending (messageIn sending stamped n b) ≡ object (meaningful sending stamped n b)
+unfolding encoding arriving messageIn lengthIn
+written true stamped b n fits len =
+    let w₀ : ℕ = leAt b 0 in
+    let w₁ : ℕ = leAt b 4 in
+    let c : checkOf (headerOf w₀ w₁) (read SEQ w₁) (length (take n (drop (bodyAt stamped) b))) ≡ Checked.Dlc (read DLC w₁)
+    = ap (checkOf (headerOf w₀ w₁) (read SEQ w₁)) (cut true stamped b n fits)
+    ∙ accepted (headerOf w₀ w₁) _ n (read DLC w₁) (header-small w₀ w₁) (field-lt w₁ 9 23) (ap (λ (f : Bool). dlcOf f n) (header-fdf w₀ w₁) ∙ dlc-back (flag FDF w₁) n (read DLC w₁) len) in
+    rw (c, word0-again w₀ w₁, word1-again w₀ w₁)
+written false stamped b n fits len = rw (word0-again (leAt b 0) (leAt b 4), received1-again (leAt b 0) (leAt b 4))
 
 pub back : Back
 back sending stamped b m e =
     let h = is-held sending stamped b m e in
     let n : ℕ = h .long in
-    let w = written sending stamped b n (h .length-is) (h .fits) in
-    let l : n ≡ length (m .payload) = sym (cut sending stamped b n (h .length-is) (h .fits)) ∙ payload-is sending stamped n b ∙ ap (λ (x : Message). length (x .payload)) (h .message) in
-    ap encoding (sym (h .message)) ∙ w ∙ ap (λ (k : ℕ). object (meaningful sending stamped k b)) l
+    let w = written sending stamped b n (h .fits) (h .length-is) in
+    let l : n ≡ length (m .payload) = sym (cut sending stamped b n (h .fits)) ∙ payload-is sending stamped n b ∙ ap (λ (x : Message). length (x .payload)) (h .message) in
+    ap (writtenAs sending) (sym (h .message)) ∙ w ∙ ap (λ (k : ℕ). object (meaningful sending stamped k b)) l
 
 -- ---- the refusals
 
@@ -229,21 +242,61 @@ classic-long : (fdf : Bool) (d : ℕ) → fdf ≡ false → 8 < d → lengthOf f
 unfolding lengthOf
 classic-long fdf d e h = rw (e, le-ltb d 9 h)
 
-pub refuses-23 : Refuses23
-unfolding decoding
-refuses-23 sending stamped b h =
+pub no-frame-iff : NoFrameIff
+unfolding decoding lengthIn
+no-frame-iff stamped b h =
     let w : ℕ = leAt b 4 in
     rw (le-ltb (length b) (bodyAt stamped) h) (
       λ e. no-length (flag FDF w) (read DLC w) (field-lt w 0 4) (only (lengthOf (flag FDF w) (read DLC w)) e),
       λ e. rw (classic-long (flag FDF w) (read DLC w) (e .0) (e .1)),
     )
   where
-    other : {l : List ℕ} {A : Type 0} → l ≡ 23 ∷ [] → getD l 0 0 ≡ 0 → A
-    other e z = absurd (omega (arith, sym z ∙ ap (λ (l : List ℕ). getD l 0 0) e))
-
-    only : (l : Length) → decodingNumbers (byLength l sending stamped b) ≡ 23 ∷ [] → l ≡ Length.Bad
+    only : (l : Length) → byLength l true stamped b ≡ noFrame → l ≡ Length.Bad
     only (Length.Is n) =
-        by-if (λ (x : Decoding). decodingNumbers x ≡ 23 ∷ [] → Length.Is n ≡ Length.Bad) (leb (bodyAt stamped + n) (length b))
-        (λ t e. other e refl)
-        (λ t e. other e refl)
+        by-if (λ (x : Decoding). x ≡ noFrame → Length.Is n ≡ Length.Bad) (leb (bodyAt stamped + n) (length b))
+        (λ t e. let z : _≡_ {A = ℕ} 0 1 = cc in absurd (omega arith))
+        (λ t e. let z : _≡_ {A = ℕ} 0 1 = cc in absurd (omega arith))
     only Length.Bad = λ e. refl
+
+pub arrival-refuses : ArrivalRefuses
+unfolding arrivalCheck
+arrival-refuses h dlc n = record {
+  identifier = λ i. rw (lt-ltb (topId (h .extended)) (h .id) i);
+  dlc-above = λ i d. rw (le-ltb (topId (h .extended)) (h .id) i, lt-ltb 15 dlc d);
+  other-length = λ i f. rw (le-ltb (topId (h .extended)) (h .id) i, ne-eqb (receivedLength (h .fdf) dlc) n f) (either (ltb 15 dlc));
+  none = λ i d f. rw (le-ltb (topId (h .extended)) (h .id) i, le-ltb 15 dlc d, eq-eqb (receivedLength (h .fdf) dlc) n f);
+}
+  where
+    either : (x : Bool) → doneNumbers (if x then Done.Bad Refusal.BadPayload else Done.Bad Refusal.BadPayload) ≡ 22 ∷ []
+    either true = refl
+    either false = refl
+
+-- ---- the DLC
+
+pub classic-dlc : ClassicDlc
+unfolding objectBytes leBytes
+classic-dlc m bs r f e =
+    let c = is-coded m bs e in
+    let g = sound (m .header) (m .seq) (length (m .payload)) (c .dlc) (c .checked) in
+    let small = dlc-16 (m .header .fdf) (length (m .payload)) (c .dlc) (g .dlc) in
+    let k = word1-says (m .header) (c .dlc) small (m .seq) (g .seq-fits) in
+    let b : List ℕ = bytesOf m (c .dlc) ++ r in
+    let w : leAt b 4 ≡ word1 (m .header) (m .seq) (c .dlc) = le-drop b 4 ∙ le-back _ (drop 8 b) (k .small) in
+    let is : read DLC (leAt (bs ++ r) 4) ≡ c .dlc = ap (λ (l : List ℕ). read DLC (leAt (l ++ r) 4)) (sym (c .bytes)) ∙ ap (read DLC) w ∙ k .dlc-is in
+    omega (arith, is, low (m .header .fdf) (length (m .payload)) (c .dlc) f (g .dlc))
+  where
+    low : (fdf : Bool) (n d : ℕ) → fdf ≡ false → dlcOf fdf n ≡ Dlc.Is d → d ≤ 8
+    low true n d f e = absurd (false≢true (sym f))
+    low false n d f e = omega (arith, dlc-lt false n d e)
+
+pub always-holds : AlwaysHolds
+unfolding decoding messageIn lengthIn
+always-holds stamped b h =
+    let w : ℕ = leAt b 4 in
+    let n : ℕ = receivedLength (flag FDF w) (read DLC w) in
+    (
+      messageIn false stamped n b,
+      rw (le-ltb (length b) (bodyAt stamped) (omega arith), le-leb (bodyAt stamped + n) (length b) h),
+      cut false stamped b n h,
+      refl,
+    )

@@ -96,7 +96,7 @@ messageIn sending stamped n b = record {
 }
 
 -- how long a payload is: a classic frame to send with a DLC above 8 has no length, and one received has 8 bytes
-abbrev pub lengthIn : (sending fdf : Bool) → ℕ → Length
+unfoldable pub lengthIn : (sending fdf : Bool) → ℕ → Length
 lengthIn true fdf d = lengthOf fdf d
 lengthIn false fdf d = Length.Is (receivedLength fdf d)
 

@@ -8,4 +8,4 @@ pub length-of-spec : {M : Type 1} → statement M
 length-of-spec =
     tie.close
     (tie.spec (search needs) (search needs) (search needs) (search needs)
-    (λ c. rw (c .len-for-dlc .ensures, c .before .bit .ensures, c .before .before .get .ensures)))
+    (λ c. rw (c .len-for-dlc .ensures, c .before .bit .ensures, c .before .before .dlc-of .ensures .0)))
