@@ -2,8 +2,8 @@
 -- Assumes nothing.
 use Rattle.bus.specs.Laws.{Laws}
 use Rattle.bus.proofs.Laws.{nothing-sent, oldest-sent, send-answers, row-length, row-at}
-use Rattle.bus.proofs.Arriving.{deliver-answers, delivered-iff, turned-down}
-use Rattle.bus.proofs.Sorts.{sort-answers, sorted-iff, sort-leaves}
+use Rattle.bus.proofs.Arriving.{deliver-answers, deliver-22, delivered-iff, turned-down}
+use Rattle.bus.proofs.Sorts.{sort-answers, sort-22, sorted-iff, sort-leaves}
 
 pub laws : Laws
 laws = record {
@@ -11,9 +11,11 @@ laws = record {
   oldestSent = oldest-sent;
   sendAnswers = send-answers;
   deliverAnswers = deliver-answers;
+  deliver22 = deliver-22;
   deliveredIff = delivered-iff;
   turnedDown = turned-down;
   sortAnswers = sort-answers;
+  sort22 = sort-22;
   sortedIff = sorted-iff;
   sortLeaves = sort-leaves;
   rowLength = row-length;

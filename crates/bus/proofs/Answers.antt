@@ -11,16 +11,16 @@ use denote.Enum.Declared.{tagOf}
 use Rattle.parts.specs.Parts.{zeroed}
 use Rattle.parts.proofs.Laws.{length-zeroed}
 use Rattle.words.proofs.Laws.{le-length}
+use Rattle.spi.specs.declared.refusal.Done.{Done}
 use Rattle.header.specs.declared.Header.{Header}
 use Rattle.header.specs.Header.{topId, word0, received1}
-use Rattle.header.proofs.Dlcs.{dlc-16, payload-le}
+use Rattle.header.proofs.Dlcs.{received-le}
 use Rattle.message.specs.declared.object.Stamp.{Stamp}
 use Rattle.message.specs.declared.rx.Reading.{Reading}
 use Rattle.message.specs.declared.rx.Decoded.{Decoded}
 use Rattle.message.specs.Object.{stampBytes}
-use Rattle.message.specs.declared.tx.Checked.{Checked}
-use Rattle.message.specs.Message.{checkOf, arriving, Decoding, holds, bad, short}
-use Rattle.message.proofs.Checks.{sound}
+use Rattle.message.specs.Message.{arrivalCheck, arriving, Decoding, holds, noFrame, short}
+use Rattle.message.proofs.Checks.{fitting}
 use Rattle.message.specs.Structs.{Object, objectIn, decodedAs}
 use Rattle.message.proofs.rx.Reading.{the-type}
 use Rattle.message.proofs.Round.{object-length}
@@ -35,12 +35,12 @@ answer s item m = record { sending = s; frame = item .frame; model = m }
 module _ (item : Decoded) (m : Model) where
   pub whole : item .reading ≡ Reading.Whole → (d : Decoding) → item ≡ decodedAs d → answer Sending.Frame item m ≡ sentAs (outputOf d) m
   whole e (holds x) f = ap (λ (i : Decoded). answer Sending.Frame i m) f
-  whole e (bad r) f = let z : _≡_ {A = ℕ} 0 1 = cc in absurd (omega arith)
+  whole e noFrame f = let z : _≡_ {A = ℕ} 0 1 = cc in absurd (omega arith)
   whole e short f = let z : _≡_ {A = ℕ} 0 1 = cc in absurd (omega arith)
 
   pub none : OneOf (1 ∷ 2 ∷ []) (tagOf the-type (item .reading)) → (d : Decoding) → item ≡ decodedAs d → answer Sending.NoFrame item m ≡ sentAs (outputOf d) m
   none e (holds x) f = absurd (miss (1 ∷ 2 ∷ []) 0 tt (rw f at e))
-  none e (bad r) f = ap (λ (i : Decoded). answer Sending.NoFrame i m) f
+  none e noFrame f = ap (λ (i : Decoded). answer Sending.NoFrame i m) f
   none e short f = ap (λ (i : Decoded). answer Sending.NoFrame i m) f
 
 stamp-most : (s : Stamp) → length (stampBytes s) ≤ 4
@@ -63,7 +63,7 @@ module _ (bytes : List ℕ) (len : ℕ) (bs : List ℕ) (most : length bs ≤ 76
   front = ap (λ (o : Object). take (o .len) (o .bytes)) e ∙ take-append-seam bs _
 
 -- a frame that was checked is as its writing asks for it
-pub asked-for : (h : Header) (n d : ℕ) → checkOf h 0 n ≡ Checked.Dlc d → (h .id ≤ topId (h .extended)) × (d < 16) × (n ≤ 64)
-asked-for h n d e =
-    let s = sound h 0 n d e in
-    (s .id, dlc-16 (h .fdf) n d (s .dlc), payload-le (h .fdf) n d (s .dlc))
+pub asked-for : (h : Header) (d n : ℕ) → arrivalCheck h d n ≡ Done.Good → (h .id ≤ topId (h .extended)) × (d < 16) × (n ≤ 64)
+asked-for h d n e =
+    let s = fitting h d n e in
+    (s .id, omega (arith, s .dlc-fits), omega (arith, s .meant, received-le (h .fdf) d))

@@ -16,7 +16,7 @@ use Rattle.laws.proofs.Table.{both}
 use Rattle.field.specs.Field.{flag}
 use Rattle.fifo.specs.Control.{TXREQ, isFifo}
 use Rattle.spi.specs.declared.refusal.Refusal.{Refusal}
-use Rattle.message.specs.Message.{Decoding, holds, bad, short}
+use Rattle.message.specs.Message.{Decoding, holds, short}
 use Rattle.ring.specs.declared.ring.Fifo.{Fifo}
 use Rattle.ring.specs.Ring.{sending, depth, place, taken, controlled, sent, fresh}
 use Rattle.ring.proofs.Laws.{place-next}
@@ -57,7 +57,7 @@ row-next A f g d n h =
 quiet : (a b : Bool) (x : Decoding) (y m : Model)
     → Quiet (if a then if b then outputOf x else nothing else refused Refusal.BadNumber) → (if a && b then y else m) ≡ m
 quiet true true (holds x) y m q = absurd q
-quiet true true (bad r) y m q = absurd q
+quiet true true Decoding.noFrame y m q = absurd q
 quiet true true short y m q = absurd q
 quiet true false x y m q = refl
 quiet false b x y m q = refl
@@ -70,7 +70,7 @@ answered : (a b : Bool) (x : Decoding)
     → outputNumbers (if a then if b then outputOf x else nothing else refused Refusal.BadNumber)
     ≡ (if not a then 20 ∷ [] else if not b then 0 ∷ 0 ∷ [] else takenNumbers x)
 answered true true (holds x) = refl
-answered true true (bad r) = refl
+answered true true Decoding.noFrame = refl
 answered true true short = refl
 answered true false x = refl
 answered false b x = refl

@@ -61,9 +61,9 @@ SendAnswers =
 
 -- ---- deliver
 
--- the DLC is at most 15, and the payload has the length that it means
-abbrev pub fitting : Header → (dlc : ℕ) → List ℕ → Bool
-fitting header dlc payload = leb dlc 15 && eqb (receivedLength (header .fdf) dlc) (length payload)
+-- the DLC is not above 15, and the payload has the length that it means
+abbrev pub meansPayload : Header → (dlc : ℕ) → List ℕ → Bool
+meansPayload header dlc payload = not (ltb 15 dlc) && eqb (receivedLength (header .fdf) dlc) (length payload)
 
 -- the first cause to turn a frame down, by its place in document 01's order: Configuration, not receiving, payload longer than PLSIZE
 -- means, full; 0 where it is delivered
@@ -79,7 +79,7 @@ firstCause m n payload =
 abbrev pub ifCarried : Header → (dlc : ℕ) → List ℕ → List ℕ → List ℕ
 ifCarried header dlc payload answer =
     if ltb (topId (header .extended)) (header .id) then 21 ∷ []
-    else if not (fitting header dlc payload) then 22 ∷ []
+    else if not (meansPayload header dlc payload) then 22 ∷ []
     else answer
 
 -- what deliver answers: 20, 21, 22, then the first cause

@@ -18,18 +18,17 @@ deliver-spec =
     (λ c. rw (c .told .ensures, sym (c .before .before .is-fifo .ensures) ∙ not-true _ (c .before .if1 .taken)))
     (λ c κs. search needs) (search needs)
     (λ c.
-    let q = c .before .before .before .before in
+    let q = c .before .before .before in
     record { fits = fifo-fits _ (sym (q .before .is-fifo .ensures) ∙ not-false _ (q .if1 .left)) })
-    (λ c. record { fits = omega (arith, asked-for _ _ _ (sym (c .before .before .before .check .ensures) ∙ c .before .d .given .1) .1) })
     (λ c κs.
-    let p = asked-for _ _ _ (sym (c .before .before .before .check .ensures) ∙ c .before .d .given .1) in
+    let p = asked-for _ _ _ (sym (c .before .before .check-arrival .ensures) ∙ c .enum-told .given .1) in
     (p .0, p .1, omega arith, p .2))
     (search needs) (λ c κs. search needs)
     (λ c.
-    let k = c .before .before .before .before in
+    let k = c .before .before .before in
     let q = k .before in
-    rw (c .give .ensures, sym (k .check .ensures) ∙ c .before .before .d .given .1, sym (q .before .is-fifo .ensures) ∙ not-false _ (q .if1 .left)))
+    rw (c .give .ensures, sym (k .check-arrival .ensures) ∙ c .before .enum-told .given .1, sym (q .before .is-fifo .ensures) ∙ not-false _ (q .if1 .left)))
     (λ c.
     let k = c .before .before .before .before in
     let q = k .before in
-    rw (c .told2 .ensures, sym (k .check .ensures) ∙ c .before .before .r .given .1, sym (q .before .is-fifo .ensures) ∙ not-false _ (q .if1 .left))))
+    rw (c .told2 .ensures, sym (k .check-arrival .ensures) ∙ c .before .before .r .given .1, sym (q .before .is-fifo .ensures) ∙ not-false _ (q .if1 .left))))
