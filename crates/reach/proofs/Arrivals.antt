@@ -6,10 +6,10 @@ use mathlib.Core.Bool.{Bool, true, false}
 use mathlib.Core.List.{List, _++_}
 use lib.ListN.{length}
 use Rattle.laws.specs.If.{if_then_else_}
+use Rattle.spi.specs.declared.refusal.Done.{Done}
 use Rattle.header.specs.declared.Header.{Header}
 use Rattle.message.specs.declared.object.Stamp.{Stamp}
-use Rattle.message.specs.declared.tx.Checked.{Checked}
-use Rattle.message.specs.Message.{Message, checkOf, arriving, holds, decoding}
+use Rattle.message.specs.Message.{Message, arrivalCheck, arriving, holds, decoding}
 use Rattle.message.specs.Laws.{Stamped}
 use Rattle.message.proofs.Round.{arrival-trip}
 use Rattle.ring.specs.Ring.{sending}
@@ -18,15 +18,15 @@ use Rattle.state.specs.declared.Model.{Model}
 use Rattle.state.specs.Model.{frozenAt}
 use Rattle.bus.specs.Bus.{stampFor, incoming}
 
-module _ (c : Model) (n : ℕ) (header : Header) (time : ℕ) (payload : List ℕ) where
+module _ (c : Model) (n : ℕ) (header : Header) (dlc time : ℕ) (payload : List ℕ) where
   abbrev coming : Message
-  coming = incoming c n header time payload
+  coming = incoming c n header dlc time payload
 
   -- its object, where a filter took it, is read as what arrived
-  pub coming-back : time < 2 ^ 32 → sending (frozenAt c n) ≡ false → (hit dlc : ℕ) → hit < 32 → checkOf header 0 (length payload) ≡ Checked.Dlc dlc
+  pub coming-back : time < 2 ^ 32 → sending (frozenAt c n) ≡ false → (hit : ℕ) → hit < 32 → arrivalCheck header dlc (length payload) ≡ Done.Good
       → (r : List ℕ) → decoding (sending (frozenAt c n)) (stamped (frozenAt c n)) (arriving header dlc hit (stampFor c n time) payload ++ r) ≡ holds coming
   unfolding incoming
-  coming-back small e hit dlc l f r = rw e (arrival-trip (stamped (frozenAt c n)) coming dlc hit r f l (record { seq = refl; stamp = go (stamped (frozenAt c n)) }))
+  coming-back small e hit l f r = rw e (arrival-trip (stamped (frozenAt c n)) coming hit r f l (record { seq = refl; stamp = go (stamped (frozenAt c n)) }))
     where
       go : (b : Bool) → Stamped b (if b then Stamp.At time else Stamp.None)
       go true = small

@@ -17,8 +17,8 @@ use Rattle.configuration.specs.CanControl.{REQOP}
 use Rattle.fifo.specs.Control.{TXEN, TXREQ, payloadOf, isFifo, CiFIFOCON}
 use Rattle.fifo.specs.Status.{RXOVIF}
 use Rattle.header.specs.declared.Header.{Header}
-use Rattle.message.specs.declared.tx.Checked.{Checked}
-use Rattle.message.specs.Message.{checkOf, arriving, Decoding, holds}
+use Rattle.spi.specs.declared.refusal.Done.{Done}
+use Rattle.message.specs.Message.{arrivalCheck, arriving, Decoding, holds}
 use Rattle.operation.specs.declared.place.Register.{Register}
 use Rattle.operation.specs.declared.operation.Operation.{Operation}
 use Rattle.operation.specs.Operation.{asked}
@@ -156,42 +156,42 @@ cause (Delivery.Refused r) = 5
 other : (X : Type 0) (x y : Delivery) → (cause x ≡ cause y → ⊥) → x ≡ y → X
 other X x y ne e = absurd (ne (ap cause e))
 
-module _ (m : Model) (r : Reached m) (n : ℕ) (header : Header) (time : ℕ) (payload : List ℕ) (small : time < 2 ^ 32) (k : ℕ) where
+module _ (m : Model) (r : Reached m) (n : ℕ) (header : Header) (dlc time : ℕ) (payload : List ℕ) (small : time < 2 ^ 32) (k : ℕ) where
   abbrev Appends : Delivered → Type 0
   Appends x =
-      x .delivery ≡ Delivery.Delivered → held (x .model) k ≡ held m k ++ (if eqb n k then holds (incoming m n header time payload) ∷ [] else [])
+      x .delivery ≡ Delivery.Delivered → held (x .model) k ≡ held m k ++ (if eqb n k then holds (incoming m n header dlc time payload) ∷ [] else [])
 
   -- a frame that is delivered is put behind those held
-  gives : (hit d : ℕ) → hit < 32 → checkOf header 0 (length payload) ≡ Checked.Dlc d → Appends (give m n hit d header time payload)
+  gives : (hit : ℕ) → hit < 32 → arrivalCheck header dlc (length payload) ≡ Done.Good → Appends (give m n hit dlc header time payload)
   unfolding claimed
-  gives hit d l e =
-      by-give m n header time payload Appends hit d
+  gives hit l e =
+      by-give m n header dlc time payload Appends hit
       (λ a. other _ _ _ (λ z. omega arith)) (λ a b. other _ _ _ (λ z. omega arith)) (λ a b c. other _ _ _ (λ z. omega arith))
       (λ a b c f. other _ _ _ (λ z. omega arith))
       (λ a b c f z.
       let (i, t) = receives-is m n b in
       let s : Sound m = record { valid = always-valid m r; out = a } in
       let free : fifoAt m n .count < depth (frozenAt m n) = leb-false (depth (frozenAt m n)) (fifoAt m n .count) f in
-      let bs = arriving header d hit (stampFor m n time) payload in
-      let fits = object-fits m n hit d header time payload (ltb-false (payloadOf (frozenAt m n)) (length payload) c) in
-      let item = filled-item m s n i free bs fits (incoming m n header time payload) (coming-back m n header time payload small t hit d l e) in
+      let bs = arriving header dlc hit (stampFor m n time) payload in
+      let fits = object-fits m n hit dlc header time payload (ltb-false (payloadOf (frozenAt m n)) (length payload) c) in
+      let item = filled-item m s n i free bs fits (incoming m n header dlc time payload) (coming-back m n header dlc time payload small t hit l e) in
       sym (more-held (filled m n bs) (filled-sound m s n i free bs fits) n i (claimed (fifoAt m n)) refl refl k)
       ∙ ap₂ (λ (l : List Decoding) (x : Decoding). l ++ (if eqb n k then x ∷ [] else [])) (filled-held m s n i free bs fits k) item)
 
 pub deliver-appends : DeliverAppends
-deliver-appends m r n header time payload small e k =
-    by-deliver m n header time payload (Appends m r n header time payload small k)
+deliver-appends m r n header dlc time payload small e k =
+    by-deliver m n header dlc time payload (Appends m r n header dlc time payload small k)
     (λ i. other _ _ _ (λ z. omega arith)) (λ i t. other _ _ _ (λ z. omega arith)) (λ i t d. other _ _ _ (λ z. omega arith))
-    (λ i t d f. gives m r n header time payload small k 0 d (omega arith))
+    (λ i t f. gives m r n header dlc time payload small k 0 (omega arith))
     e
 
 pub sort-appends : SortAppends
-sort-appends m r header time payload small e k =
-    by-sort m header time payload
-    (λ s. s .delivery ≡ Delivery.Delivered → held (s .model) k ≡ held m k ++ (if eqb (s .fifo) k then holds (incoming m (s .fifo) header time payload) ∷ [] else []))
-    (λ t. other _ _ _ (λ z. omega arith)) (λ t f. other _ _ _ (λ z. omega arith)) (λ t d f z. other _ _ _ (λ z. omega arith))
-    (λ t d f z g. other _ _ _ (λ z. omega arith))
-    (λ t d f z g. gives m r (targetFor m (filterFor m header)) header time payload small k (filterFor m header) d (leb-false filterCount (filterFor m header) g))
+sort-appends m r header dlc time payload small e k =
+    by-sort m header dlc time payload
+    (λ s. s .delivery ≡ Delivery.Delivered → held (s .model) k ≡ held m k ++ (if eqb (s .fifo) k then holds (incoming m (s .fifo) header dlc time payload) ∷ [] else []))
+    (λ t. other _ _ _ (λ z. omega arith)) (λ t f. other _ _ _ (λ z. omega arith)) (λ t f z. other _ _ _ (λ z. omega arith))
+    (λ t f z g. other _ _ _ (λ z. omega arith))
+    (λ t f z g. gives m r (targetFor m (filterFor m header)) header dlc time payload small k (filterFor m header) (leb-false filterCount (filterFor m header) g))
     e
 
 -- bit 3, by computing
@@ -205,14 +205,14 @@ over-reads : (v : ℕ) (f : Fifo) → sending v ≡ false → f .over ≡ true �
 over-reads v f e o =
     ap (read RXOVIF) (status-bits v f ∙ rw (e, o)) ∙ bit-3 (ltb 0 (f .count)) (leb (depth v) (f .count))
 
-module _ (m : Model) (r : Reached m) (n : ℕ) (header : Header) (time : ℕ) (payload : List ℕ) where
+module _ (m : Model) (r : Reached m) (n : ℕ) (header : Header) (dlc time : ℕ) (payload : List ℕ) where
   abbrev Overflows : Delivered → Type 0
   Overflows x = x .delivery ≡ Delivery.Full → read RXOVIF (wordOf (x .model) (Register.Status n)) ≡ 1
 
-  give-full : (hit d : ℕ) → Overflows (give m n hit d header time payload)
+  give-full : (hit : ℕ) → Overflows (give m n hit dlc header time payload)
   unfolding wordOf overflowed
-  give-full hit d =
-      by-give m n header time payload Overflows hit d
+  give-full hit =
+      by-give m n header dlc time payload Overflows hit
       (λ a. other _ _ _ (λ z. omega arith)) (λ a b. other _ _ _ (λ z. omega arith)) (λ a b c. other _ _ _ (λ z. omega arith))
       (λ a b c g q.
       let s : Sound m = record { valid = always-valid m r; out = a } in
@@ -222,17 +222,17 @@ module _ (m : Model) (r : Reached m) (n : ℕ) (header : Header) (time : ℕ) (p
       (λ a b c g. other _ _ _ (λ z. omega arith))
 
 pub full-overflows : FullOverflows
-full-overflows m r n header time payload =
-    by-deliver m n header time payload (Overflows m r n header time payload)
+full-overflows m r n header dlc time payload =
+    by-deliver m n header dlc time payload (Overflows m r n header dlc time payload)
     (λ i. other _ _ _ (λ z. omega arith)) (λ i t. other _ _ _ (λ z. omega arith)) (λ i t d. other _ _ _ (λ z. omega arith))
-    (λ i t d f w. give-full m r n header time payload 0 d)
+    (λ i t f w. give-full m r n header dlc time payload 0)
 
 pub sort-overflows : SortOverflows
-sort-overflows m r header time payload =
-    by-sort m header time payload (λ s. s .delivery ≡ Delivery.Full → read RXOVIF (wordOf (s .model) (Register.Status (s .fifo))) ≡ 1)
-    (λ t. other _ _ _ (λ z. omega arith)) (λ t f. other _ _ _ (λ z. omega arith)) (λ t d f z. other _ _ _ (λ z. omega arith))
-    (λ t d f z g. other _ _ _ (λ z. omega arith))
-    (λ t d f z g w. give-full m r (targetFor m (filterFor m header)) header time payload (filterFor m header) d)
+sort-overflows m r header dlc time payload =
+    by-sort m header dlc time payload (λ s. s .delivery ≡ Delivery.Full → read RXOVIF (wordOf (s .model) (Register.Status (s .fifo))) ≡ 1)
+    (λ t. other _ _ _ (λ z. omega arith)) (λ t f. other _ _ _ (λ z. omega arith)) (λ t f z. other _ _ _ (λ z. omega arith))
+    (λ t f z g. other _ _ _ (λ z. omega arith))
+    (λ t f z g w. give-full m r (targetFor m (filterFor m header)) header dlc time payload (filterFor m header))
 
 -- ---- Configuration
 
@@ -313,17 +313,17 @@ module _ (m : Model) (h : Outside m) where
 
   give-outside : (n hit d : ℕ) (header : Header) (time : ℕ) (payload : List ℕ) → Outside (give m n hit d header time payload .model)
   give-outside n hit d header time payload =
-      by-give m n header time payload (λ x. Outside (x .model)) hit d (λ a. h) (λ a b. h) (λ a b c. h) (λ a b c f. h) (λ a b c f. h)
+      by-give m n header d time payload (λ x. Outside (x .model)) hit (λ a. h) (λ a b. h) (λ a b c. h) (λ a b c f. h) (λ a b c f. h)
 
   bus-outside : (b : Bus) → Outside (stepped b m)
   unfolding stepped sendModel
   bus-outside (Send n) = by-if Outside (isFifo n && sends m n) (λ e. h) (λ e. h)
-  bus-outside (Deliver n header time payload) =
-      by-deliver m n header (time % 2 ^ 32) payload (λ x. Outside (x .model)) (λ i. h) (λ i t. h) (λ i t d. h)
-      (λ i t d e w. give-outside n 0 d header (time % 2 ^ 32) payload)
-  bus-outside (Sort header time payload) =
-      by-sort m header (time % 2 ^ 32) payload (λ x. Outside (x .model)) (λ t. h) (λ t e. h) (λ t d e z. h) (λ t d e z g. h)
-      (λ t d e z g w. give-outside (targetFor m (filterFor m header)) (filterFor m header) d header (time % 2 ^ 32) payload)
+  bus-outside (Deliver n header dlc time payload) =
+      by-deliver m n header dlc (time % 2 ^ 32) payload (λ x. Outside (x .model)) (λ i. h) (λ i t. h) (λ i t d. h)
+      (λ i t e w. give-outside n 0 dlc header (time % 2 ^ 32) payload)
+  bus-outside (Sort header dlc time payload) =
+      by-sort m header dlc (time % 2 ^ 32) payload (λ x. Outside (x .model)) (λ t. h) (λ t e. h) (λ t e z. h) (λ t e z g. h)
+      (λ t e z g w. give-outside (targetFor m (filterFor m header)) (filterFor m header) dlc header (time % 2 ^ 32) payload)
 
   happens-outside : (x : Happening) → Outside (happens x m)
   unfolding exchange

@@ -16,8 +16,8 @@ use Rattle.configuration.specs.CanControl.{REQOP, TXQEN, STEF}
 use Rattle.fifo.specs.Control.{payloadOf, isFifo, CiFIFOCON}
 use Rattle.fifo.specs.Status.{RXOVIF}
 use Rattle.header.specs.declared.Header.{Header}
-use Rattle.message.specs.declared.tx.Checked.{Checked}
-use Rattle.message.specs.Message.{checkOf}
+use Rattle.spi.specs.declared.refusal.Done.{Done}
+use Rattle.message.specs.Message.{arrivalCheck}
 use Rattle.operation.specs.declared.place.Register.{Register}
 use Rattle.operation.specs.declared.operation.Operation.{Operation}
 use Rattle.operation.specs.Operation.{asked}
@@ -250,25 +250,25 @@ module _ (m : Model) (v : Valid m) (n : ℕ) where
   unfolding give
   give-valid hit d header time payload = append-valid (length payload) _
 
-  checked-valid : (x : Checked) (header : Header) (time : ℕ) (payload : List ℕ) → Valid (byCheck x m n header time payload .model)
-  checked-valid (Checked.Bad r) header time payload = v
-  checked-valid (Checked.Dlc d) header time payload = give-valid 0 d header time payload
+  checked-valid : (x : Done) (header : Header) (dlc time : ℕ) (payload : List ℕ) → Valid (byCheck x m n header dlc time payload .model)
+  checked-valid (Done.Bad r) header dlc time payload = v
+  checked-valid Done.Good header dlc time payload = give-valid 0 dlc header time payload
 
-  deliver-valid : (header : Header) (time : ℕ) (payload : List ℕ) → Valid (deliverOf m n header time payload .model)
+  deliver-valid : (header : Header) (dlc time : ℕ) (payload : List ℕ) → Valid (deliverOf m n header dlc time payload .model)
   unfolding deliverOf
-  deliver-valid header time payload =
-      by-if (λ (d : Delivered). Valid (d .model)) (isFifo n) (λ e. checked-valid (checkOf header 0 (length payload)) header time payload) (λ e. v)
+  deliver-valid header dlc time payload =
+      by-if (λ (d : Delivered). Valid (d .model)) (isFifo n) (λ e. checked-valid (arrivalCheck header dlc (length payload)) header dlc time payload) (λ e. v)
 
-sort-valid : (m : Model) (v : Valid m) (header : Header) (time : ℕ) (payload : List ℕ) → Valid (sortOf m header time payload .model)
-sort-valid m v header time payload =
-    by-sort m header time payload (λ x. Valid (x .model)) (λ t. v) (λ t e. v) (λ t d e z. v) (λ t d e z g. v)
-    (λ t d e z g w. give-valid m v (targetFor m (filterFor m header)) (filterFor m header) d header time payload)
+sort-valid : (m : Model) (v : Valid m) (header : Header) (dlc time : ℕ) (payload : List ℕ) → Valid (sortOf m header dlc time payload .model)
+sort-valid m v header dlc time payload =
+    by-sort m header dlc time payload (λ x. Valid (x .model)) (λ t. v) (λ t e. v) (λ t e z. v) (λ t e z g. v)
+    (λ t e z g w. give-valid m v (targetFor m (filterFor m header)) (filterFor m header) dlc header time payload)
 
 pub bus-valid : (b : Bus) (m : Model) → Valid m → Valid (stepped b m)
 unfolding stepped
 bus-valid (Send n) m v = send-valid m v n
-bus-valid (Deliver n header time payload) m v = deliver-valid m v n header (time % 2 ^ 32) payload
-bus-valid (Sort header time payload) m v = sort-valid m v header (time % 2 ^ 32) payload
+bus-valid (Deliver n header dlc time payload) m v = deliver-valid m v n header dlc (time % 2 ^ 32) payload
+bus-valid (Sort header dlc time payload) m v = sort-valid m v header dlc (time % 2 ^ 32) payload
 
 -- ---- one after the other
 

@@ -17,8 +17,8 @@ use Rattle.fifo.specs.Status.{RXOVIF}
 use Rattle.header.specs.declared.Header.{Header}
 use Rattle.header.specs.Header.{sidOf, eidOf}
 use Rattle.message.specs.declared.object.Stamp.{Stamp}
-use Rattle.message.specs.declared.tx.Checked.{Checked}
-use Rattle.message.specs.Message.{checkOf, arriving}
+use Rattle.spi.specs.declared.refusal.Done.{Done}
+use Rattle.message.specs.Message.{arrivalCheck, arriving}
 use Rattle.operation.specs.declared.place.Register.{Register}
 use Rattle.operation.specs.declared.operation.Operation.{Operation}
 use Rattle.operation.specs.Operation.{asked}
@@ -443,54 +443,54 @@ module _ (W : ℕ → ℕ → Type 0) (z : Blind W) where
           subst (λ (b : Bool). SameDelivered (give c n hit k header time payload) (appended d n (length payload) (bs b)))
           (stamped-like _ _ (t .frozen n)) (appended-like n (length payload) _)
 
-      checked-like : (x : Checked) (n : ℕ) (header : Header) (time : ℕ) (payload : List ℕ)
-          → SameDelivered (byCheck x c n header time payload) (byCheck x d n header time payload)
-      checked-like (Checked.Bad r) n header time payload = (refl, t)
-      checked-like (Checked.Dlc k) n header time payload = give-like n 0 k header time payload
+      checked-like : (x : Done) (n : ℕ) (header : Header) (dlc time : ℕ) (payload : List ℕ)
+          → SameDelivered (byCheck x c n header dlc time payload) (byCheck x d n header dlc time payload)
+      checked-like (Done.Bad r) n header dlc time payload = (refl, t)
+      checked-like Done.Good n header dlc time payload = give-like n 0 dlc header time payload
 
-      pub delivers-like : (n : ℕ) (header : Header) (time : ℕ) (payload : List ℕ)
-          → SameDelivered (deliverOf c n header time payload) (deliverOf d n header time payload)
+      pub delivers-like : (n : ℕ) (header : Header) (dlc time : ℕ) (payload : List ℕ)
+          → SameDelivered (deliverOf c n header dlc time payload) (deliverOf d n header dlc time payload)
       unfolding deliverOf
-      delivers-like n header time payload =
-          by-ifs SameDelivered (isFifo n) _ refl (checked-like (checkOf header 0 (length payload)) n header time payload) (refl, t)
+      delivers-like n header dlc time payload =
+          by-ifs SameDelivered (isFifo n) _ refl (checked-like (arrivalCheck header dlc (length payload)) n header dlc time payload) (refl, t)
 
       -- ---- sorted frames, where C leaves DNCNT the same
 
       abbrev pub SameSorted : Sorted → Sorted → Type 0
       SameSorted x y = (x .delivery ≡ y .delivery) × (x .fifo ≡ y .fifo) × (x .filter ≡ y .filter) × Same C W (x .model) (y .model)
 
-      module _ (dncnt : read DNCNT (c .fixed .con) ≡ read DNCNT (d .fixed .con)) (header : Header) (time : ℕ) (payload : List ℕ) where
+      module _ (dncnt : read DNCNT (c .fixed .con) ≡ read DNCNT (d .fixed .con)) (header : Header) (dlc time : ℕ) (payload : List ℕ) where
         abbrev filterIn : Setup → ℕ
         filterIn s = filterOf (s .filter) (s .object) (s .mask) (header .extended) (sidOf (header .extended) (header .id)) (eidOf (header .extended) (header .id))
 
-        given-like : (n f k : ℕ) → SameSorted (byFilter (give c n f k header time payload) n f) (byFilter (give d n f k header time payload) n f)
-        given-like n f k = let (a, b) = give-like n f k header time payload in (a, refl, refl, b)
+        given-like : (n f : ℕ) → SameSorted (byFilter (give c n f dlc header time payload) n f) (byFilter (give d n f dlc header time payload) n f)
+        given-like n f = let (a, b) = give-like n f dlc header time payload in (a, refl, refl, b)
 
-        filtered-like : (k : ℕ) → SameSorted (filtered c k header time payload) (filtered d k header time payload)
-        filtered-like k =
+        filtered-like : SameSorted (filtered c dlc header time payload) (filtered d dlc header time payload)
+        filtered-like =
             by-ifs SameSorted _ _ (ap (λ (x : ℕ). not (eqb x 0)) dncnt) (refl, refl, refl, t)
             (by-ifs SameSorted _ _ (ap (λ (s : Setup). leb filterCount (filterIn s)) (t .setup)) (refl, refl, refl, t)
-            (subst (λ (s : Setup). SameSorted (takenBy c (filterIn (c .setup)) k header time payload)
-            (byFilter (give d (targetOf (s .filter) (filterIn s)) (filterIn s) k header time payload) (targetOf (s .filter) (filterIn s)) (filterIn s)))
-            (t .setup) (given-like (targetFor c (filterIn (c .setup))) (filterIn (c .setup)) k)))
+            (subst (λ (s : Setup). SameSorted (takenBy c (filterIn (c .setup)) dlc header time payload)
+            (byFilter (give d (targetOf (s .filter) (filterIn s)) (filterIn s) dlc header time payload) (targetOf (s .filter) (filterIn s)) (filterIn s)))
+            (t .setup) (given-like (targetFor c (filterIn (c .setup))) (filterIn (c .setup)))))
 
-        pub sorts-like : SameSorted (sortOf c header time payload) (sortOf d header time payload)
+        pub sorts-like : SameSorted (sortOf c header dlc time payload) (sortOf d header dlc time payload)
         unfolding sortOf
-        sorts-like = go (checkOf header 0 (length payload))
+        sorts-like = go (arrivalCheck header dlc (length payload))
           where
-            go : (x : Checked) → SameSorted (sortedBy x c header time payload) (sortedBy x d header time payload)
-            go (Checked.Bad r) = (refl, refl, refl, t)
-            go (Checked.Dlc k) = filtered-like k
+            go : (x : Done) → SameSorted (sortedBy x c header dlc time payload) (sortedBy x d header dlc time payload)
+            go (Done.Bad r) = (refl, refl, refl, t)
+            go Done.Good = filtered-like
 
-        pub sorted-like : sortedNumbers (sortOf c header time payload) ≡ sortedNumbers (sortOf d header time payload)
+        pub sorted-like : sortedNumbers (sortOf c header dlc time payload) ≡ sortedNumbers (sortOf d header dlc time payload)
         sorted-like = let (a, b, e, m) = sorts-like in λ i. sortingNumbers (a i) (b i) (e i)
 
       pub happens-like : read DNCNT (c .fixed .con) ≡ read DNCNT (d .fixed .con) → (x : Happening) → Same C W (happens x c) (happens x d)
       unfolding exchange stepped
       happens-like e (Exchange s want) = performed-like (asked s want) s want
       happens-like e (On (Send n)) = send-like n
-      happens-like e (On (Deliver n header time payload)) = delivers-like n header (time % 2 ^ 32) payload .1
-      happens-like e (On (Sort header time payload)) = sorts-like e header (time % 2 ^ 32) payload .3
+      happens-like e (On (Deliver n header dlc time payload)) = delivers-like n header dlc (time % 2 ^ 32) payload .1
+      happens-like e (On (Sort header dlc time payload)) = sorts-like e header dlc (time % 2 ^ 32) payload .3
 
       pub exchanges-like : (R : Register → Type 0) → ((R Register.Con → ⊥) → wordOf c Register.Con ≡ wordOf d Register.Con)
           → ((n : ℕ) → (R (Register.Control n) → ⊥) → wordOf c (Register.Control n) ≡ wordOf d (Register.Control n))

@@ -108,7 +108,7 @@ modes-alike c d b =
       exchanges = exchanges-like W words-blind C k c d b IsCon (λ n. absurd (n tt)) (λ n h. control-read W words-blind C k c d b n);
       words = λ r i. go r i;
       sends = outputs-like W words-blind C k c d b;
-      delivers = λ n header time payload. delivers-like W words-blind C k c d b n header time payload .0;
+      delivers = λ n header dlc time payload. delivers-like W words-blind C k c d b n header dlc time payload .0;
       sorts = sorted-like W words-blind C k c d b (alike-at DNCNT conOthers (c .fixed .con) (d .fixed .con) refl (b .con));
       after = happens-like W words-blind C k c d b (alike-at DNCNT conOthers (c .fixed .con) (d .fixed .con) refl (b .con));
     }
@@ -170,7 +170,7 @@ rtren-idle c d b =
       exchanges = exchanges-like W rtren-blind C k c d b IsControl (λ n. con-same c d b) (λ n h. absurd (h tt));
       words = λ r i. go r i;
       sends = outputs-like W rtren-blind C k c d b;
-      delivers = λ n header time payload. delivers-like W rtren-blind C k c d b n header time payload .0;
+      delivers = λ n header dlc time payload. delivers-like W rtren-blind C k c d b n header dlc time payload .0;
       sorts = sorted-like W rtren-blind C k c d b (ap (read DNCNT) (b .con));
       after = happens-like W rtren-blind C k c d b (ap (read DNCNT) (b .con));
     }
