@@ -7,15 +7,10 @@ use native.Mathlib.Omega.{arith}
 use lib.ListN.{length}
 use lib.Dec.{ltb}
 use Rattle.laws.specs.If.{if_then_else_}
-use Rattle.field.specs.Field.{read, flag}
+use Rattle.field.specs.Field.{flag}
 use Rattle.fifo.specs.Control.{TXEN, RXTSEN, isFifo}
 use Rattle.fifo.specs.Status.{TFNRFNIF}
 use Rattle.words.specs.Words.{roundUp}
-use Rattle.header.specs.declared.Header.{Header}
-use Rattle.header.specs.declared.dlc.Length.{Length}
-use Rattle.header.specs.Dlc.{lengthOf}
-use Rattle.header.specs.Header.{DLC, FDF, headerOf}
-use Rattle.message.specs.declared.object.Stamp.{Stamp}
 use Rattle.message.specs.Message.{Message}
 use Rattle.spi.specs.Ram.{inRange}
 use Rattle.spi.specs.declared.refusal.Refusal.{Refusal}
@@ -26,9 +21,9 @@ use Rattle.spi.specs.Talk.{done, refused, Within}
 use Rattle.spi.proofs.Talks.{more, word-within, pair-within, done-within, if-within}
 use Rattle.call.specs.declared.Found.{Found}
 use Rattle.fetch.specs.declared.Want.{Want}
-use Rattle.fetch.specs.Step.{stamped}
+use Rattle.fetch.specs.Step.{foundBy, stamped}
 use Rattle.rx_fifo.specs.Outcome.{messageOf}
-use Rattle.rx_fifo.specs.Talk.{message, empty, commitTalk, nextTalk, lastTalk, bodyTalk, toBodyTalk, timeTalk, toTimeTalk, againTalk, foundTalk, headerTalk, toHeaderTalk, addressTalk, heldTalk, statusTalk, controlTalk, hasNextTalk, lentTalk, peekTalk, getTalk}
+use Rattle.rx_fifo.specs.Talk.{message, empty, commitTalk, nextTalk, lastTalk, bodyTalk, toBodyTalk, timeTalk, toTimeTalk, againTalk, headerTalk, toHeaderTalk, addressTalk, heldTalk, statusTalk, controlTalk, hasNextTalk, lentTalk, peekTalk, getTalk}
 
 abbrev word : Answer → List ℕ → OneWord
 word = wordReply Refusal.SpiRead
@@ -63,14 +58,9 @@ module _ (want : Want) (fifo n : ℕ) (last : (m : Message) → Within n (lastTa
       if-within (suc (suc n)) (flag RXTSEN w) (toTimeTalk want fifo (m + 8) f) (toBodyTalk want fifo (m + 8) f) (to-time-within (m + 8) f)
       (more (suc n) (suc (suc n)) (toBodyTalk want fifo (m + 8) f) (omega arith) (to-body-within (m + 8) f)))
 
-  found-within : (m : ℕ) (h : Header) (l : Length) → Within (suc (suc (suc n))) (foundTalk want fifo m h l)
-  found-within m h (Length.Is k) = again-within m (record { header = h; stamp = Stamp.None; len = k })
-  found-within m h Length.Bad = tt
-
   pub header-within : (m : ℕ) → Within (suc (suc (suc (suc n)))) (headerTalk want fifo m)
   header-within m = λ a rx.
-      pair-within (suc (suc (suc n))) (pairReply Refusal.SpiRead a rx) (λ c d. foundTalk want fifo m (headerOf c d) (lengthOf (flag FDF d) (read DLC d)))
-      (λ c d. found-within m (headerOf c d) (lengthOf (flag FDF d) (read DLC d)))
+      pair-within (suc (suc (suc n))) (pairReply Refusal.SpiRead a rx) (λ c d. againTalk want fifo m (foundBy c d)) (λ c d. again-within m (foundBy c d))
 
   pub address-within : Within (suc (suc (suc (suc (suc n))))) (addressTalk want fifo)
   address-within = λ a rx.

@@ -19,11 +19,11 @@ use Rattle.words.specs.Words.{leBytes, leAt, roundUp}
 use Rattle.words.proofs.Laws.{le-back, le-length, le-drop, up-le}
 use Rattle.parts.specs.Parts.{part}
 use Rattle.header.specs.declared.dlc.Length.{Length}
-use Rattle.header.specs.Dlc.{lengthOf}
+use Rattle.header.specs.Dlc.{receivedLength}
 use Rattle.header.specs.Header.{DLC, FDF, headerOf}
-use Rattle.header.proofs.Dlcs.{length-le}
+use Rattle.header.proofs.Dlcs.{received-le}
 use Rattle.message.specs.declared.object.Stamp.{Stamp}
-use Rattle.message.specs.Message.{Message, bodyAt, messageIn}
+use Rattle.message.specs.Message.{Message, bodyAt, messageIn, lengthIn}
 use Rattle.message.proofs.Round.{is-held}
 use Rattle.spi.specs.declared.refusal.Refusal.{Refusal}
 use Rattle.spi.specs.declared.refusal.Done.{Done}
@@ -36,9 +36,9 @@ use Rattle.spi.specs.Talk.{Talk, refused, onWord, onPair, onDone, readWord, rea
 use Rattle.spi.proofs.Laws.{range-told}
 use Rattle.call.specs.declared.Found.{Found}
 use Rattle.fetch.specs.declared.Want.{Want}
-use Rattle.fetch.specs.Step.{stamped}
+use Rattle.fetch.specs.Step.{foundBy, stamped}
 use Rattle.rx_fifo.specs.Outcome.{messageOf}
-use Rattle.rx_fifo.specs.Talk.{Fetched, lastTalk, bodyTalk, toBodyTalk, timeTalk, toTimeTalk, foundTalk, headerTalk, toHeaderTalk, addressTalk, heldTalk, statusTalk, controlTalk, lentTalk}
+use Rattle.rx_fifo.specs.Talk.{Fetched, lastTalk, bodyTalk, toBodyTalk, timeTalk, toTimeTalk, againTalk, headerTalk, toHeaderTalk, addressTalk, heldTalk, statusTalk, controlTalk, lentTalk}
 use Rattle.rx_fifo.specs.Laws.{says, gives, parts, answers, Shows, PeekReads, GetReads}
 
 -- ---- what the answers say
@@ -101,13 +101,13 @@ eight false = omega arith
 
 -- an object with a payload of n bytes
 abbrev foundIn : (stamped : Bool) → ℕ → List ℕ → Found
-foundIn stamped n b = record { header = headerOf (leAt b 0) (leAt b 4); stamp = if stamped then Stamp.At (leAt b 8) else Stamp.None; len = n }
+foundIn stamped n b = record { header = headerOf (leAt b 0) (leAt b 4); dlc = read DLC (leAt b 4); stamp = if stamped then Stamp.At (leAt b 8) else Stamp.None; len = n }
 
 pub message-is : (stamped : Bool) (n : ℕ) (b : List ℕ) → n ≤ 64 → messageOf (foundIn stamped n b) (part b (bodyAt stamped) (roundUp n)) ≡ messageIn false stamped n b
 unfolding messageOf messageIn part
 message-is stamped n b h =
     let p : take (min n 64) (take (roundUp n) (drop (bodyAt stamped) b)) ≡ take n (drop (bodyAt stamped) b) = rw (min-eq-left h) (take-take n (roundUp n) (drop (bodyAt stamped) b) (up-le n)) in
-    λ i. record { header = headerOf (leAt b 0) (leAt b 4); seq = 0; stamp = if stamped then Stamp.At (leAt b 8) else Stamp.None; payload = p i }
+    λ i. record { header = headerOf (leAt b 0) (leAt b 4); dlc = read DLC (leAt b 4); seq = 0; stamp = if stamped then Stamp.At (leAt b 8) else Stamp.None; payload = p i }
 
 module _ (want : Want) (fifo n : ℕ) (b : List ℕ) (short : n ≤ 64) where
   -- the payload
@@ -134,7 +134,7 @@ module _ (want : Want) (fifo n : ℕ) (b : List ℕ) (short : n ≤ 64) where
 
   module _ (u w : ℕ) (hw : w < 2 ^ 32) (whole : bodyAt (flag RXTSEN w) + roundUp n ≤ length b)
       (in-ram : inRange (u + 0x400) (bodyAt (flag RXTSEN w) + roundUp n) ≡ true)
-      (len : lengthOf (flag FDF (leAt b 4)) (read DLC (leAt b 4)) ≡ Length.Is n) where
+      (len : receivedLength (flag FDF (leAt b 4)) (read DLC (leAt b 4)) ≡ n) where
     abbrev rest : List (Answer × List ℕ)
     rest = says w ∷ parts (flag RXTSEN w) n b
 
@@ -142,8 +142,8 @@ module _ (want : Want) (fifo n : ℕ) (b : List ℕ) (short : n ≤ 64) where
     header-reads =
         let m : ℕ = u + 0x400 in
         let (l, r) = range-told m (bodyAt (flag RXTSEN w) + roundUp n) in-ram in
-        pair-given m rest (λ a d. foundTalk want fifo m (headerOf a d) (lengthOf (flag FDF d) (read DLC d))) b (omega (arith, eight (flag RXTSEN w)))
-        ∙ ap (λ (k : Length). run answered (foundTalk want fifo m (headerOf (leAt b 0) (leAt b 4)) k) rest) len
+        pair-given m rest (λ a d. againTalk want fifo m (foundBy a d)) b (omega (arith, eight (flag RXTSEN w)))
+        ∙ ap (λ (k : ℕ). run answered (againTalk want fifo m (foundIn false k b)) rest) len
         ∙ word-said (CiFIFOCON .address fifo) (parts (flag RXTSEN w) n b)
         (λ v. if flag RXTSEN v then toTimeTalk want fifo (m + 8) (foundIn false n b) else toBodyTalk want fifo (m + 8) (foundIn false n b)) w hw
         ∙ parts-read (flag RXTSEN w) m l r whole
@@ -181,16 +181,19 @@ payload-length stamped n b h = length-take-le n (drop (bodyAt stamped) b) (rw (l
 
 reads : (want : Want) (fifo room c v u w : ℕ) (b : List ℕ) (m : Message) → heldTalk want fifo true ≡ addressTalk want fifo → isFifo fifo ≡ true → 64 ≤ room
     → Shows c v u w b m → run answered (lentTalk want fifo room) (answers c v u w (length (m .payload)) b) ≡ lastTalk want fifo m
+unfolding lengthIn
 reads want fifo room c v u w b m goes hf hr s =
     let stamped : Bool = flag RXTSEN w in
     let h = is-held false stamped b m (s .decoded) in
     let e : h .long ≡ length (m .payload) = sym (payload-length stamped (h .long) b (h .fits)) ∙ ap (λ (x : Message). length (x .payload)) (h .message) in
     let n : ℕ = length (m .payload) in
-    let len : lengthOf (flag FDF (leAt b 4)) (read DLC (leAt b 4)) ≡ Length.Is n = h .length-is ∙ ap Length.Is e in
+    let d : ℕ = leAt b 4 in
+    let i : Length.Is (receivedLength (flag FDF d) (read DLC d)) ≡ Length.Is n = h .length-is ∙ ap Length.Is e in
+    let len : receivedLength (flag FDF d) (read DLC d) ≡ n = cc in
     let xs : List (Answer × List ℕ) = says u ∷ gives b 0 8 ∷ says w ∷ parts stamped n b in
     status-reads want fifo room c v xs hf hr (s .control) (s .receiving) (s .status) (s .next)
     ∙ ap (λ (t : Talk Fetched). run answered t xs) goes
-    ∙ object-reads want fifo n b (length-le (flag FDF (leAt b 4)) n (read DLC (leAt b 4)) len) u w (s .again) (s .whole) (s .in-ram) len
+    ∙ object-reads want fifo n b (rw (← len) (received-le (flag FDF d) (read DLC d))) u w (s .again) (s .whole) (s .in-ram) len
     ∙ ap (lastTalk want fifo) (ap (λ (k : ℕ). messageIn false stamped k b) (sym e) ∙ h .message)
 
 pub peek-reads : PeekReads

@@ -9,14 +9,11 @@ use lib.Dec.{eqb, ltb, leb}
 use borrow.Author.Tests.{eqb-true}
 use Rattle.laws.specs.If.{if_then_else_}
 use Rattle.laws.proofs.Choice.{by-if}
-use Rattle.field.specs.Field.{read, flag}
+use Rattle.field.specs.Field.{flag}
 use Rattle.fifo.specs.Control.{TXEN, RXTSEN, isFifo}
 use Rattle.fifo.specs.Status.{TFNRFNIF}
 use Rattle.words.specs.Words.{roundUp}
 use Rattle.parts.specs.Parts.{put}
-use Rattle.header.specs.declared.dlc.Length.{Length}
-use Rattle.header.specs.Dlc.{lengthOf}
-use Rattle.header.specs.Header.{DLC, FDF, headerOf}
 use Rattle.spi.specs.declared.refusal.Refusal.{Refusal}
 use Rattle.spi.specs.declared.refusal.Done.{Done}
 use Rattle.spi.specs.declared.ask.Answer.{Answer}
@@ -30,9 +27,9 @@ use Rattle.fetch.specs.declared.Want.{Want}
 use Rattle.rx_fifo.specs.Fetch.{Fetch}
 use Rattle.fetch.specs.FetchAt.{FetchAt}
 use Rattle.rx_fifo.specs.Step.{heldOf, heldAt, stepOf, askFrom, askOf, firstAt, lentAt, hasNextStart, lentStart}
-use Rattle.fetch.specs.Step.{afterControl, afterStatus, byStatus, afterAddress, afterHeader, byLength, toTime, toBody, afterAgain, afterTime, stamped, afterBody, nextAt}
+use Rattle.fetch.specs.Step.{afterControl, afterStatus, byStatus, afterAddress, afterHeader, toTime, toBody, afterAgain, afterTime, stamped, afterBody, nextAt}
 use Rattle.rx_fifo.specs.Outcome.{messageOf, outcomeAt, outcomeOf, sizeAt, filled, filledBy}
-use Rattle.rx_fifo.specs.Talk.{Fetched, talkAt, talkOf, heldTalk, toTimeTalk, toBodyTalk, foundTalk, lastTalk, hasNextTalk, lentTalk, outcomeBy, lentAfter}
+use Rattle.rx_fifo.specs.Talk.{Fetched, talkAt, talkOf, heldTalk, toTimeTalk, toBodyTalk, lastTalk, hasNextTalk, lentTalk, outcomeBy, lentAfter}
 use Rattle.rx_fifo.proofs.Bytes.{held-message}
 
 -- a function goes into a choice, and is known of each way
@@ -55,10 +52,6 @@ last-talk Want.Get fifo held f = refl
 module _ (want : Want) (fifo : ℕ) (held : List ℕ) where
   abbrev to : FetchAt → Talk Fetched
   to = talkAt want fifo held
-
-  found-talk : (l : Length) (m a b : ℕ) → to (byLength l m a b) ≡ foundTalk want fifo m (headerOf a b) l
-  found-talk (Length.Is n) m a b = refl
-  found-talk Length.Bad m a b = refl
 
   time-talk : (x : ℕ) (f : Found) → to (toTime x f) ≡ toTimeTalk want fifo x f
   unfolding toTime
@@ -92,8 +85,7 @@ module _ (want : Want) (fifo : ℕ) (held : List ℕ) where
       on-word to FetchAt.Refused refused (λ r. refl) (wordReply Refusal.SpiRead a rx) afterAddress _
       (λ u. on-if to (ltb 0xFBFF u) _ _ _ _ refl (if-ap to (inRange (u + 0x400) 8) _ _))
   step-talk (FetchAt.Header m) a rx =
-      on-pair to FetchAt.Refused refused (λ r. refl) (pairReply Refusal.SpiRead a rx) (afterHeader m) _
-      (λ a b. found-talk (lengthOf (flag FDF b) (read DLC b)) m a b)
+      on-pair to FetchAt.Refused refused (λ r. refl) (pairReply Refusal.SpiRead a rx) (afterHeader m) _ (λ a b. refl)
   step-talk (FetchAt.Again m f) a rx =
       on-word to FetchAt.Refused refused (λ r. refl) (wordReply Refusal.SpiRead a rx) (afterAgain m f) _
       (λ w. on-if to (flag RXTSEN w) _ _ _ _ (time-talk (m + 8) f) (body-talk (m + 8) f))
