@@ -16,9 +16,9 @@ use Rattle.laws.proofs.Table.{both}
 use Rattle.field.specs.Field.{flag}
 use Rattle.fifo.specs.Control.{TXREQ, isFifo}
 use Rattle.spi.specs.declared.refusal.Refusal.{Refusal}
+use Rattle.spi.specs.declared.refusal.Done.{Done}
 use Rattle.header.specs.declared.Header.{Header}
-use Rattle.message.specs.declared.tx.Checked.{Checked}
-use Rattle.message.specs.Message.{Message, checkOf, Decoding, holds, decoding}
+use Rattle.message.specs.Message.{Message, arrivalCheck, Decoding, holds, decoding}
 use Rattle.ring.specs.declared.ring.Fifo.{Fifo}
 use Rattle.ring.specs.Ring.{sending, depth, place, claimed, taken, controlled, overflowed, sent}
 use Rattle.ring.specs.Layout.{stamped, size}
@@ -256,33 +256,33 @@ module _ (c : Model) (s : Sound c) where
   send-step t l n true false h e = quiet-step c c _ (λ j. refl) (λ j. only-none j n) (λ j. refl) (later-same c)
   send-step t l n false b h e = quiet-step c c _ (λ j. refl) (λ j. only-none j n) (λ j. refl) (later-same c)
 
-  module _ (n : ℕ) (header : Header) (time : ℕ) (payload : List ℕ) where
+  module _ (n : ℕ) (header : Header) (dlc time : ℕ) (payload : List ℕ) where
     -- what an answer to a frame comes to
     abbrev pub Answered : Delivered → Type 0
-    Answered r = Step c (arrived n (incoming c n header time payload) (r .delivery)) (r .model)
+    Answered r = Step c (arrived n (incoming c n header dlc time payload) (r .delivery)) (r .model)
 
     -- one that says that nothing changed
-    pub unmoved : (d : Delivery) → ((j : ℕ) → acceptedIn j (arrived n (incoming c n header time payload) d) ≡ []) → Answered (delivered d c)
+    pub unmoved : (d : Delivery) → ((j : ℕ) → acceptedIn j (arrived n (incoming c n header dlc time payload) d) ≡ []) → Answered (delivered d c)
     unmoved d e = quiet-step c c _ e (λ j. refl) (λ j. refl) (later-same c)
 
     delivered-step : isFifo n ≡ true → sending (frozenAt c n) ≡ false → fifoAt c n .count < depth (frozenAt c n)
         → (bs : List ℕ) → length bs ≤ size (frozenAt c n)
-        → ((r : List ℕ) → decoding (sending (frozenAt c n)) (stamped (frozenAt c n)) (bs ++ r) ≡ holds (incoming c n header time payload))
+        → ((r : List ℕ) → decoding (sending (frozenAt c n)) (stamped (frozenAt c n)) (bs ++ r) ≡ holds (incoming c n header dlc time payload))
         → Answered (delivered Delivery.Delivered (withFifo (written c (slotOf c n (fifoAt c n .count)) bs) n (claimed (fifoAt c n))))
     unfolding claimed
     delivered-step h r free bs fits back = record {
       later = later-delivered c s n h r free bs fits;
       moves = λ j k.
           rw map-only
-          (rw (filled-held c s n h free bs fits j, filled-item c s n h free bs fits (incoming c n header time payload) back)
+          (rw (filled-held c s n h free bs fits j, filled-item c s n h free bs fits (incoming c n header dlc time payload) back)
           at (more-held (filled c n bs) (filled-sound c s n h free bs fits) n h (claimed (fifoAt c n)) refl refl j));
     }
 
     -- a frame that a filter took
-    pub give-step : time < 2 ^ 32 → (hit d : ℕ) → hit < 32 → checkOf header 0 (length payload) ≡ Checked.Dlc d → Answered (give c n hit d header time payload)
+    pub give-step : time < 2 ^ 32 → (hit : ℕ) → hit < 32 → arrivalCheck header dlc (length payload) ≡ Done.Good → Answered (give c n hit dlc header time payload)
     unfolding overflowed
-    give-step small hit d l e =
-        by-give c n header time payload Answered hit d
+    give-step small hit l e =
+        by-give c n header dlc time payload Answered hit
         (λ a. unmoved _ (λ j. only-none j n)) (λ a b. unmoved _ (λ j. only-none j n)) (λ a b x. unmoved _ (λ j. only-none j n))
         (λ a b x z.
         let (h, r) = receives-is c n b in
@@ -290,27 +290,27 @@ module _ (c : Model) (s : Sound c) where
         (later-kept c s n h (overflowed true (fifoAt c n)) refl refl))
         (λ a b x z.
         let (h, r) = receives-is c n b in
-        delivered-step h r (leb-false _ _ z) _ (object-fits c n hit d header time payload (ltb-false _ _ x)) (coming-back c n header time payload small r hit d l e))
+        delivered-step h r (leb-false _ _ z) _ (object-fits c n hit dlc header time payload (ltb-false _ _ x)) (coming-back c n header dlc time payload small r hit l e))
 
     -- one that names its FIFO
-    deliver-step : time < 2 ^ 32 → Answered (deliverOf c n header time payload)
+    deliver-step : time < 2 ^ 32 → Answered (deliverOf c n header dlc time payload)
     deliver-step small =
-        by-deliver c n header time payload Answered
+        by-deliver c n header dlc time payload Answered
         (λ i. unmoved _ (λ j. only-none j n)) (λ i t. unmoved _ (λ j. only-none j n)) (λ i t d. unmoved _ (λ j. only-none j n))
-        (λ i t d e. give-step small 0 d (omega arith))
+        (λ i t e. give-step small 0 (omega arith))
 
   -- one that the filters sort
-  sort-step : (header : Header) (time : ℕ) (payload : List ℕ) → time < 2 ^ 32
-      → let r = sortOf c header time payload in Step c (arrived (r .fifo) (incoming c (r .fifo) header time payload) (r .delivery)) (r .model)
-  sort-step header time payload small =
+  sort-step : (header : Header) (dlc time : ℕ) (payload : List ℕ) → time < 2 ^ 32
+      → let r = sortOf c header dlc time payload in Step c (arrived (r .fifo) (incoming c (r .fifo) header dlc time payload) (r .delivery)) (r .model)
+  sort-step header dlc time payload small =
       let n = targetFor c (filterFor c header) in
-      by-sort c header time payload (λ r. Step c (arrived (r .fifo) (incoming c (r .fifo) header time payload) (r .delivery)) (r .model))
-      (λ t. unmoved 0 header time payload _ (λ j. only-none j 0)) (λ t e. unmoved 0 header time payload _ (λ j. only-none j 0))
-      (λ t d e z. unmoved 0 header time payload _ (λ j. only-none j 0)) (λ t d e z g. unmoved 0 header time payload _ (λ j. only-none j 0))
-      (λ t d e z g. give-step n header time payload small (filterFor c header) d (leb-false filterCount (filterFor c header) g))
+      by-sort c header dlc time payload (λ r. Step c (arrived (r .fifo) (incoming c (r .fifo) header dlc time payload) (r .delivery)) (r .model))
+      (λ t. unmoved 0 header dlc time payload _ (λ j. only-none j 0)) (λ t e. unmoved 0 header dlc time payload _ (λ j. only-none j 0))
+      (λ t e z. unmoved 0 header dlc time payload _ (λ j. only-none j 0)) (λ t e z g. unmoved 0 header dlc time payload _ (λ j. only-none j 0))
+      (λ t e z g. give-step n header dlc time payload small (filterFor c header) (leb-false filterCount (filterFor c header) g))
 
 pub bus-good : (c : Model) → Sound c → (t : List Said) → Listed c t → (b : Bus) → Good c b
 unfolding stepped sendOutput sendModel
 bus-good c s t l (Send n) = send-step c s t l n (isFifo n) (sends c n) refl refl
-bus-good c s t l (Deliver n header time payload) = deliver-step c s n header (time % 2 ^ 32) payload (mod-lt time (omega arith))
-bus-good c s t l (Sort header time payload) = sort-step c s header (time % 2 ^ 32) payload (mod-lt time (omega arith))
+bus-good c s t l (Deliver n header dlc time payload) = deliver-step c s n header dlc (time % 2 ^ 32) payload (mod-lt time (omega arith))
+bus-good c s t l (Sort header dlc time payload) = sort-step c s header dlc (time % 2 ^ 32) payload (mod-lt time (omega arith))

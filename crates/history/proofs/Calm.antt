@@ -57,8 +57,8 @@ calls-append (arrived k m d ∷ s) t = calls-append s t
 no-call : (b : Bus) (c : Model) (t : List Said) → calls (says b c ∷ t) ≡ calls t
 unfolding calls
 no-call (Send n) c t = refl
-no-call (Deliver n header time payload) c t = refl
-no-call (Sort header time payload) c t = refl
+no-call (Deliver n header dlc time payload) c t = refl
+no-call (Sort header dlc time payload) c t = refl
 
 no-calls : (bs : List Bus) (c : Model) → calls (spokenOf bs c) ≡ []
 unfolding spokenOf calls

@@ -11,10 +11,10 @@ use Rattle.fifo.specs.Control.{payloadOf, isFifo}
 use Rattle.spi.specs.Instruction.{commandOf}
 use Rattle.spi.specs.Ram.{inRange}
 use Rattle.spi.specs.Ask.{sent}
-use Rattle.header.specs.Dlc.{lengthOf, dlcOf}
+use Rattle.header.specs.Dlc.{lengthOf, receivedLength, dlcOf}
 use Rattle.header.specs.Header.{word0, word1, received1, headerOf}
 use Rattle.message.specs.Object.{padded, objectBytes}
-use Rattle.message.specs.Message.{checkOf, encoding, arriving, messageIn, decoding}
+use Rattle.message.specs.Message.{checkOf, encoding, arrivalCheck, arriving, messageIn, lengthIn, decoding}
 use Rattle.spi.specs.declared.refusal.Refusal.{Refusal}
 use Rattle.call.specs.declared.Outcome.{Outcome}
 use Rattle.plan.specs.Change.{modified}
@@ -57,8 +57,8 @@ pub computed : Sends × SendsNot
 unfolding c₀ lived exchange performed sent commandOf leBytes beBytes leAt beAt asked inRam inRange readAt writeAt registerAt
     registerWritten controlWritten granted withField reset ring.configured ring.controlled end room size stamped ring.depth
     ring.sending payloadOf base slotAt control ready edge status ring.place ring.shown ring.fresh ring.claimed ring.increased
-    ring.commanded shownAt wordOf conWritten part put zeroed isFifo lengthOf dlcOf word0 word1 received1 headerOf padded objectBytes checkOf arriving
-    encoding messageIn decoding modified plan.arrivedAt plan.stepOf push.encodingFor push.startOf push.afterControl push.afterStatus
+    ring.commanded shownAt wordOf conWritten part put zeroed isFifo lengthOf receivedLength dlcOf word0 word1 received1 headerOf padded objectBytes checkOf arrivalCheck
+    arriving encoding messageIn lengthIn decoding modified plan.arrivedAt plan.stepOf push.encodingFor push.startOf push.afterControl push.afterStatus
     push.afterAddress push.stepOf push.askOf push.outcomeOf requestStart reads.afterControl reads.afterStatus reads.afterAddress
     reads.afterHeader reads.toTime reads.toBody reads.afterAgain reads.afterTime fetch.heldOf fetch.stepOf fetch.askOf fetch.lentAt
     fetch.lentStart found.messageOf found.outcomeOf found.filled found.filledBy ofPlan ofPush ofFetch askOf stepOf outcomeOf filledBy

@@ -19,7 +19,7 @@ use Rattle.words.proofs.Laws.{up-four}
 use Rattle.parts.specs.Parts.{part, put}
 use Rattle.spi.specs.declared.refusal.Refusal.{Refusal}
 use Rattle.spi.specs.declared.ask.Answer.{Answer}
-use Rattle.message.specs.Message.{Message, bodyAt, Decoding, holds, bad, short, decoding}
+use Rattle.message.specs.Message.{Message, bodyAt, Decoding, holds, noFrame, short, decoding}
 use Rattle.call.specs.declared.Found.{Found}
 use Rattle.call.specs.declared.Outcome.{Outcome}
 use Rattle.call.specs.Numbers.{outcomeNumbers}
@@ -97,7 +97,7 @@ start-is Want.Get x n buf = refl
 -- of a message read
 abbrev pub tells : Command → Decoding → List ℕ → Said
 tells k (holds m) buf = called k (Outcome.Message (found.foundOf m)) (put buf 0 (m .payload))
-tells k (bad r) buf = called k (Outcome.Refused r) buf
+tells k noFrame buf = called k Outcome.Running buf
 tells k short buf = called k Outcome.Running buf
 
 -- of a FIFO that receives
@@ -121,7 +121,7 @@ ends-as v k one xs x (answer o buf) said says =
 module _ (k : Command) (d : Model) (n : ℕ) (buf : List ℕ) where
   read-as : (x : Decoding) → As k (tells k x buf) (readAs x buf)
   read-as (holds m) = refl
-  read-as (bad r) = refl
+  read-as noFrame = refl
   read-as short = refl
 
   fetch-as : lent k ≡ buf → As k (fetchSaid k d n buf) (fetchAnswer d n buf)

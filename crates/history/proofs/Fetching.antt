@@ -17,11 +17,11 @@ use Rattle.words.specs.Words.{leBytes, leAt, roundUp}
 use Rattle.words.proofs.Laws.{up-le}
 use Rattle.parts.specs.Parts.{part, put}
 use Rattle.header.specs.declared.dlc.Length.{Length}
-use Rattle.header.specs.Dlc.{lengthOf}
+use Rattle.header.specs.Dlc.{receivedLength}
 use Rattle.header.specs.Header.{DLC, FDF, headerOf}
-use Rattle.header.proofs.Dlcs.{length-le}
+use Rattle.header.proofs.Dlcs.{received-le}
 use Rattle.message.specs.declared.object.Stamp.{Stamp}
-use Rattle.message.specs.Message.{Message, bodyAt, holds, messageIn, decoding}
+use Rattle.message.specs.Message.{Message, bodyAt, holds, messageIn, lengthIn, decoding}
 use Rattle.message.proofs.Round.{Held, is-held}
 use Rattle.spi.specs.declared.refusal.Refusal.{Refusal}
 use Rattle.spi.specs.declared.ask.Answer.{Answer}
@@ -37,7 +37,7 @@ use Rattle.state.specs.Model.{frozenAt}
 use Rattle.bus.specs.Held.{slotOf, itemAt}
 use Rattle.fetch.specs.declared.Want.{Want}
 use Rattle.fetch.specs.FetchAt.{FetchAt}
-use Rattle.fetch.specs.Step.{byLength, afterHeader, toTime, toBody, afterAgain, afterTime, afterBody, nextAt}
+use Rattle.fetch.specs.Step.{afterHeader, toTime, toBody, afterAgain, afterTime, afterBody, nextAt}
 use Rattle.rx_fifo.specs.Step.{heldOf}
 use Rattle.rx_fifo.specs.Outcome.{messageOf, foundOf, filled}
 use Rattle.rx_fifo.proofs.Objects.{range-is}
@@ -103,7 +103,7 @@ eight false = omega arith
 
 -- with this timestamp; with its own it is foundOf m
 abbrev tells : Message → Stamp → Found
-tells m s = record { header = m .header; stamp = s; len = length (m .payload) }
+tells m s = record { header = m .header; dlc = m .dlc; stamp = s; len = length (m .payload) }
 
 -- before its timestamp is read
 abbrev pub plain : Message → Found
@@ -126,7 +126,7 @@ module _ (m : Message) where
   put-message buf s h =
       let p : take (min (length (m .payload)) 64) (m .payload ++ drop (0 + length (m .payload)) buf) ≡ m .payload
       = rw (min-eq-left h) (take-append-seam (m .payload) _) in
-      λ i. record { header = m .header; seq = sym s i; stamp = m .stamp; payload = p i }
+      λ i. record { header = m .header; dlc = m .dlc; seq = sym s i; stamp = m .stamp; payload = p i }
 
   -- what is held of an answer gives the message that the answer gives
   held-message : (held rx : List ℕ) → length (m .payload) ≤ length rx → messageOf (foundOf m) (heldOf held rx) ≡ messageOf (foundOf m) rx
@@ -135,7 +135,7 @@ module _ (m : Message) where
       let n : ℕ = min (length (m .payload)) 64 in
       let l : n ≤ length (take 64 rx) = rw (length-take 64 rx) (omega arith) in
       let p = take-append-le n (take 64 rx) _ l ∙ take-take n 64 rx (omega arith) in
-      λ i. record { header = m .header; seq = 0; stamp = m .stamp; payload = p i }
+      λ i. record { header = m .header; dlc = m .dlc; seq = 0; stamp = m .stamp; payload = p i }
 
 pub held-length : (held rx : List ℕ) → length held ≡ 64 → length (heldOf held rx) ≡ 64
 unfolding heldOf put
@@ -148,6 +148,11 @@ pub item-is : (c : Model) (n : ℕ) → sending (frozenAt c n) ≡ false
     → decoding false (stamped (frozenAt c n)) (part (c .ram) (slotOf c n 0) (size (frozenAt c n))) ≡ itemAt c n 0
 unfolding itemAt
 item-is c n e = rw e
+
+-- the length of a payload received
+received-is : {n : ℕ} (fdf : Bool) (d : ℕ) → lengthIn false fdf d ≡ Length.Is n → receivedLength fdf d ≡ n
+unfolding lengthIn
+received-is fdf d e = cc
 
 -- its slot begins at place x of RAM l, fr being the control word that fixes the slot's size
 module _ (l : List ℕ) (x fr : ℕ) (m : Message) (long : length l ≡ 2048) (room : x + size fr ≤ 2048)
@@ -193,11 +198,15 @@ module _ (l : List ℕ) (x fr : ℕ) (m : Message) (long : length l ≡ 2048) (r
   unfolding messageIn
   stamp-is = ap (λ (k : Message). k .stamp) message-in
 
-  length-is : lengthOf (flag FDF (leAt l (x + 4))) (read DLC (leAt l (x + 4))) ≡ Length.Is (length (m .payload))
-  length-is = rw (← word-4) (object .length-is ∙ ap Length.Is count-is)
+  dlc-is : read DLC (leAt l (x + 4)) ≡ m .dlc
+  unfolding messageIn
+  dlc-is = rw (← word-4) (ap (λ (k : Message). k .dlc) message-in)
+
+  length-is : receivedLength (flag FDF (leAt l (x + 4))) (read DLC (leAt l (x + 4))) ≡ length (m .payload)
+  length-is = rw (← word-4) (received-is _ _ (object .length-is) ∙ count-is)
 
   pub payload-most : length (m .payload) ≤ 64
-  payload-most = length-le (flag FDF (leAt l (x + 4))) (length (m .payload)) (read DLC (leAt l (x + 4))) length-is
+  payload-most = omega (arith, length-is, received-le (flag FDF (leAt l (x + 4))) (read DLC (leAt l (x + 4))))
 
   -- ---- the places in RAM, and how much is answered
 
@@ -231,8 +240,7 @@ module _ (l : List ℕ) (x fr : ℕ) (m : Message) (long : length l ≡ 2048) (r
   unfolding afterHeader
   next-header want =
       ap (λ (r : TwoWords). onPair FetchAt.Refused r (afterHeader (x + 0x400))) (pair-given l x (omega (arith, header-in)))
-      ∙ ap (λ (n : Length). byLength n (x + 0x400) (leAt l x) (leAt l (x + 4))) length-is
-      ∙ (λ i. FetchAt.Again (x + 0x400) (record { header = header-is i; stamp = Stamp.None; len = length (m .payload) }))
+      ∙ (λ i. FetchAt.Again (x + 0x400) (record { header = header-is i; dlc = dlc-is i; stamp = Stamp.None; len = length-is i }))
 
   -- the payload k bytes behind the header's place is in RAM
   to-body : (k : ℕ) (s : Stamp) → bodyAt (stamped fr) ≡ k → m .stamp ≡ s → toBody (x + 0x400 + k) (tells m s) ≡ FetchAt.Body (x + 0x400 + k) (foundOf m)
@@ -282,7 +290,7 @@ module _ (l : List ℕ) (x fr : ℕ) (m : Message) (long : length l ≡ 2048) (r
       let n : ℕ = length (m .payload) in
       let p : take (min n 64) (take (roundUp n) (drop (x + bodyAt (stamped fr)) l)) ≡ m .payload
       = rw (min-eq-left payload-most) (take-take n (roundUp n) (drop (x + bodyAt (stamped fr)) l) (up-le n) ∙ payload-is) in
-      λ i. record { header = m .header; seq = sym seq-none i; stamp = m .stamp; payload = p i }
+      λ i. record { header = m .header; dlc = m .dlc; seq = sym seq-none i; stamp = m .stamp; payload = p i }
 
   pub body-held : (held : List ℕ) → messageOf (foundOf m) (heldOf held (part l (x + bodyAt (stamped fr)) (roundUp (length (m .payload))))) ≡ m
   body-held held = held-message m held _ (omega (arith, body-length)) ∙ body-message

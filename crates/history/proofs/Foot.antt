@@ -13,8 +13,8 @@ use Rattle.configuration.specs.CanControl.{DNCNT}
 use Rattle.fifo.specs.Control.{payloadOf, isFifo}
 use Rattle.parts.specs.Parts.{put}
 use Rattle.header.specs.declared.Header.{Header}
-use Rattle.message.specs.declared.tx.Checked.{Checked}
-use Rattle.message.specs.Message.{checkOf}
+use Rattle.spi.specs.declared.refusal.Done.{Done}
+use Rattle.message.specs.Message.{arrivalCheck}
 use Rattle.ring.specs.declared.ring.Fifo.{Fifo}
 use Rattle.ring.specs.Ring.{depth, overflowed, sent}
 use Rattle.state.specs.declared.Model.{Model}
@@ -142,31 +142,33 @@ module _ (a n : ℕ) where
     unfolding give
     give-but j hit d header time payload = appended-but j (length payload) _
 
-    checked-but : (x : Checked) (j : ℕ) (header : Header) (time : ℕ) (payload : List ℕ) → Told (byCheck x c j header time payload) (byCheck x other j header time payload)
-    checked-but (Checked.Bad e) j header time payload = same-but
-    checked-but (Checked.Dlc d) j header time payload = give-but j 0 d header time payload
+    checked-but : (x : Done) (j : ℕ) (header : Header) (dlc time : ℕ) (payload : List ℕ)
+        → Told (byCheck x c j header dlc time payload) (byCheck x other j header dlc time payload)
+    checked-but (Done.Bad e) j header dlc time payload = same-but
+    checked-but Done.Good j header dlc time payload = give-but j 0 dlc header time payload
 
-    deliver-but : (j : ℕ) (header : Header) (time : ℕ) (payload : List ℕ) → Told (deliverOf c j header time payload) (deliverOf other j header time payload)
+    deliver-but : (j : ℕ) (header : Header) (dlc time : ℕ) (payload : List ℕ) → Told (deliverOf c j header dlc time payload) (deliverOf other j header dlc time payload)
     unfolding deliverOf
-    deliver-but j header time payload = by-both Told (isFifo j) (checked-but (checkOf header 0 (length payload)) j header time payload) same-but
+    deliver-but j header dlc time payload =
+        by-both Told (isFifo j) (checked-but (arrivalCheck header dlc (length payload)) j header dlc time payload) same-but
 
-    sorts-but : (x : Checked) (header : Header) (time : ℕ) (payload : List ℕ)
-        → ButFor a n (sortedBy x c header time payload .model) (sortedBy x other header time payload .model)
-    sorts-but (Checked.Bad e) header time payload = same-but
-    sorts-but (Checked.Dlc d) header time payload =
+    sorts-but : (x : Done) (header : Header) (dlc time : ℕ) (payload : List ℕ)
+        → ButFor a n (sortedBy x c header dlc time payload .model) (sortedBy x other header dlc time payload .model)
+    sorts-but (Done.Bad e) header dlc time payload = same-but
+    sorts-but Done.Good header dlc time payload =
         let P : Sorted → Sorted → Type 0 = λ x y. ButFor a n (x .model) (y .model) in
         by-both P (not (eqb (read DNCNT (c .fixed .con)) 0)) same-but
-        (by-both P (leb filterCount (filterFor c header)) same-but (give-but (targetFor c (filterFor c header)) (filterFor c header) d header time payload))
+        (by-both P (leb filterCount (filterFor c header)) same-but (give-but (targetFor c (filterFor c header)) (filterFor c header) dlc header time payload))
 
-    sort-but : (header : Header) (time : ℕ) (payload : List ℕ) → ButFor a n (sortOf c header time payload .model) (sortOf other header time payload .model)
+    sort-but : (header : Header) (dlc time : ℕ) (payload : List ℕ) → ButFor a n (sortOf c header dlc time payload .model) (sortOf other header dlc time payload .model)
     unfolding sortOf
-    sort-but header time payload = sorts-but (checkOf header 0 (length payload)) header time payload
+    sort-but header dlc time payload = sorts-but (arrivalCheck header dlc (length payload)) header dlc time payload
 
     step-near : (b : Bus) → ButFor a n (stepped b c) (stepped b other)
     unfolding stepped
     step-near (Send j) = send-but j
-    step-near (Deliver j header time payload) = deliver-but j header (time % 2 ^ 32) payload
-    step-near (Sort header time payload) = sort-but header (time % 2 ^ 32) payload
+    step-near (Deliver j header dlc time payload) = deliver-but j header dlc (time % 2 ^ 32) payload
+    step-near (Sort header dlc time payload) = sort-but header dlc (time % 2 ^ 32) payload
 
   pub but-step : (c d : Model) → ButFor a n c d → (b : Bus) → ButFor a n (stepped b c) (stepped b d)
   but-step c d x b =

@@ -78,18 +78,18 @@ module _ (n : ℕ) (c : Model) (o : Sound c) (q : Asked (Only n) c) where
   give-asked : (k hit d : ℕ) (header : Header) (time : ℕ) (payload : List ℕ) → Well (give c k hit d header time payload)
   unfolding claimed overflowed
   give-asked k hit d header time payload =
-      by-give c k header time payload Well hit d (λ a. q) (λ a b. q) (λ a b x. q)
+      by-give c k header d time payload Well hit (λ a. q) (λ a b. q) (λ a b x. q)
       (λ a b x y. next-asked c o k (receives-is c k b .0) (overflowed true (fifoAt c k)) (Only n) q (q k))
       (λ a b x y. next-asked c o k (receives-is c k b .0) (claimed (fifoAt c k)) (Only n) q (q k))
 
   bus-asked : (b : Bus) → (TakesLast n (On b) c → ⊥) → Asked (Only n) (stepped b c)
   unfolding stepped
   bus-asked (Send k) last = send-asked k last
-  bus-asked (Deliver k header time payload) last =
-      by-deliver c k header (time % 2 ^ 32) payload Well (λ i. q) (λ i t. q) (λ i t d. q) (λ i t d e w. give-asked k 0 d header (time % 2 ^ 32) payload)
-  bus-asked (Sort header time payload) last =
-      by-sort c header (time % 2 ^ 32) payload (λ x. Asked (Only n) (x .model)) (λ t. q) (λ t e. q) (λ t d e z. q) (λ t d e z g. q)
-      (λ t d e z g w. give-asked (targetFor c (filterFor c header)) (filterFor c header) d header (time % 2 ^ 32) payload)
+  bus-asked (Deliver k header dlc time payload) last =
+      by-deliver c k header dlc (time % 2 ^ 32) payload Well (λ i. q) (λ i t. q) (λ i t d. q) (λ i t e w. give-asked k 0 dlc header (time % 2 ^ 32) payload)
+  bus-asked (Sort header dlc time payload) last =
+      by-sort c header dlc (time % 2 ^ 32) payload (λ x. Asked (Only n) (x .model)) (λ t. q) (λ t e. q) (λ t e z. q) (λ t e z g. q)
+      (λ t e z g w. give-asked (targetFor c (filterFor c header)) (filterFor c header) dlc header (time % 2 ^ 32) payload)
 
 -- ---- any events of which none is
 

@@ -16,8 +16,8 @@ use Rattle.fifo.specs.Control.{isFifo}
 use Rattle.parts.specs.Parts.{put}
 use Rattle.words.specs.Words.{leAt}
 use Rattle.header.specs.Header.{DLC, FDF}
-use Rattle.header.proofs.Dlcs.{length-le}
-use Rattle.message.specs.Message.{Message, bodyAt, Decoding, holds, bad, short, messageIn, decoding}
+use Rattle.message.proofs.Checks.{in-le}
+use Rattle.message.specs.Message.{Message, bodyAt, Decoding, holds, noFrame, short, messageIn, decoding}
 use Rattle.message.proofs.Round.{Held, is-held}
 use Rattle.call.specs.declared.Outcome.{Outcome}
 use Rattle.rx_fifo.specs.Outcome as found
@@ -52,7 +52,7 @@ module _ (n : ℕ) (buf : List ℕ) where
       let h : Held false y b m = is-held false y b m e in
       let none : m .seq ≡ 0 = sym (ap (λ (x : Message). x .seq) (h .message)) in
       let cut : take (h .long) (drop (bodyAt y) b) ≡ m .payload = ap (λ (x : Message). x .payload) (h .message) in
-      let most : h .long ≤ 64 = length-le (flag FDF (leAt b 4)) (h .long) (read DLC (leAt b 4)) (h .length-is) in
+      let most : h .long ≤ 64 = in-le false (flag FDF (leAt b 4)) (h .long) (read DLC (leAt b 4)) (h .length-is) in
       let len : length (m .payload) ≡ min (h .long) (length (drop (bodyAt y) b)) = ap length (sym cut) ∙ length-take (h .long) (drop (bodyAt y) b) in
       rw (eq-eqb n n refl) (ap (λ (x : Message). x ∷ []) (put-message m buf none (omega (arith, len, most))))
 
@@ -67,7 +67,7 @@ module _ (n : ℕ) (buf : List ℕ) where
   out-only y b (holds x) e m h =
       let same : x ∷ [] ≡ m ∷ [] = sym (comes-back y b x e) ∙ h in
       cc
-  out-only y b (bad r) e m h = absurd (out-none m h)
+  out-only y b noFrame e m h = absurd (out-none m h)
   out-only y b short e m h = absurd (out-none m h)
 
 module _ (d : Model) (n : ℕ) (buf : List ℕ) (m : Message) where

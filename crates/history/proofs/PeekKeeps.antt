@@ -12,8 +12,6 @@ use Rattle.fifo.specs.Control.{TXEN, RXTSEN, CiFIFOCON, isFifo}
 use Rattle.fifo.specs.Status.{CiFIFOSTA, TFNRFNIF}
 use Rattle.fifo.specs.UserAddress.{CiFIFOUA}
 use Rattle.words.specs.Words.{roundUp}
-use Rattle.header.specs.declared.dlc.Length.{Length}
-use Rattle.header.specs.Dlc.{lengthOf}
 use Rattle.header.specs.Header.{DLC, FDF}
 use Rattle.spi.specs.declared.refusal.Refusal.{Refusal}
 use Rattle.spi.specs.declared.refusal.Done.{Done}
@@ -28,7 +26,7 @@ use Rattle.plan.specs.Plan.{Plan}
 use Rattle.tx_fifo.specs.Push.{Push as Pushes}
 use Rattle.fetch.specs.declared.Want.{Want}
 use Rattle.fetch.specs.FetchAt.{FetchAt}
-use Rattle.fetch.specs.Step.{afterControl, afterStatus, afterAddress, byLength, afterHeader, toTime, toBody, afterAgain, afterTime, stamped, nextBy, nextAt}
+use Rattle.fetch.specs.Step.{afterControl, afterStatus, afterAddress, afterHeader, toTime, toBody, afterAgain, afterTime, stamped, nextBy, nextAt}
 use Rattle.rx_fifo.specs.Step as fetch
 use Rattle.driver.specs.Call.{Call}
 use Rattle.driver.specs.Start.{idlePlan, idlePush, ofFetch}
@@ -76,10 +74,6 @@ by-done : (a : FetchAt) → Looks a → (o : Done) → Looks (onDone FetchAt.Ref
 by-done a h Done.Good = h
 by-done a h (Done.Bad r) = tt
 
-by-length : (x v w : ℕ) (l : Length) → Looks (byLength l x v w)
-by-length x v w (Length.Is k) = tt
-by-length x v w Length.Bad = tt
-
 body-looks : (x : ℕ) (f : Found) → Looks (toBody x f)
 unfolding toBody
 body-looks x f = by-if Looks (inRange x (roundUp (f .len))) (λ e. tt) (λ e. tt)
@@ -90,7 +84,7 @@ next-looks FetchAt.Control l word pair r k = by-word afterControl (λ w. by-if L
 next-looks FetchAt.Status l word pair r k = by-word (afterStatus Want.Peek) (λ w. by-if Looks (flag TFNRFNIF w) (λ e. tt) (λ e. tt)) word
 next-looks FetchAt.Address l word pair r k =
     by-word afterAddress (λ w. by-if Looks (ltb 0xFBFF w) (λ e. tt) (λ e. by-if Looks (inRange _ 8) (λ g. tt) (λ g. tt))) word
-next-looks (FetchAt.Header x) l word pair r k = by-pair (afterHeader x) (λ v w. by-length x v w (lengthOf (flag FDF w) (read DLC w))) pair
+next-looks (FetchAt.Header x) l word pair r k = by-pair (afterHeader x) (λ v w. tt) pair
 next-looks (FetchAt.Again x f) l word pair r k =
     by-word (afterAgain x f) (λ w. by-if Looks (flag RXTSEN w) (λ e. by-if Looks (inRange _ 4) (λ g. tt) (λ g. tt)) (λ e. body-looks _ f)) word
 next-looks (FetchAt.Time x f) l word pair r k = by-word (afterTime x f) (λ w. body-looks _ (stamped f w)) word

@@ -114,7 +114,7 @@ module _ (n : ℕ) (p : Plan) where
   request-failed rx (fails e) l = absurd (clash (PlanAt.Refused Refusal.SpiRead) e refl l)
   request-failed rx (turned e) l = absurd (clash (PlanAt.Refused Refusal.BadNumber) e refl l)
 
-  -- it never waits, and its outcome is never 3, 23, 25 or 26
+  -- it never waits, and its outcome is never 3, 25 or 26
   pub request-asks : Requests n p → waits (askOf p) ≡ false
   request-asks (reads i e) = ap (λ (y : Plan). waits (askOf y)) e
   request-asks (writes i w s e) = ap (λ (y : Plan). waits (askOf y)) e

@@ -30,8 +30,8 @@ use Rattle.history.proofs.PlanSteps.{request-heard, request-starts-well
 -- a bus step is no call
 bus-tells : (b : Bus) (c : Model) → TellsWell (says b c)
 bus-tells (Send n) c = tt
-bus-tells (Deliver n header time payload) c = tt
-bus-tells (Sort header time payload) c = tt
+bus-tells (Deliver n header dlc time payload) c = tt
+bus-tells (Sort header dlc time payload) c = tt
 
 -- ---- each event
 

@@ -23,10 +23,10 @@ use Rattle.header.specs.declared.dlc.Length.{Length}
 use Rattle.header.specs.declared.Header.{Header}
 use Rattle.message.specs.declared.object.Stamp.{Stamp}
 use Rattle.message.specs.declared.tx.Checked.{Checked}
-use Rattle.header.specs.Dlc.{dlcOf, lengthOf, receivedLength}
+use Rattle.header.specs.Dlc.{dlcOf, lengthOf, receivedLength, codeOr0}
 use Rattle.header.specs.Header.{DLC, FDF, SEQ, FILHIT, topId, word0, word1, received1, headerOf}
 use Rattle.message.specs.Object.{stampBytes, padded, objectBytes}
-use Rattle.message.specs.Message.{Message, checkOf, object, coded, encoding, arrivalCheck, arriving, Decoding, holds, noFrame, bodyAt, messageIn, lengthIn, byLength, decoding}
+use Rattle.message.specs.Message.{Message, toWrite, checkOf, object, coded, encoding, arrivalCheck, arriving, Decoding, holds, noFrame, bodyAt, messageIn, lengthIn, byLength, decoding}
 use Rattle.message.specs.Laws.{Stamped, RoundTrip, ArrivalTrip, ArrivalFilter, meaningful, writtenAs, Back, Lengths, Refuses, ArrivalRefuses, ClassicDlc, AlwaysHolds, NoFrameIff}
 use Rattle.header.proofs.Dlcs.{dlc-lt, length-back, dlc-back, dlc-16, payload-le, received-sent}
 use Rattle.message.proofs.Checks.{Sound, sound, Fitting, fitting}
@@ -146,6 +146,14 @@ round-trip sending stamped m bs r e o s =
   where
     dlc-same : {x y : ℕ} → Dlc.Is x ≡ Dlc.Is y → x ≡ y
     dlc-same e = cc
+
+-- a message to write has the DLC of its payload's length
+pub own-dlc : (h : Header) (seq : ℕ) (s : Stamp) (p bs : List ℕ) → encoding (toWrite h seq s p) ≡ object bs
+    → dlcOf (h .fdf) (length p) ≡ Dlc.Is (toWrite h seq s p .dlc)
+own-dlc h seq s p bs e =
+    let c = is-coded (toWrite h seq s p) bs e in
+    let d = sound h seq (length p) (c .dlc) (c .checked) .dlc in
+    d ∙ ap Dlc.Is (sym (ap codeOr0 d))
 
 pub arrival-trip : ArrivalTrip
 unfolding arriving lengthIn
