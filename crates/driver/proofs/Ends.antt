@@ -10,13 +10,10 @@ use lib.ListN.{length}
 use lib.Dec.{eqb, ltb}
 use borrow.Author.Tests.{eqb-false}
 use Rattle.laws.proofs.Choice.{by-if}
-use Rattle.field.specs.Field.{read, flag}
+use Rattle.field.specs.Field.{flag}
 use Rattle.fifo.specs.Control.{TXEN, RXTSEN, payloadOf}
 use Rattle.fifo.specs.Status.{TFNRFNIF}
 use Rattle.words.specs.Words.{roundUp}
-use Rattle.header.specs.declared.dlc.Length.{Length}
-use Rattle.header.specs.Dlc.{lengthOf}
-use Rattle.header.specs.Header.{DLC, FDF}
 use Rattle.spi.specs.declared.refusal.Refusal.{Refusal}
 use Rattle.spi.specs.declared.ask.Ask.{Ask}
 use Rattle.spi.specs.declared.ask.Answer.{Answer}
@@ -183,10 +180,6 @@ status-falls Want.HasNext next = omega arith
 status-falls Want.Peek next = by-if (Fetches 8) next (λ e. omega arith) (λ e. omega arith)
 status-falls Want.Get next = by-if (Fetches 8) next (λ e. omega arith) (λ e. omega arith)
 
-header-falls : (l : Length) (m a b : ℕ) → Fetches 6 (fetched.byLength l m a b)
-header-falls (Length.Is n) m a b = omega arith
-header-falls Length.Bad m a b = omega arith
-
 last-falls : (want : Want) (f : Found) → Fetches 3 (fetched.afterBody want f)
 last-falls Want.HasNext f = omega arith
 last-falls Want.Peek f = omega arith
@@ -206,8 +199,7 @@ module _ (want : Want) (a : Answer) (rx : List ℕ) where
   fetch-falls FetchAt.Status = of-word 8 _ (λ v. status-falls want (flag TFNRFNIF v))
   fetch-falls FetchAt.Address =
       of-word 7 _ (λ u. by-if (Fetches 7) (ltb 0xFBFF u) (λ e. omega arith) (λ e. by-if (Fetches 7) (inRange (u + 0x400) 8) (λ d. omega arith) (λ d. omega arith)))
-  fetch-falls (FetchAt.Header m) =
-      by-pair (Fetches 6) (λ r. omega arith) (pairReply Refusal.SpiRead a rx) (λ c d. header-falls (lengthOf (flag FDF d) (read DLC d)) m c d)
+  fetch-falls (FetchAt.Header m) = by-pair (Fetches 6) (λ r. omega arith) (pairReply Refusal.SpiRead a rx) (λ c d. omega arith)
   fetch-falls (FetchAt.Again m f) =
       of-word 5 _
       (λ w. by-if (Fetches 5) (flag RXTSEN w) (λ e. by-if (Fetches 5) (inRange (m + 8) 4) (λ d. omega arith) (λ d. omega arith))

@@ -20,11 +20,8 @@ use Rattle.fifo.specs.Status.{CiFIFOSTA, TFNRFNIF}
 use Rattle.fifo.specs.UserAddress.{CiFIFOUA}
 use Rattle.words.specs.Words.{leBytes, beBytes, roundUp}
 use Rattle.header.specs.declared.Header.{Header}
-use Rattle.header.specs.declared.dlc.Length.{Length}
-use Rattle.header.specs.Dlc.{lengthOf}
-use Rattle.header.specs.Header.{DLC, FDF, headerOf}
-use Rattle.header.proofs.Dlcs.{length-le}
-use Rattle.message.specs.declared.object.Stamp.{Stamp}
+use Rattle.header.specs.Header.{DLC, FDF}
+use Rattle.header.proofs.Dlcs.{received-le}
 use Rattle.message.specs.Message.{Message, Encoding, encoding}
 use Rattle.message.proofs.Round.{object-le}
 use Rattle.spi.specs.declared.refusal.Refusal.{Refusal}
@@ -57,7 +54,7 @@ use Rattle.tx_fifo.specs.Step.{toSend}
 use Rattle.tx_fifo.specs.Talk as push-talks
 use Rattle.transmit.specs.Transmit.{requestCall, transmitCall}
 use Rattle.fetch.specs.declared.Want.{Want}
-use Rattle.fetch.specs.Step.{stamped}
+use Rattle.fetch.specs.Step.{foundBy, stamped}
 use Rattle.rx_fifo.specs.Outcome.{messageOf}
 use Rattle.rx_fifo.specs.Talk as fetch-talks
 use Rattle.driver.specs.Step.{askOf, stepOf}
@@ -300,14 +297,10 @@ module _ (P : Ask → Type 0) (may-read : MayRead P) where
           (λ i. reads P Refusal.SpiRead (o + 8) _ (may-read _ (ram-below (o + 8) 4 i)) (λ t. body-always (o + 8 + 4) (stamped d t) l)) (λ i. tt))
           (λ e. body-always (o + 8) d l))
 
-      found-always : (o : ℕ) (h : Header) (x : Length) → ((k : ℕ) → x ≡ Length.Is k → k ≤ 64) → Always P (fetch-talks.foundTalk want n o h x)
-      found-always o h (Length.Is k) l = again-always o (record { header = h; stamp = Stamp.None; len = k }) (l k refl)
-      found-always o h Length.Bad l = tt
-
       header-always : (o : ℕ) → Narrow o → Always P (fetch-talks.headerTalk want n o)
       header-always o l =
           pairs P Refusal.SpiRead o _ (may-get o 8 l (omega arith))
-          (λ c d. found-always o (headerOf c d) (lengthOf (flag FDF d) (read DLC d)) (λ k e. length-le (flag FDF d) k (read DLC d) e))
+          (λ c d. again-always o (foundBy c d) (received-le (flag FDF d) (read DLC d)))
 
       address-always : Always P (fetch-talks.addressTalk want n)
       address-always =
