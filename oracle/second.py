@@ -24,9 +24,13 @@ def crc(bs):
     return c
 assert crc(b'123456789') == 0xaee7
 
-def dlc_len(dlc, fd):
+def sent_len(dlc, fd):
+    """a classic frame is sent with DLC 8 at most"""
     if dlc <= 8: return dlc
     return FDLEN[dlc - 9] if fd else None
+def received_len(dlc, fd):
+    """a classic frame with DLC 9 to 15 has 8 data bytes"""
+    return sent_len(dlc, fd) if fd or dlc <= 8 else 8
 def len_dlc(n, fd):
     if n <= 8: return n
     if fd and n in FDLEN: return 9 + FDLEN.index(n)
@@ -35,17 +39,16 @@ def up4(n): return (n + 3) // 4 * 4
 
 def bad_id(i): return i[1] > (0x1fffffff if i[0] == 'x' else 0x7ff)
 def word0(i): return i[1] >> 18 | (i[1] & 0x3ffff) << 11 if i[0] == 'x' else i[1]
-def header(i, flags, n, rest):
+def header(i, flags, dlc, rest):
     """rest: SEQ or FILHIT, in its place in word 1"""
-    w1 = len_dlc(n, 'f' in flags) | (i[0] == 'x') << 4 | ('r' in flags) << 5 | ('b' in flags) << 6 | ('f' in flags) << 7 | ('e' in flags) << 8 | rest
+    w1 = dlc | (i[0] == 'x') << 4 | ('r' in flags) << 5 | ('b' in flags) << 6 | ('f' in flags) << 7 | ('e' in flags) << 8 | rest
     return le(word0(i)) + le(w1)
 def parse_header(b):
     w0, w1 = word(b[:4]), word(b[4:8])
     ext = bits(w1, 4, 4)
     ident = ('ext %x' % (bits(w0, 10, 0) << 18 | bits(w0, 28, 11))) if ext else 'std %x' % bits(w0, 10, 0)
     fl = ''.join(c for c, k in (('f', 7), ('b', 6), ('e', 8), ('r', 5)) if bits(w1, k, k)) or '-'
-    n = dlc_len(bits(w1, 3, 0), bits(w1, 7, 7))
-    return ident, fl, bits(w1, 31, 9), n
+    return ident, fl, bits(w1, 31, 9), bits(w1, 3, 0)
 
 # ---------------------------------------------------------------- chip
 RESETS = {0x000: 0x04980760, 0x004: 0x003E0F0F, 0x008: 0x000E0303, 0x00C: 0x00021000, 0x014: 0, 0x01C: 0,
@@ -152,13 +155,14 @@ class Chip:
         return a
     def decode(s, n, i):
         a = s.slot(n, i)
-        ident, fl, seq, ln = parse_header(s.ram[a:a + 8])
+        ident, fl, seq, dlc = parse_header(s.ram[a:a + 8])
+        ln = (sent_len if s.tx(n) else received_len)(dlc, 'f' in fl)
         if ln is None or ln > s.plsize(n): return 'no frame'
         p = a + 8
         if s.tx(n): return 'frame %s %s %d %s' % (ident, fl, seq, hx(s.ram[p:p + ln]))
         t = '-'
         if s.ts(n): t = '%08x' % word(s.ram[p:p + 4]); p += 4
-        return 'message %s %s %s %s' % (ident, fl, t, hx(s.ram[p:p + ln]))
+        return 'message %s %s %s %s %d' % (ident, fl, t, hx(s.ram[p:p + ln]), dlc)
     def send(s, n):
         if not 1 <= n <= 31: return 'refused 20'
         if s.conf or not s.tx(n) or not bits(s.con[n], 9, 9) or s.count[n] == 0: return 'nothing sent'
@@ -166,36 +170,37 @@ class Chip:
         s.old[n] = (s.old[n] + 1) % s.depth(n); s.count[n] -= 1
         if s.count[n] == 0: s.con[n] &= ~(1 << 9)
         return f
-    def unfit(s, i, fl, p):
+    def unfit(s, i, fl, p, dlc):
+        """dlc: None where the payload's length has none and none was named"""
         if bad_id(i): return 'refused 21'
-        if len_dlc(len(p), 'f' in fl) is None: return 'refused 22'
+        if dlc is None or dlc > 15 or len(p) != received_len(dlc, 'f' in fl): return 'refused 22'
         return None
-    def deliver(s, n, i, fl, t, p):
+    def deliver(s, n, i, fl, t, p, dlc):
         if not 1 <= n <= 31: return 'refused 20'
-        return s.unfit(i, fl, p) or s.append(n, 0, i, fl, t, p)
+        return s.unfit(i, fl, p, dlc) or s.append(n, 0, i, fl, t, p, dlc)
     def matches(s, f, i):
         """an enabled filter: SID and, of an extended frame, EID where the mask is 1; the kind where MIDE is 1"""
         if not bits(s.reg[0x1D0 + 4 * (f // 4)], 8 * (f % 4) + 7, 8 * (f % 4) + 7): return False
         obj, mask, ext = s.reg[0x1F0 + 8 * f], s.reg[0x1F4 + 8 * f], i[0] == 'x'
         if bits(mask, 30, 30) and bits(obj, 30, 30) != ext: return False
         return (obj ^ word0(i)) & mask & (0x1fffffff if ext else 0x7ff) == 0
-    def sort(s, i, fl, t, p):
-        bad = s.unfit(i, fl, p)
+    def sort(s, i, fl, t, p, dlc):
+        bad = s.unfit(i, fl, p, dlc)
         if bad: return bad
         if bits(s.reg[0], 4, 0): return 'refused 31'
         hits = [f for f in range(32) if s.matches(f, i)]
         if not hits: return 'refused 30'
         f = hits[0]
         n = bits(s.reg[0x1D0 + 4 * (f // 4)], 8 * (f % 4) + 4, 8 * (f % 4))
-        answer = s.append(n, f, i, fl, t, p)
+        answer = s.append(n, f, i, fl, t, p, dlc)
         return 'delivered %d filter %d' % (n, f) if answer == 'delivered' else answer
-    def append(s, n, f, i, fl, t, p):
+    def append(s, n, f, i, fl, t, p, dlc):
         """a frame that filter f took, for FIFO n; 0 is no FIFO"""
         if s.conf: return 'turned down configuration'
         if n == 0 or s.tx(n): return 'turned down not receiving'
         if len(p) > s.plsize(n): return 'turned down too long'
         if s.count[n] == s.depth(n): s.ovf[n] = 1; return 'turned down full'
-        o = header(i, fl, len(p), f << 11) + (le(t) if s.ts(n) else b'') + p
+        o = header(i, fl, dlc, f << 11) + (le(t) if s.ts(n) else b'') + p
         o += bytes(up4(len(o)) - len(o))
         a = s.slot(n, s.count[n])
         s.ram[a:a + len(o)] = o
@@ -319,13 +324,14 @@ def uaddr(n):
     if u > 0xFBFF: raise Refused(25)
     return u + 0x400
 def c_push(n, i, fl, seq, p):
-    fifo(n); need(not bad_id(i), 21); need(seq < 1 << 23); need(len_dlc(len(p), 'f' in fl) is not None, 22)
+    dlc = len_dlc(len(p), 'f' in fl)
+    fifo(n); need(not bad_id(i), 21); need(seq < 1 << 23); need(dlc is not None, 22)
     con = yield from rd(conaddr(n))
     if not bits(con, 7, 7): raise Refused(6)
     if len(p) > PL[bits(con, 31, 29)]: raise Refused(7)
     if not (yield from rd(conaddr(n) + 4)) & 1: raise Refused(8)
     a = yield from uaddr(n)
-    o = header(i, fl, len(p), seq << 9) + p
+    o = header(i, fl, dlc, seq << 9) + p
     o += bytes(up4(len(o)) - len(o))
     ramcheck(a, len(o), 5)
     yield from ask(cmd(2, a) + o, 0, 2)
@@ -346,14 +352,14 @@ def part(a, n):
 def c_peek(n):
     if (yield from c_has_next(n)) == 'no': return 'none'
     a = yield from uaddr(n)
-    ident, fl, _, ln = parse_header((yield from part(a, 8)))
-    if ln is None: raise Refused(23)
+    ident, fl, _, dlc = parse_header((yield from part(a, 8)))
+    ln = received_len(dlc, 'f' in fl)
     con = yield from rd(conaddr(n))
     a += 8; t = '-'
     if bits(con, 5, 5):
         t = '%08x' % word((yield from part(a, 4))); a += 4
     p = (yield from part(a, up4(ln)))[:ln]
-    return 'message %s %s %s %s' % (ident, fl, t, hx(p))
+    return 'message %s %s %s %s %d' % (ident, fl, t, hx(p), dlc)
 def c_get(n):
     r = yield from c_peek(n)
     if r != 'none': yield from mod(conaddr(n), fields((8, 8, 1)))
@@ -416,10 +422,16 @@ def parse_call(ts):
     elif name in SIG: sig = SIG[name]
     else: raise Bad
     return globals()['c_' + name](*args(sig, a))
+def frame(before, ts):
+    """a frame as it arrives; where its DLC is not named, the one that its payload's length has"""
+    sig = before + [ident, flags, hexw, byts]
+    if len(ts) > len(sig): return args(sig + [D], ts)
+    a = args(sig, ts)
+    return a + [len_dlc(len(a[-1]), 'f' in a[-3])]
 def parse_step(ts):
     if ts[0] == 'send': a = args([D], ts[1:]); return lambda c: c.send(*a)
-    if ts[0] == 'deliver': a = args([D, ident, flags, hexw, byts], ts[1:]); return lambda c: c.deliver(*a)
-    if ts[0] == 'sort': a = args([ident, flags, hexw, byts], ts[1:]); return lambda c: c.sort(*a)
+    if ts[0] == 'deliver': a = frame([D], ts[1:]); return lambda c: c.deliver(*a)
+    if ts[0] == 'sort': a = frame([], ts[1:]); return lambda c: c.sort(*a)
     raise Bad
 
 def run(text, out):
