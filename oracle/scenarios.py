@@ -2,7 +2,8 @@
 """scenarios.py SEED COUNT: COUNT random scenarios for drive and second.py, as a script (docs/SCRIPTS.md); the same for the same seed.
 A scenario sets up some FIFOs and filters, leaves Configuration, and then calls, delivers, sorts, sends, fails and looks, with good
 arguments and bad ones. Filters and the frames that are sorted go by the same few identifiers, so that masks and kinds decide; filters are
-set by calls and by raw words (targets may be 0, unused bits may be 1), single bits of them change on the way, and DNCNT is now and then above 0."""
+set by calls and by raw words (targets may be 0, unused bits may be 1), single bits of them change on the way, and DNCNT is now and then above 0.
+Frames arrive with any DLC, with one that does not fit their length, with one above 15, or without; header words are now and then overwritten."""
 import random, sys
 
 if sys.argv[1:2] in (['-h'], ['--help']): sys.exit(print(__doc__))
@@ -15,9 +16,17 @@ def hexed(n): return ''.join('%02x' % r.randrange(256) for _ in range(n)) or '-'
 def le(w): return w.to_bytes(4, 'little').hex()
 def rare(n): return r.randrange(n) == 0
 def flags(): return ''.join(c for c in 'fber' if not r.randrange(3)) or '-'
+FD = [12, 16, 20, 24, 32, 48, 64]
 def length(fl):
     if rare(20): return r.randrange(80)
-    return r.choice([12, 16, 20, 24, 32, 48, 64]) if 'f' in fl and r.randrange(2) else r.randrange(9)
+    return r.choice(FD) if 'f' in fl and r.randrange(2) else r.randrange(9)
+def arriving(): # flags, timestamp, payload and, mostly, the DLC
+    fl, dlc = flags(), r.choice([8, 9, 15, *range(16)])
+    n = dlc if dlc < 9 else FD[dlc - 9] if 'f' in fl else 8
+    if rare(12): n = r.choice([n + 1, max(n - 1, 0), dlc, length(fl)])
+    if rare(12): dlc = r.choice([16, 24, 31, 255, 264, 265, 65545, 4294967295, 4294967304, 999999999999])
+    text = '%s %08x %s' % (fl, r.randrange(1 << 32), hexed(n))
+    return text if rare(3) else '%s %d' % (text, dlc)
 def ident():
     if rare(25): return r.choice(['s800', 'x20000000', 'sffffffff', 'xffffffff'])
     return 's%x' % r.randrange(0x800) if r.randrange(2) else 'x%x' % r.randrange(1 << 29)
@@ -27,17 +36,24 @@ def known(): # one of the scenario's few identifiers; sometimes a bit differs, o
     return 'x%x' % i if r.randrange(2) else 's%x' % (i >> 18)
 def number(fifos): return r.choice([0, 32, 255, 1, 31]) if rare(15) else r.choice(fifos)
 def step(fifos):
-    k, fl = r.randrange(6), flags()
+    k = r.randrange(6)
     if k < 2: return 'send %d' % number(fifos)
-    frame = '%s %08x %s' % (fl, r.randrange(1 << 32), hexed(length(fl)))
-    if k < 4: return 'deliver %d %s %s' % (number(fifos), ident(), frame)
-    return 'sort %s %s' % (ident() if rare(8) else known(), frame)
+    if k < 4: return 'deliver %d %s %s' % (number(fifos), ident(), arriving())
+    return 'sort %s %s' % (ident() if rare(8) else known(), arriving())
 def control(): # PLSIZE, FSIZE, TXAT, priority, then the low bits; FIFOs are small, so that they fill up
     return r.choice([0, 0, 1, 3, 7]) << 29 | r.randrange(4) << 24 | r.randrange(128) << 16 | r.randrange(2) << 10 | r.choice([0, 0x200]) | r.randrange(256)
 def address():
     return r.choice([0, 4, 8, 0xC, 0x14, 0x1C, 0xE00, 0xE04, 0x10, 0x400, 0xBFC, 0xC00, 0x5C + 4 * r.randrange(93), 0x1D0 + 4 * r.randrange(72)])
 
 def raw_write(a, w): return 'raw 2%03x%s 0' % (a, le(w))
+def object_size(w): return 8 + (4 if w & 0xa0 == 0x20 else 0) + [8, *FD][w >> 29]
+def depth(w): return (w >> 24 & 31) + 1
+def slots(n): # where FIFO n's slots lie, by the words that the scenario began with
+    before = sum(depth(w) * object_size(w) for w in (words.get(k, 0) for k in range(1, n)))
+    return [before + k * object_size(words[n]) for k in range(depth(words[n]))]
+def header_word(fifos): # word 1 of a slot: any DLC, mostly classic, any bits above
+    at = r.choice(slots(r.choice(fifos))) + 4
+    return raw_write(0x400 + at, r.randrange(1 << 32) & (0xffffffff if rare(4) else 0xffffff7f)) if at < 0x800 else 'held 1'
 def filter_call(fifos):
     i, m = (known(), r.choice(['s7ff', 's0', 'x1fffffff', known()])) if r.randrange(3) else (ident(), ident())
     return 'configure_filter %d %s' % (r.choice(near), 'off' if rare(8) else '%d %s %s %s' % (number(fifos), r.choice(['std', 'ext', 'both']), i, m))
@@ -79,12 +95,13 @@ def call(fifos):
     return 'modify_register %x %08x %08x' % (0x5C + 12 * (r.choice(fifos) - 1), r.randrange(1 << 11), r.randrange(1 << 11))
 
 def action(fifos):
-    k = r.randrange(32)
+    k = r.randrange(33)
     if k < 7: out.append(step(fifos))
     elif k < 12: out.append('held %d' % number(fifos))
     elif k < 14: out.append('raw 3%03x 4' % (0x5C + 4 * r.randrange(93)))
     elif k == 14: out.append('raw %s %d' % (hexed(r.randrange(8)), r.randrange(8)))
     elif k == 15: filter_words(fifos)
+    elif k == 16: out.append(header_word(fifos))
     else:
         out.append('call ' + call(fifos))
         for _ in range(r.choice([0, 0, 0, 1, 1, 2, 3])):
@@ -96,7 +113,8 @@ for _ in range(count):
     fifos = sorted(r.sample(range(1, 32), 1 + r.randrange(4)))
     ids = [r.randrange(1 << 29) for _ in range(3)]
     near = r.sample(range(32), 4)
-    for n in fifos: out.append(raw_write(0x5C + 12 * (n - 1), control()))
+    words = {n: control() for n in fifos}
+    for n in fifos: out.append(raw_write(0x5C + 12 * (n - 1), words[n]))
     for _ in range(r.randrange(5)): filter_words(fifos) if r.randrange(2) else out.append('call ' + filter_call(fifos))
     off = r.choice([0x80000, 0x100000]) if rare(12) else 0
     out.append(raw_write(0, 0x00000760 | r.choice([0, 1, 6]) << 24 | off | (r.randrange(32) if rare(12) else 0)))
