@@ -1,6 +1,7 @@
 // What stands between calls: bus steps, raw exchanges, what a FIFO holds, a new chip. Each is done and written.
 use bus::Delivery;
 use bus::Sending;
+use header::Dlc;
 use message::Frame;
 use message::Reading;
 use model::Heard;
@@ -63,11 +64,31 @@ fn sent(m: Model, words: &[u8], numbers: &[u64]) -> Model {
     s.model
 }
 
-fn delivered(m: Model, words: &[u8], numbers: &[u64], payload: &[u8]) -> Model {
+// The DLC that a payload's length has; 16, which is refused by the same number, where it has none.
+fn dlc_for(n: usize, fdf: bool) -> u32 {
+    match header::dlc_for_len(n, fdf) {
+        Dlc::Is(d) => if d < 16 { d as u32 } else { 16 },
+        Dlc::Bad => 16,
+    }
+}
+
+// A frame's DLC: number k, where the line has it, and otherwise the one that its payload's length has.
+fn dlc_of(coded: bool, numbers: &[u64], k: usize, n: usize, fdf: bool) -> u32 {
+    if coded {
+        return starts::word(numbers, k);
+    }
+    dlc_for(n, fdf)
+}
+
+fn delivered(m: Model, words: &[u8], coded: bool, numbers: &[u64], lent: &[u8]) -> Model {
+    let header = starts::header_of(starts::number(numbers, 1), starts::number(numbers, 2));
+    let payload = text::front(lent, starts::number(numbers, 4) as usize);
+    let dlc = dlc_of(coded, numbers, 5, payload.len(), header.fdf);
     let d = bus::deliver(
         m,
         starts::word(numbers, 0),
-        starts::header_of(starts::number(numbers, 1), starts::number(numbers, 2)),
+        header,
+        dlc,
         starts::word(numbers, 3),
         payload,
     );
@@ -78,9 +99,11 @@ fn delivered(m: Model, words: &[u8], numbers: &[u64], payload: &[u8]) -> Model {
     d.model
 }
 
-fn sorted(m: Model, words: &[u8], numbers: &[u64], payload: &[u8]) -> Model {
+fn sorted(m: Model, words: &[u8], coded: bool, numbers: &[u64], lent: &[u8]) -> Model {
     let header = starts::header_of(starts::number(numbers, 0), starts::number(numbers, 1));
-    let s = bus::sort(m, header, starts::word(numbers, 2), payload);
+    let payload = text::front(lent, starts::number(numbers, 3) as usize);
+    let dlc = dlc_of(coded, numbers, 4, payload.len(), header.fdf);
+    let s = bus::sort(m, header, dlc, starts::word(numbers, 2), payload);
     let delivery = s.delivery;
     let mut out = [0u8; 64];
     let n = sorted_answer(delivery, s.fifo, s.filter, &mut out);
@@ -91,11 +114,11 @@ fn sorted(m: Model, words: &[u8], numbers: &[u64], payload: &[u8]) -> Model {
 // A bus step, by its words, its row in a script and what they say.
 pub fn bus_step(m: Model, s: Spoken, words: &[u8], numbers: &[u64], lent: &[u8]) -> Model {
     let row = s.row;
-    let payload = text::front(lent, s.count);
     match row {
         script::SEND => sent(m, words, numbers),
-        script::DELIVER => delivered(m, words, numbers, payload),
-        _ => sorted(m, words, numbers, payload),
+        script::DELIVER => delivered(m, words, false, numbers, lent),
+        script::DELIVER_CODED => delivered(m, words, true, numbers, lent),
+        _ => sorted(m, words, row == script::SORT_CODED, numbers, lent),
     }
 }
 
@@ -201,7 +224,11 @@ pub fn new_chip() -> Model {
 pub fn between(m: Model, s: Spoken, words: &[u8], numbers: &[u64], lent: &[u8]) -> Model {
     let row = s.row;
     let next = match row {
-        script::SEND | script::DELIVER | script::SORT => bus_step(m, s, words, numbers, lent),
+        script::SEND
+        | script::DELIVER
+        | script::DELIVER_CODED
+        | script::SORT
+        | script::SORT_CODED => bus_step(m, s, words, numbers, lent),
         script::RAW => raw(
             m,
             text::front(lent, starts::number(numbers, 0) as usize),

@@ -8,10 +8,6 @@ use lib.Dec.{ltb, leb, eqb}
 unfoldable pub isHigh : ℕ → Bool
 isHigh u = ltb 0xFBFF u
 
--- 23: in byte 4 of a header FDF (bit 7) is 0 and DLC (the low four bits) above 8
-unfoldable pub isBadDlc : ℕ → Bool
-isBadDlc b = ltb b 128 && ltb 8 (b % 16)
-
 -- D1: a part of n bytes at a, in RAM, that ends with it
 unfoldable pub isLast : ℕ → ℕ → Bool
 isLast a n = leb 0x400 a && eqb (a + n) 0xC00

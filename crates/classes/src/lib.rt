@@ -1,12 +1,10 @@
 // Which cases of a transcript lie outside what the port and the Rust can be compared in: told from the call, the answers and the
 // result that are written there.
 ghost use Prim.Native.Nat.{_≤_};
-use header::Length;
 use text::Number;
 
 mod tests;
 
-pub use tests::is_bad_dlc;
 pub use tests::is_beyond;
 pub use tests::is_cut;
 pub use tests::is_high;
@@ -15,23 +13,21 @@ pub use tests::is_last;
 // The classes, in the order in which they are told; 0 is a case that is compared.
 pub const COMPARED: u8 = 0;
 
-pub const BAD_DLC: u8 = 1;
+pub const BAD_SETTING: u8 = 1;
 
-pub const BAD_SETTING: u8 = 2;
-
-pub const BAD_USER_ADDRESS: u8 = 3;
+pub const BAD_USER_ADDRESS: u8 = 2;
 
 // The Rust refuses a part that ends with the RAM.
-pub const LAST_BYTE: u8 = 4;
+pub const LAST_BYTE: u8 = 3;
 
 // The Rust leaves out TDCO's top bit.
-pub const TDCO: u8 = 5;
+pub const TDCO: u8 = 4;
 
 // The Rust cuts a length to 32 bits.
-pub const LENGTH: u8 = 6;
+pub const LENGTH: u8 = 5;
 
 // A header field that document 01 does not carry.
-pub const ABSENT: u8 = 7;
+pub const ABSENT: u8 = 6;
 
 // What was seen of a case so far. `row` is the call's in `spoken`. Of the calls on RAM `address` and `size` are the arguments, of push
 // and transmit `size` is the payload's, of the two calls on bit timing it is TDCO. `asked` counts the exchanges; the others are of
@@ -167,10 +163,7 @@ fn rounded(n: u64) -> u64
 }
 
 fn payload_size(second: u32) -> u64 {
-    match header::length_of(second) {
-        Length::Is(n) => rounded(n as u64),
-        Length::Bad => 0,
-    }
+    rounded(header::received_length_of(second) as u64)
 }
 
 // The RAM address k bytes behind a user address.
@@ -270,9 +263,6 @@ fn refused(s: Seen) -> u8 {
     }
     if (is_push(s.row) || is_fetch(s.row)) && is_high(s.user) {
         return BAD_USER_ADDRESS;
-    }
-    if is_fetch(s.row) && is_bad_dlc((s.second % 256) as u8) {
-        return BAD_DLC;
     }
     if is_timing(s.row) && s.cut {
         return TDCO;

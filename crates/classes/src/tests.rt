@@ -1,21 +1,12 @@
 // Tests on the numbers of a transcript.
 ghost use mathlib.Core.Path.{_≡_};
 ghost use Prim.Native.Nat.{_<_};
-ghost use Rattle.classes.specs.Classes.{isHigh, isBadDlc, isLast, isCut, isBeyond};
+ghost use Rattle.classes.specs.Classes.{isHigh, isLast, isCut, isBeyond};
 
 pub fn is_high(user: u32) -> bool
     ensures { λ r. ⌜ r ≡ isHigh user ⌝ }
 {
     0xFBFF < user
-}
-
-pub fn is_bad_dlc(b: u8) -> bool
-    ensures { λ r. ⌜ r ≡ isBadDlc b ⌝ }
-{
-    if b < 128 {
-        return 8 < b % 16;
-    }
-    false
 }
 
 pub fn is_last(address: u32, n: u64) -> bool

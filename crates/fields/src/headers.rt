@@ -1,14 +1,11 @@
 // A message's two header words, through the port's encoding and decoding: it has no reader or setter for a single field.
 // A field is counted as in `names`: SID, EID and DLC, the five flags, SEQ.
 ghost use Prim.Native.Nat.{_≤_};
-use header::Dlc;
 use header::Header;
-use header::Length;
-use header::dlc_for_len;
+use header::dlc_of;
 use header::eid_of;
 use header::first_word;
 use header::header_of;
-use header::length_of;
 use header::second_word;
 use named::cut;
 
@@ -41,17 +38,7 @@ fn flag_word(i: usize) -> u32 {
     second_word(lone(i), 0, 0)
 }
 
-// The port refuses a classic frame with a DLC above 8, so DLC and SEQ are read as those of an FD frame.
-fn dlc_in(b: u32) -> u32 {
-    let Length::Is(n) = length_of(b | flag_word(FDF)) else {
-        return 16;
-    };
-    match dlc_for_len(n, true) {
-        Dlc::Is(d) => if d < 16 { d as u32 } else { 16 },
-        Dlc::Bad => 16,
-    }
-}
-
+// In the port a classic frame to send with a DLC above 8 is none, so SEQ is read as an FD frame's.
 fn seq_in(b: u32) -> u32 {
     let mut object = [0u8; 72];
     let word = words::le_bytes(b | flag_word(FDF));
@@ -66,7 +53,7 @@ pub fn read(i: usize, a: u32, b: u32) -> u32 {
     match i {
         0 => header_of(a, 0).id,
         1 => eid_of(true, header_of(a, flag_word(IDE)).id),
-        2 => dlc_in(b),
+        2 => dlc_of(b) as u32,
         3 => h.extended as u32,
         4 => h.rtr as u32,
         5 => h.brs as u32,

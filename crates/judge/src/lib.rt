@@ -26,10 +26,25 @@ fn held(s: State, line: &[u8], out: &[u8], note: &mut [u8]) -> State {
     state::differing(s, lines::put(note, d, b"\n"))
 }
 
+// How much of what the port does a line tells: a message may stand there without its DLC, the last word.
+fn told_of(line: &[u8], out: &[u8]) -> usize {
+    let all = out.len();
+    let more = text::rest(out, text::count(line)).len();
+    if text::is(line, 1, b"message") {
+        if 0 < more {
+            if more < all {
+                return all - more - 1;
+            }
+        }
+    }
+    all
+}
+
 // What the port does, `out`, is compared with the line, and with nothing where the case ends too early.
 fn judged(s: State, item: Item, line: &[u8], out: &[u8], note: &mut [u8]) -> State {
     if state::is_due(s, item) {
-        return held(s, state::compared(item, line), out, note);
+        let told = text::front(out, told_of(line, out));
+        return held(s, state::compared(item, line), told, note);
     }
     s
 }

@@ -162,20 +162,19 @@ fn message(out: &mut [u8], at: usize, what: &[u8], h: Header, v: Value, payload:
     bytes(out, c, payload)
 }
 
+// A received message tells its timestamp and, behind its payload, its DLC.
+fn received(out: &mut [u8], at: usize, h: Header, s: Stamp, payload: &[u8], dlc: u8) -> usize {
+    let a = message(out, at, b"message ", h, time(s), payload);
+    tail(out, a, Value::Decimal(dlc as u64))
+}
+
 fn found(out: &mut [u8], at: usize, f: Found, buf: &[u8]) -> usize {
     let h = f.header;
     let s = f.stamp;
-    message(
-        out,
-        at,
-        b"message ",
-        h,
-        time(s),
-        text::front(buf, f.len as usize),
-    )
+    received(out, at, h, s, text::front(buf, f.len as usize), f.dlc)
 }
 
-// A message to send, which tells its SEQ, or a received one, which tells its timestamp.
+// A message to send, which tells its SEQ, or a received one.
 pub fn frame(out: &mut [u8], at: usize, sending: bool, f: Frame) -> usize {
     let h = f.header;
     let s = f.stamp;
@@ -185,7 +184,7 @@ pub fn frame(out: &mut [u8], at: usize, sending: bool, f: Frame) -> usize {
     if sending {
         return message(out, at, b"frame ", h, Value::Decimal(f.seq as u64), payload);
     }
-    message(out, at, b"message ", h, time(s), payload)
+    received(out, at, h, s, payload, f.dlc)
 }
 
 // Which of a list's words an outcome without a message or a refusal is told by.

@@ -161,7 +161,7 @@ fn incoming(r: Stand, i: u32) -> Stand {
     let p = payload_of(i);
     let mut buf = [0u8; 64];
     let l = r.line;
-    let d = bus::deliver(l.model, 2, header_of(i), i, &p);
+    let d = bus::deliver(l.model, 2, header_of(i), 8, i, &p);
     let next = d.model;
     let g = run(moved(r, next, false), driver::get(2, 64), &mut buf);
     let s = g.stand;

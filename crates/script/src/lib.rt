@@ -17,20 +17,25 @@ pub enum Entry {
     Bad(Fault),
 }
 
-// Rows of the lines between calls, and of @ lines behind their first word: bus steps are the same in both.
+// Rows of the lines between calls, and of @ lines behind their first word: bus steps are the same in both. A frame that arrives is a
+// row without its DLC, and one with it.
 pub const SEND: usize = 0;
 
 pub const DELIVER: usize = 1;
 
-pub const SORT: usize = 2;
+pub const DELIVER_CODED: usize = 2;
 
-pub const RAW: usize = 3;
+pub const SORT: usize = 3;
 
-pub const HELD: usize = 4;
+pub const SORT_CODED: usize = 4;
 
-pub const FAIL: usize = 3;
+pub const RAW: usize = 5;
 
-pub const ANSWER: usize = 4;
+pub const HELD: usize = 6;
+
+pub const FAIL: usize = 5;
+
+pub const ANSWER: usize = 6;
 
 // The number of the exchange that an @ line is about.
 pub fn exchange_of(line: &[u8]) -> Number {
@@ -46,7 +51,7 @@ pub fn exchange_of(line: &[u8]) -> Number {
 pub fn note_of(line: &[u8], numbers: &mut [u64], lent: &mut [u8]) -> Line {
     spoken::row_of(
         text::rest(line, 1),
-        b"send d deliver difhb sort ifhb fail - answer b",
+        b"send d deliver difhb deliver difhbd sort ifhb sort ifhbd fail - answer b",
         numbers,
         lent,
     )
@@ -70,7 +75,7 @@ fn call(line: &[u8], numbers: &mut [u64], lent: &mut [u8]) -> Entry {
 }
 
 fn step(line: &[u8], numbers: &mut [u64], lent: &mut [u8]) -> Entry {
-    let table = b"send d deliver difhb sort ifhb raw bd held d new -";
+    let table = b"send d deliver difhb deliver difhbd sort ifhb sort ifhbd raw bd held d new -";
     match spoken::row_of(line, table, numbers, lent) {
         Line::Row(s) => Entry::Step(s),
         Line::Bad(f) => Entry::Bad(f),

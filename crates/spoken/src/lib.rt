@@ -172,6 +172,6 @@ pub fn understood(line: &[u8], numbers: &mut [u64], lent: &mut [u8]) -> Line {
 // A result's line, `= RESULT`. What it says goes to the buffers.
 pub fn result(line: &[u8], numbers: &mut [u64], lent: &mut [u8]) -> Line {
     let table =
-        b"ok - none - yes - no - panic - refused d refused dh refused dd word h mode d bytes b message khfsb";
+        b"ok - none - yes - no - panic - refused d refused dh refused dd word h mode d bytes b message khfsb message khfsbd";
     row_of(text::rest(line, 1), table, numbers, lent)
 }
