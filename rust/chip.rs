@@ -10,11 +10,12 @@ pub use crate::proved::bus::Delivery;
 pub use crate::proved::bus::Sending;
 /// What a slot in RAM holds. Beside every reading but `Whole` the frame has no content.
 pub use crate::proved::message::Decoded;
-/// A message: header, SEQ (0 in one received), timestamp and payload.
+/// A message: header, DLC, SEQ (0 in one received), timestamp and payload.
 pub use crate::proved::message::Frame;
 /// The first `len` bytes; those behind are 0.
 pub use crate::proved::message::Payload;
-/// Whether a slot holds a whole message.
+/// Whether a slot holds a whole message: not (`NoFrame`) a classic one to send with a DLC above 8, nor (`Short`) one that is longer than
+/// the slot.
 pub use crate::proved::message::Reading;
 /// The chip's state: registers, FIFOs and RAM.
 pub use crate::proved::state::Model;
@@ -54,16 +55,18 @@ impl Chip {
         (sent.sending, sent.frame)
     }
 
-    /// A frame arrives for a FIFO, at this time.
-    pub fn deliver(&mut self, fifo: u32, header: Header, time: u32, payload: &[u8]) -> Delivery {
-        let delivered = bus::deliver(self.model, fifo, header, time, payload);
+    /// A frame arrives for a FIFO, at this time. Its payload is as long as its DLC means: DLC 0 to 8 as many bytes, 9 to 15 in an FD frame
+    /// 12, 16, 20, 24, 32, 48 or 64, in a classic one 8. Another length is 22, and so is a DLC above 15.
+    pub fn deliver(&mut self, fifo: u32, header: Header, dlc: u32, time: u32, payload: &[u8]) -> Delivery {
+        let delivered = bus::deliver(self.model, fifo, header, dlc, time, payload);
         self.model = delivered.model;
         delivered.delivery
     }
 
-    /// A frame arrives, at this time, and the filters sort it: the lowest-numbered enabled one that matches gives it to its FIFO.
-    pub fn sort(&mut self, header: Header, time: u32, payload: &[u8]) -> Sorted {
-        let sorted = bus::sort(self.model, header, time, payload);
+    /// A frame arrives, at this time, and the filters sort it: the lowest-numbered enabled one that matches gives it to its FIFO. DLC and
+    /// payload are as in a delivery.
+    pub fn sort(&mut self, header: Header, dlc: u32, time: u32, payload: &[u8]) -> Sorted {
+        let sorted = bus::sort(self.model, header, dlc, time, payload);
         self.model = sorted.model;
         Sorted { delivery: sorted.delivery, fifo: sorted.fifo, filter: sorted.filter }
     }

@@ -81,8 +81,8 @@ pub use proved::driver::number;
 /// | 14 | `PllNotReady` | three polls without PLLRDY |
 /// | 20 | `BadNumber` | FIFO not 1 to 31, filter not 0 to 31 |
 /// | 21 | `BadIdentifier` | standard above 0x7FF, extended above 0x1FFF_FFFF |
-/// | 22 | `BadPayload` | a length that no message has |
-/// | 23 | `BadDlc` | a classic frame was received with a DLC above 8 |
+/// | 22 | `BadPayload` | a length that no message has; of a frame that arrives: not what its DLC means, or a DLC above 15 |
+/// | 23 | | given no more: a classic frame with a DLC above 8 is received, with 8 bytes |
 /// | 24 | `BadSetting` | FIFO size 0, or a number wider than its field |
 /// | 25 | `BadUserAddress` | the chip's user address is above 0xFBFF |
 /// | 26 | `WrongAnswer` | an answer of another length or kind than asked for, at the end of a RAM read too: only in a loop of your own |
@@ -176,7 +176,7 @@ pub mod calls {
     pub use crate::proved::driver::Answer;
     /// A call where it stands, from its start to its end.
     pub use crate::proved::driver::Call;
-    /// A message that was found; its payload of `len` bytes is at the front of the lent buffer.
+    /// A message that was found, with its DLC as it was received; its payload of `len` bytes is at the front of the lent buffer.
     pub use crate::proved::driver::Found;
     /// What the loop does now: `Transfer` sends the first `n` bytes of `tx` and receives `want`; `Wait` is 500 microseconds; `Over` is the
     /// end; where it is `Short`, `tx` or `lent` is too short and no byte was put: that is answered `Failed`.

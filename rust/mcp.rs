@@ -26,6 +26,8 @@ pub trait Line {
 pub struct Received {
     /// Identifier and flags.
     pub header: Header,
+    /// The DLC as it was received, 0 to 15: a classic frame with 9 to 15 has 8 bytes of payload.
+    pub dlc: u8,
     /// The timestamp, where the FIFO keeps one (RXTSEN).
     pub time: Option<u32>,
     /// How many bytes of payload, 0 to 64.
@@ -122,6 +124,7 @@ impl<L: Line> Mcp<L> {
         match self.short(call, buf) {
             Outcome::Message(found) => Ok(Some(Received {
                 header: found.header,
+                dlc: found.dlc,
                 time: match found.stamp {
                     Stamp::At(t) => Some(t),
                     Stamp::None => None,
@@ -256,7 +259,7 @@ impl<L: Line> Mcp<L> {
     }
 
     /// The oldest message of a receive FIFO, which stays there, or `None` where it holds none. The payload goes to the front of `buf`,
-    /// which needs 64 bytes, also for shorter ones; every other byte stays. Refused: 20, 28; then 9, 25, 3, 23, 3, and 1.
+    /// which needs 64 bytes, also for shorter ones; every other byte stays. Refused: 20, 28; then 9, 25, 3, and 1.
     pub fn peek(&mut self, fifo: u32, buf: &mut [u8]) -> Result<Option<Received>, Refusal> {
         self.message(calls::peek(fifo, buf.len()), buf)
     }

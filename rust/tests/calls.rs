@@ -1,8 +1,8 @@
 //! Call by call on the modelled chip: exchanges that fail one after the other, answers that come late or wrong, numbers that there are
-//! not, what lent buffers hold afterwards, scratch that is too short, turns that are left, frames that the filters sort. What is
-//! expected was written down from documents 01 and 02.
+//! not, what lent buffers hold afterwards, scratch that is too short, turns that are left, frames that the filters sort, every DLC. What
+//! is expected was written down from documents 01 and 02.
 use masevuru::calls::*;
-use masevuru::chip::{Chip, Delivery, Reading, Sending, Sorted};
+use masevuru::chip::{Chip, Delivery, Frame, Payload, Reading, Sending, Sorted};
 use masevuru::*;
 
 /// The chip, with one exchange that fails and some whose answers are changed.
@@ -70,16 +70,20 @@ fn filter() -> FilterConfiguration {
     FilterConfiguration { fifo: 2, mode: FilterMode::Standard, object, mask }
 }
 
+fn on(chip: Chip) -> Driver {
+    Mcp::new(Bench { chip, exchanges: 0, waits: 0, fail_at: 0, twist: as_it_is })
+}
+
 /// Outside Configuration: FIFO 1 sends; FIFO 2, with timestamps, and FIFO 3 receive and hold a message of 5 bytes each.
 fn prepared() -> Driver {
-    let mut mcp = Mcp::new(Bench { chip: Chip::new(), exchanges: 0, waits: 0, fail_at: 0, twist: as_it_is });
+    let mut mcp = on(Chip::new());
     mcp.configure(settings(false)).unwrap();
     mcp.configure_fifo(1, sender()).unwrap();
     mcp.configure_fifo(2, receiver(7, true)).unwrap();
     mcp.configure_fifo(3, receiver(0, false)).unwrap();
     mcp.set_op_mode(0).unwrap();
-    assert_eq!(mcp.line.chip.deliver(2, HEADER, 0xA1B2_C3D4, &BYTES[..5]), Delivery::Delivered);
-    assert_eq!(mcp.line.chip.deliver(3, HEADER, 0xA1B2_C3D4, &BYTES[..5]), Delivery::Delivered);
+    assert_eq!(mcp.line.chip.deliver(2, HEADER, 5, 0xA1B2_C3D4, &BYTES[..5]), Delivery::Delivered);
+    assert_eq!(mcp.line.chip.deliver(3, HEADER, 5, 0xA1B2_C3D4, &BYTES[..5]), Delivery::Delivered);
     mcp.line.exchanges = 0;
     mcp.line.waits = 0;
     mcp
@@ -280,7 +284,7 @@ fn finished_again() {
             assert_eq!(finish(end, &received, &mut buf[..room]), Outcome::Refused(Refusal::BufferTooSmall));
         }
         assert_eq!((buf, line.chip.held(2)), ([0x5A; 72], Ok(is_held)));
-        let found = Found { header: HEADER, stamp: Stamp::At(0xA1B2_C3D4), len: 5 };
+        let found = Found { header: HEADER, dlc: 5, stamp: Stamp::At(0xA1B2_C3D4), len: 5 };
         assert_eq!(finish(end, &received, &mut buf[..64]), Outcome::Message(found));
         assert_eq!((&buf[..5], &buf[5..]), (&BYTES[..5], &[0x5A; 67][..]));
     }
@@ -363,7 +367,7 @@ fn refusals() {
         let to = FilterConfiguration { fifo: n, ..filter() };
         assert_eq!((told(m.transmit(n, HEADER, 5, &BYTES)), told(m.configure_filter(0, to))), (20, 20));
         assert_eq!(m.line.chip.send(n).0, Sending::Refused(Refusal::BadNumber));
-        assert_eq!(m.line.chip.deliver(n, HEADER, 0, &BYTES), Delivery::Refused(Refusal::BadNumber));
+        assert_eq!(m.line.chip.deliver(n, HEADER, 8, 0, &BYTES), Delivery::Refused(Refusal::BadNumber));
         assert_eq!((told(m.line.chip.held(n)), told(m.line.chip.held_at(n, 0))), (20, 20));
     }
     for n in [32, 255, 256, 257, u32::MAX] {
@@ -397,8 +401,6 @@ fn refusals() {
     assert_eq!(twisted(address).push(1, HEADER, 5, &BYTES), Err(Refusal::InvalidRamAddress(0xBF8)));
     let above = |k, rx: &mut [u8]| if k == 3 { rx.copy_from_slice(&0xFC00u32.to_le_bytes()) };
     assert_eq!((told(twisted(above).get(3, &mut buf)), told(twisted(above).push(1, HEADER, 5, &BYTES))), (25, 25));
-    let dlc = |k, rx: &mut [u8]| if k == 4 { rx[4] = 9 };
-    assert_eq!((told(twisted(dlc).get(3, &mut buf)), told(twisted(dlc).peek(2, &mut buf))), (23, 23));
     assert_eq!(buf, [0x5A; 72]);
     assert_eq!(Refusal::InvalidRamAddress(3072).to_string(), "refused 3: InvalidRamAddress(3072)");
 }
@@ -407,7 +409,10 @@ fn refusals() {
 #[test]
 fn sorting() {
     let to = |fifo, id| FilterConfiguration { fifo, object: Identifier { extended: false, id }, ..filter() };
-    let sort = |m: &mut Driver, id, bytes: &[u8]| m.line.chip.sort(Header { id, fdf: bytes.len() > 9, ..HEADER }, 7, bytes);
+    let sort = |m: &mut Driver, id, bytes: &[u8]| {
+        let dlc = if bytes.len() > 8 { 9 } else { bytes.len() as u32 };
+        m.line.chip.sort(Header { id, fdf: bytes.len() > 9, ..HEADER }, dlc, 7, bytes)
+    };
     let for_fifo = |delivery, fifo, filter| Sorted { delivery, fifo, filter };
     let refused = |r| Sorted { delivery: Delivery::Refused(r), fifo: 0, filter: 0 };
     let mut m = prepared();
@@ -435,11 +440,97 @@ fn sorting() {
     assert_eq!((number(Refusal::NoMatch), number(Refusal::DeviceNet)), (30, 31));
 }
 
+/// How many bytes a DLC means: a classic frame has 8 at most; there is none above 15.
+fn meant(dlc: u32, fdf: bool) -> Option<usize> {
+    const LENGTHS: [usize; 16] = [0, 1, 2, 3, 4, 5, 6, 7, 8, 12, 16, 20, 24, 32, 48, 64];
+    LENGTHS.get(dlc as usize).map(|&n| if fdf { n } else { n.min(8) })
+}
+
+/// Document 02: 22 where the payload is not as long as the DLC means, or the DLC is above 15; otherwise the message that is held, looked
+/// at and taken has the DLC that the frame brought.
+#[test]
+fn every_dlc() {
+    let (mut ready, bytes) = (prepared(), core::array::from_fn::<u8, 72, _>(|i| i as u8 + 1));
+    assert!(ready.configure_filter(0, filter()).is_ok() && ready.get(2, &mut [0; 64]).is_ok());
+    let ready = ready.line.chip;
+    let refused = Delivery::Refused(Refusal::BadPayload);
+    // 264 is 8 in a byte
+    let dlcs = (0..=17).chain([31, 255, 256, 264, 0x1_0008, u32::MAX]);
+    for (dlc, fdf, len) in dlcs.flat_map(|dlc| (0..146).map(move |k| (dlc, k % 2 == 1, k / 2))) {
+        let (header, time, payload) = (Header { fdf, ..HEADER }, 0xA1B2_C3D4, &bytes[..len]);
+        let (mut named, mut sorted) = (ready.clone(), ready.clone());
+        let deliveries = (named.deliver(2, header, dlc, time, payload), sorted.sort(header, dlc, time, payload).delivery);
+        if meant(dlc, fdf) != Some(len) {
+            assert_eq!(deliveries, (refused, refused), "DLC {dlc}, {len} bytes, FD: {fdf}");
+            assert!(named == ready && sorted == ready);
+            continue;
+        }
+        assert_eq!(deliveries, (Delivery::Delivered, Delivery::Delivered), "DLC {dlc}, {len} bytes, FD: {fdf}");
+        for chip in [named, sorted] {
+            let (mut m, mut held) = (on(chip), Payload { len, bytes: [0; 64] });
+            held.bytes[..len].copy_from_slice(payload);
+            let frame = Frame { header, dlc: dlc as u8, seq: 0, stamp: Stamp::At(time), payload: held };
+            let slot = m.line.chip.held_at(2, 0).unwrap().unwrap();
+            assert_eq!((slot.reading, slot.frame), (Reading::Whole, frame));
+            // its second slot of 76 bytes, behind 4 x 16: word 1 has the DLC in bits 3 to 0
+            let mut word = [0; 4];
+            m.read_ram(0x400 + 64 + 76 + 4, &mut word).unwrap();
+            assert_eq!(u32::from(word[0] % 16), dlc);
+            for call in [Driver::peek, Driver::get] {
+                let mut buf = [0x5A; 72];
+                assert_eq!(call(&mut m, 2, &mut buf), Ok(Some(Received { header, dlc: dlc as u8, time: Some(time), len })));
+                assert_eq!((&buf[..len], &buf[len..]), (payload, &[0x5A; 72][len..]));
+            }
+            assert_eq!(m.get(2, &mut [0; 64]), Ok(None));
+        }
+    }
+}
+
+/// Classic DLCs of 9 to 15 where no frame brought them, and beside what else is refused or turned down; none of them is ever sent.
+#[test]
+fn classic_dlcs() {
+    let found = |dlc, len| Ok(Some(Received { header: HEADER, dlc, time: None, len }));
+    // 20, 21, 22 in this order; FIFO 3 has slots for 8 bytes
+    let (mut m, far) = (prepared(), Header { id: 0x800, ..HEADER });
+    for (fifo, header, refusal) in [(0, far, Refusal::BadNumber), (3, far, Refusal::BadIdentifier), (3, HEADER, Refusal::BadPayload)] {
+        assert_eq!(m.line.chip.deliver(fifo, header, 16, 0, &BYTES), Delivery::Refused(refusal));
+    }
+    assert_eq!(m.line.chip.deliver(3, Header { fdf: true, ..HEADER }, 9, 0, &[0; 12]), Delivery::TooLong);
+    assert_eq!(m.line.chip.deliver(3, HEADER, 15, 0, &BYTES), Delivery::Delivered);
+    assert_eq!(m.line.chip.deliver(3, HEADER, 15, 0, &BYTES), Delivery::Full);
+    let mut buf = [0x5A; 72];
+    assert_eq!((m.get(3, &mut buf), m.get(3, &mut buf)), (found(5, 5), found(15, 8)));
+    assert_eq!((&buf[..8], &buf[8..]), (&BYTES[..], &[0x5A; 64][..]));
+    for dlc in 9..=15 {
+        // left by a raw write in word 1 of FIFO 3's oldest, behind 4 x 16 and 2 x 76 bytes: 8 bytes, of which 5 were delivered
+        let (mut m, mut buf) = (prepared(), [0x5A; 72]);
+        m.write_ram(0x400 + 64 + 152 + 4, &[dlc, 0, 0, 0]).unwrap();
+        let slot = m.line.chip.held_at(3, 0).unwrap().unwrap();
+        assert_eq!((slot.reading, slot.frame.dlc, slot.frame.payload.len), (Reading::Whole, dlc, 8));
+        assert_eq!((m.peek(3, &mut buf), m.get(3, &mut buf)), (found(dlc, 8), found(dlc, 8)));
+        assert_eq!((&buf[..8], &buf[8..]), (&[1, 2, 3, 4, 5, 0, 0, 0][..], &[0x5A; 64][..]));
+    }
+    // a bit read wrong in the header's second word, which exchange 4 brings
+    let mut m = twisted(|k, rx| if k == 4 { rx[4] ^= 8 });
+    assert_eq!((m.get(3, &mut buf), m.line.exchanges), (found(13, 8), 8));
+    // a push writes DLC 8 at most, and refuses what is longer before any exchange
+    for len in 0..=64 {
+        let (mut m, bytes) = (prepared(), [7; 64]);
+        if len > 8 {
+            assert_eq!((m.push(1, HEADER, 5, &bytes[..len]), m.line.exchanges), (Err(Refusal::BadPayload), 0));
+            continue;
+        }
+        assert_eq!((m.push(1, HEADER, 5, &bytes[..len]), m.request(1)), (Ok(()), Ok(())));
+        let (sending, frame) = m.line.chip.send(1);
+        assert_eq!((sending, frame.dlc as usize, frame.payload.len), (Sending::Frame, len, len));
+    }
+}
+
 /// What a call that is done leaves in the lent buffer; an empty FIFO.
 #[test]
 fn lent_bytes() {
     let mut m = prepared();
-    let received = |time| Ok(Some(Received { header: HEADER, time, len: 5 }));
+    let received = |time| Ok(Some(Received { header: HEADER, dlc: 5, time, len: 5 }));
     for (fifo, time) in [(2, Some(0xA1B2_C3D4)), (3, None)] {
         let mut buf = [0x5A; 72];
         assert_eq!(m.has_next(fifo), Ok(true));
@@ -501,13 +592,14 @@ fn the_chip() {
     assert_eq!(m.push(1, HEADER, 5, &BYTES), Ok(()));
     let slot = m.line.chip.held_at(1, 0).unwrap().unwrap();
     assert_eq!((slot.reading, slot.frame.header, slot.frame.seq, slot.frame.payload.len), (Reading::Whole, HEADER, 5, 8));
+    assert_eq!(slot.frame.dlc, 8);
     assert_eq!(slot.frame.payload.bytes[..8], BYTES);
     assert_eq!(m.line.chip.held_at(1, 1), Ok(None));
     assert_eq!((m.line.chip.held(0), m.line.chip.held_at(32, 0)), (Err(Refusal::BadNumber), Err(Refusal::BadNumber)));
     assert_eq!(m.line.chip.send(1).0, Sending::Nothing); // not requested
     // a classic DLC of 9 in the slot: taken, and no frame
     assert_eq!((m.request(1), m.write_ram(0x404, &[9, 0, 0, 0])), (Ok(()), Ok(())));
-    assert!(matches!(m.line.chip.held_at(1, 0).unwrap().unwrap().reading, Reading::Bad(Refusal::BadDlc)));
+    assert_eq!(m.line.chip.held_at(1, 0).unwrap().unwrap().reading, Reading::NoFrame);
     assert_eq!((m.line.chip.send(1).0, m.line.chip.send(1).0), (Sending::NoFrame, Sending::Nothing));
     assert_eq!(m.line.chip.send(0).0, Sending::Refused(Refusal::BadNumber));
     // 22 messages of 64 bytes do not fit: 27 on the chip's side, 12 on the driver's

@@ -1,8 +1,8 @@
 //! Random calls with random numbers over a line that answers junk, fails and otherwise is the modelled chip. None may panic, send what is
 //! no instruction, go on after a failed exchange, change a byte where it is refused, be refused for what document 01 does not have for it,
-//! or take more turns than it said.
+//! find a message whose length is not what its DLC means, or take more turns than it said.
 use masevuru::calls::*;
-use masevuru::chip::{Chip, Delivery, Sorted};
+use masevuru::chip::{Chip, Decoded, Delivery, Reading, Sorted};
 use masevuru::*;
 
 #[derive(Clone)]
@@ -112,8 +112,8 @@ const ROWS: [Row; 24] = [
     ("request", 2, &[1], &[20]),
     ("transmit", 7, &[1, 2], &[20, 21, 24, 22, 6, 7, 8, 25, 3]),
     ("has_next", 2, &[1], &[20, 9]),
-    ("peek", 7, &[1], &[20, 28, 9, 25, 3, 23]),
-    ("get", 9, &[1], &[20, 28, 9, 25, 3, 23]),
+    ("peek", 7, &[1], &[20, 28, 9, 25, 3]),
+    ("get", 9, &[1], &[20, 28, 9, 25, 3]),
 ];
 
 /// Tested before the first exchange: of 3, 4 and 5 those of the RAM calls.
@@ -130,13 +130,31 @@ fn judge(call: usize, answer: Result<(), Refusal>, line: &Junk) {
     assert!(!is_first(call, n) || asked == 0, "{name} answered {n} after {asked} exchanges");
 }
 
-/// Arguments of a call: random, three times of four such as are taken.
+/// What DLC 0 to 15 mean in an FD frame.
+const LENGTHS: [usize; 16] = [0, 1, 2, 3, 4, 5, 6, 7, 8, 12, 16, 20, 24, 32, 48, 64];
+
+/// Whether a message is as long as its DLC means: a classic one has 8 bytes at most.
+fn is_meant(dlc: u8, fdf: bool, len: usize) -> bool {
+    LENGTHS.get(dlc as usize).is_some_and(|&n| len == if fdf { n } else { n.min(8) })
+}
+
+/// The same of a message that a call ended with.
+fn is_as_meant(end: Outcome) -> bool {
+    match end {
+        Outcome::Message(found) => is_meant(found.dlc, found.header.fdf, found.len as usize),
+        _ => true,
+    }
+}
+
+/// Arguments of a call, and a frame's DLC and length: random, three times of four such as are taken.
 struct Given {
     fifo: u32,
     a: u32,
     b: u32,
     c: u32,
     len: usize,
+    dlc: u32,
+    brought: usize,
     header: Header,
     settings: Settings,
     area: FifoConfiguration,
@@ -144,9 +162,9 @@ struct Given {
 }
 
 fn given(l: &mut Junk) -> Given {
-    const LENGTHS: [usize; 16] = [0, 1, 2, 3, 4, 5, 6, 7, 8, 12, 16, 20, 24, 32, 48, 64];
     let fits = l.below(4) != 0;
     let [a, b, c] = [l.number(), l.number(), l.number()];
+    let (dlc, wild) = (l.below(16), l.below(4096));
     let flags: [bool; 16] = core::array::from_fn(|_| l.flag());
     let to = |n: u32, most: u32| if fits { n % most } else { n };
     let [rtren, txatie, empty, half, notfull, ..] = flags;
@@ -159,7 +177,9 @@ fn given(l: &mut Junk) -> Given {
         a,
         b,
         c,
-        len: if fits { LENGTHS[l.below(16)] } else { l.below(4096) },
+        len: if fits { LENGTHS[dlc] } else { wild },
+        dlc: if fits { dlc as u32 } else { l.number() },
+        brought: if !fits { wild % 66 } else if flags[10] { LENGTHS[dlc] } else { LENGTHS[dlc].min(8) },
         header: Header { extended: flags[7], id: to(a, 0x800), rtr: flags[8], brs: flags[9], fdf: flags[10], esi: flags[11] },
         settings: Settings {
             oscillator: OscillatorConfiguration { pll: flags[0], divide: flags[1] },
@@ -203,7 +223,7 @@ fn a_hundred_thousand() {
     let mut mcp = Mcp::new(Junk::new(0x9E37_79B9_7F4A_7C15));
     let bytes: Vec<u8> = (0..4096).map(|i| i as u8).collect();
     let (mut buf, before) = (vec![0x5Au8; 4096], vec![0x5Au8; 4096]);
-    let (mut counts, mut sorted) = ([0u32; 29], [0u32; 37]);
+    let (mut counts, mut sorted, mut coded) = ([0u32; 29], [0u32; 37], [0u32; 16]);
     for i in 0..100_000 {
         if i % 64 == 0 {
             settle(&mut mcp);
@@ -243,6 +263,10 @@ fn a_hundred_thousand() {
             _ => {
                 let lent = &mut buf[..room];
                 let found = if call == 22 { mcp.peek(g.fifo, lent) } else { mcp.get(g.fifo, lent) };
+                if let Ok(Some(r)) = found {
+                    assert!(is_meant(r.dlc, r.header.fdf, r.len), "{found:?}");
+                    coded[r.dlc as usize] += u32::from(!r.header.fdf);
+                }
                 found.map(|r| filled = r.map_or(0, |r| r.len))
             }
         };
@@ -254,18 +278,34 @@ fn a_hundred_thousand() {
         counts[answer.map_or_else(number, |()| 0) as usize] += 1;
         // the bus's turn
         let g = given(&mut mcp.line);
-        let _ = mcp.line.chip.send(g.fifo);
-        let _ = mcp.line.chip.deliver(g.fifo, g.header, g.c, &bytes[..g.len]);
-        sorted[sorted_number(mcp.line.chip.sort(g.header, g.c, &bytes[..g.len]))] += 1;
-        assert!(mcp.line.chip.held(g.fifo).map_or(!(1..32).contains(&g.fifo), |held| held <= 32));
+        let (chip, frame) = (&mut mcp.line.chip, &bytes[..g.brought]);
+        let _ = chip.send(g.fifo);
+        let delivery = chip.deliver(g.fifo, g.header, g.dlc, g.c, frame);
+        assert!(delivery != Delivery::Delivered || is_brought(newest(chip, g.fifo), &g, frame));
+        let s = chip.sort(g.header, g.dlc, g.c, frame);
+        assert!(s.delivery != Delivery::Delivered || is_brought(newest(chip, s.fifo), &g, frame));
+        sorted[sorted_number(s)] += 1;
+        assert!(chip.held(g.fifo).map_or(!(1..32).contains(&g.fifo), |held| held <= 32));
     }
     for (n, count) in sorted.iter().enumerate() {
         assert_eq!(*count == 0, !matches!(n, 21 | 22 | 30..=36), "a sorted frame was answered {n} {count} times: {sorted:?}");
     }
+    assert!(!coded.contains(&0), "classic messages with each DLC: {coded:?}");
     for (n, count) in counts.iter().enumerate() {
-        let is_never = matches!(n, 15..=19 | 26 | 27);
+        let is_never = matches!(n, 15..=19 | 23 | 26 | 27);
         assert_eq!(*count == 0, is_never, "{n} was answered {count} times: {counts:?}");
     }
+}
+
+/// The message that a FIFO was given last.
+fn newest(chip: &Chip, fifo: u32) -> Decoded {
+    chip.held_at(fifo, chip.held(fifo).unwrap() - 1).unwrap().unwrap()
+}
+
+/// Whether a slot has the header, the DLC and the payload of a frame.
+fn is_brought(slot: Decoded, g: &Given, frame: &[u8]) -> bool {
+    let f = slot.frame;
+    slot.reading == Reading::Whole && f.header == g.header && u32::from(f.dlc) == g.dlc && &f.payload.bytes[..f.payload.len] == frame
 }
 
 /// A refusal's number, and 32 and more for what else a frame that is sorted may come to.
@@ -362,6 +402,7 @@ fn any_buffers() {
         let end = run(l, call, &bytes[..lent], &mut buf, &mut vec![0; tx], &mut vec![0; rx]);
         assert!(!matches!(end, Outcome::Running | Outcome::Refused(Refusal::WrongAnswer | Refusal::NoLayout)));
         assert!(matches!(end, Outcome::Message(_) | Outcome::Done) || buf == before, "{end:?} changed what was lent");
+        assert!(is_as_meant(end), "{end:?}");
         assert_eq!(by_value(&mut other, call, &bytes[..lent], &mut own, &mut vec![0; tx], &mut vec![0; rx]), end);
         assert!(own == buf && other.chip == l.chip && other.asked == l.asked);
     }
@@ -397,6 +438,7 @@ fn any_answers() {
         let end = finish(call, &rx[..got], &mut buf);
         assert!(end != Outcome::Running);
         assert!(matches!(end, Outcome::Message(_) | Outcome::Done) || buf == vec![0x5Au8; room], "{end:?} changed what was lent");
+        assert!(is_as_meant(end), "{end:?}");
         assert!(!accepted(call) || matches!(number, 18 | 20));
     }
 }
