@@ -1,6 +1,6 @@
 /* calls: what the header promises, call by call, on the modelled chip: exchanges that fail one after the other, NULLs, numbers too wide,
- * what refusals carry, and that each field of each structure is where the library looks for it. What is expected was written down
- * from documents 01 and 02 and the data sheet's bits. Says how many things were looked at, or which line found another. */
+ * what refusals carry, every DLC, and that each field of each structure is where the library looks for it. What is expected was written
+ * down from documents 01 and 02 and the data sheet's bits. Says how many things were looked at, or which line found another. */
 #include "masevuru.h"
 #include <stdio.h>
 #include <stdlib.h>
@@ -64,8 +64,8 @@ static void prepare(void)
     IS(mcp_configure_fifo(&line, 2, &stamped) == 0);
     IS(mcp_configure_fifo(&line, 3, &receiver) == 0);
     IS(mcp_set_op_mode(&line, 0) == 0);
-    IS(mcp_chip_deliver(&chip, 2, &header, 0xA1B2C3D4, bytes, 5, &turned_down) == 0 && turned_down == MCP_DELIVERED);
-    IS(mcp_chip_deliver(&chip, 3, &header, 0xA1B2C3D4, bytes, 5, &turned_down) == 0 && turned_down == MCP_DELIVERED);
+    IS(mcp_chip_deliver(&chip, 2, &header, 5, 0xA1B2C3D4, bytes, 5, &turned_down) == 0 && turned_down == MCP_DELIVERED);
+    IS(mcp_chip_deliver(&chip, 3, &header, 5, 0xA1B2C3D4, bytes, 5, &turned_down) == 0 && turned_down == MCP_DELIVERED);
     fresh();
 }
 
@@ -268,16 +268,16 @@ static void nulls(void)
     NOTHING_DONE(mcp_chip_transfer(&chip, bytes, 2, out.buf, too_long));
     NOTHING_DONE(mcp_chip_send(NULL, 1, &out.frame));
     NOTHING_DONE(mcp_chip_send(&chip, 1, NULL));
-    NOTHING_DONE(mcp_chip_deliver(NULL, 3, &header, 0, bytes, 8, &out.word));
-    NOTHING_DONE(mcp_chip_deliver(&chip, 3, NULL, 0, bytes, 8, &out.word));
-    NOTHING_DONE(mcp_chip_deliver(&chip, 3, &header, 0, NULL, 8, &out.word));
-    NOTHING_DONE(mcp_chip_deliver(&chip, 3, &header, 0, bytes, too_long, &out.word));
-    NOTHING_DONE(mcp_chip_deliver(&chip, 3, &header, 0, bytes, 8, NULL));
-    NOTHING_DONE(mcp_chip_sort(NULL, &header, 0, bytes, 8, &out.sorted));
-    NOTHING_DONE(mcp_chip_sort(&chip, NULL, 0, bytes, 8, &out.sorted));
-    NOTHING_DONE(mcp_chip_sort(&chip, &header, 0, NULL, 8, &out.sorted));
-    NOTHING_DONE(mcp_chip_sort(&chip, &header, 0, bytes, too_long, &out.sorted));
-    NOTHING_DONE(mcp_chip_sort(&chip, &header, 0, bytes, 8, NULL));
+    NOTHING_DONE(mcp_chip_deliver(NULL, 3, &header, 8, 0, bytes, 8, &out.word));
+    NOTHING_DONE(mcp_chip_deliver(&chip, 3, NULL, 8, 0, bytes, 8, &out.word));
+    NOTHING_DONE(mcp_chip_deliver(&chip, 3, &header, 8, 0, NULL, 8, &out.word));
+    NOTHING_DONE(mcp_chip_deliver(&chip, 3, &header, 8, 0, bytes, too_long, &out.word));
+    NOTHING_DONE(mcp_chip_deliver(&chip, 3, &header, 8, 0, bytes, 8, NULL));
+    NOTHING_DONE(mcp_chip_sort(NULL, &header, 8, 0, bytes, 8, &out.sorted));
+    NOTHING_DONE(mcp_chip_sort(&chip, NULL, 8, 0, bytes, 8, &out.sorted));
+    NOTHING_DONE(mcp_chip_sort(&chip, &header, 8, 0, NULL, 8, &out.sorted));
+    NOTHING_DONE(mcp_chip_sort(&chip, &header, 8, 0, bytes, too_long, &out.sorted));
+    NOTHING_DONE(mcp_chip_sort(&chip, &header, 8, 0, bytes, 8, NULL));
     NOTHING_DONE(mcp_chip_held(NULL, 1, &out.word));
     NOTHING_DONE(mcp_chip_held(&chip, 1, NULL));
     NOTHING_DONE(mcp_chip_held_at(NULL, 2, 0, &out.frame));
@@ -292,7 +292,7 @@ static void nulls(void)
     IS(mcp_peek(&line, 2, NULL, 0, &out.message) == 28 && mcp_get(&line, 2, NULL, 0, &out.message) == 28 && exchanges == 7);
     IS(mcp_chip_transfer(&chip, NULL, 0, NULL, 0) == 1);
     IS(untouched());
-    IS(mcp_chip_deliver(&chip, 3, &header, 0, NULL, 0, &out.word) == 0 && out.word == MCP_DELIVERED && held(3) == 2);
+    IS(mcp_chip_deliver(&chip, 3, &header, 0, 0, NULL, 0, &out.word) == 0 && out.word == MCP_DELIVERED && held(3) == 2);
 }
 
 /* Numbers that are refused before any exchange, and what refusals carry. */
@@ -312,7 +312,7 @@ static void numbers(void)
         IS(mcp_peek(&line, n, out.buf, 63, &out.message) == 20 && mcp_get(&line, n, out.buf, 63, &out.message) == 20);
         IS(mcp_chip_send(&chip, n, &out.frame) == 20 && mcp_chip_held(&chip, n, &out.word) == 20);
         IS(mcp_chip_held_at(&chip, n, 0, &out.frame) == 20);
-        IS(mcp_chip_deliver(&chip, n, &header, 0, bytes, 8, &out.word) == 20);
+        IS(mcp_chip_deliver(&chip, n, &header, 8, 0, bytes, 8, &out.word) == 20);
         f.fifo = n;
         IS(mcp_configure_filter(&line, 0, &f) == 20);
     }
@@ -472,6 +472,7 @@ static void header_fields(void)
         const mcp_fifo wide = { .size = 1, .plsize = 7, .transmit = 1 }, stamped = { .size = 1, .plsize = 7, .rxtsen = 1 };
         const mcp_header *h = &fields[i].header;
         size_t len = fields[i].len;
+        uint32_t dlc = fields[i].words[1] % 16;
         uint8_t object[72];
         mcp_header is; /* flags come back as 0 or 1 */
         memset(&is, 0, sizeof is);
@@ -488,22 +489,22 @@ static void header_fields(void)
         IS(!memcmp(object + 8, bytes, len));
         IS(mcp_chip_held_at(&chip, 1, 0, &out.frame) == 0);
         IS(out.frame.kind == MCP_FRAME && SAME(out.frame.header) && out.frame.seq == fields[i].seq && out.frame.len == len);
-        IS(!out.frame.stamped && !out.frame.time && !memcmp(out.frame.payload, bytes, len));
+        IS(out.frame.dlc == dlc && !out.frame.stamped && !out.frame.time && !memcmp(out.frame.payload, bytes, len));
         memset(&out.frame, 0x5A, sizeof out.frame);
         IS(mcp_chip_send(&chip, 1, &out.frame) == 0);
         IS(out.frame.kind == MCP_FRAME && SAME(out.frame.header) && out.frame.seq == fields[i].seq && out.frame.len == len);
-        IS(!out.frame.stamped && !out.frame.time && !memcmp(out.frame.payload, bytes, len));
-        IS(mcp_chip_send(&chip, 1, &out.frame) == 0 && out.frame.kind == MCP_NOTHING && out.frame.len == 0);
+        IS(out.frame.dlc == dlc && !out.frame.stamped && !out.frame.time && !memcmp(out.frame.payload, bytes, len));
+        IS(mcp_chip_send(&chip, 1, &out.frame) == 0 && out.frame.kind == MCP_NOTHING && out.frame.len == 0 && out.frame.dlc == 0);
 
-        IS(mcp_chip_deliver(&chip, 2, h, 0xA1B2C3D4, bytes, len, &out.word) == 0 && out.word == MCP_DELIVERED);
+        IS(mcp_chip_deliver(&chip, 2, h, dlc, 0xA1B2C3D4, bytes, len, &out.word) == 0 && out.word == MCP_DELIVERED);
         IS(mcp_chip_held_at(&chip, 2, 0, &out.frame) == 0);
         IS(out.frame.kind == MCP_FRAME && SAME(out.frame.header) && out.frame.seq == 0 && out.frame.len == len);
-        IS(out.frame.stamped == 1 && out.frame.time == 0xA1B2C3D4 && !memcmp(out.frame.payload, bytes, len));
+        IS(out.frame.dlc == dlc && out.frame.stamped == 1 && out.frame.time == 0xA1B2C3D4 && !memcmp(out.frame.payload, bytes, len));
         IS(mcp_has_next(&line, 2, &out.next) == 0 && out.next == 1);
         for (int get = 0; get < 2; get++) {
             fresh();
             IS((get ? mcp_get : mcp_peek)(&line, 2, out.buf, 72, &out.message) == 0);
-            IS(out.message.found == 1 && SAME(out.message.header) && out.message.len == len);
+            IS(out.message.found == 1 && SAME(out.message.header) && out.message.len == len && out.message.dlc == dlc);
             IS(out.message.stamped == 1 && out.message.time == 0xA1B2C3D4 && !memcmp(out.buf, bytes, len));
             for (size_t b = len; b < 72; b++)
                 IS(out.buf[b] == 0x5A);
@@ -514,7 +515,8 @@ static void header_fields(void)
         for (int get = 0; get < 2; get++) {
             memset(&out.message, 0x5A, sizeof out.message);
             IS((get ? mcp_get : mcp_peek)(&line, 2, out.buf, 72, &out.message) == 0);
-            IS(!out.message.found && !out.message.len && !out.message.stamped && !out.message.time && !out.message.header.id);
+            IS(!out.message.found && !out.message.len && !out.message.dlc && !out.message.stamped && !out.message.time);
+            IS(!out.message.header.id);
             IS(!memcmp(out.buf, before.buf, 72));
         }
         IS(mcp_chip_held_at(&chip, 2, 0, &out.frame) == 0 && out.frame.kind == MCP_NOTHING);
@@ -541,13 +543,13 @@ static void the_chip(void)
     IS(mcp_chip_held_at(&chip, 1, 2, &out.frame) == 0 && out.frame.kind == MCP_NOTHING);
     IS(mcp_chip_held_at(&chip, 1, 257, &out.frame) == 0 && out.frame.kind == MCP_NOTHING);
     /* Causes to turn a frame down, and what no push could carry. */
-    IS(mcp_chip_deliver(&chip, 1, &header, 0, bytes, 8, &out.word) == 0 && out.word == MCP_NOT_RECEIVING);
-    IS(mcp_chip_deliver(&chip, 3, &fd, 0, bytes, 12, &out.word) == 0 && out.word == MCP_TOO_LONG);
-    IS(mcp_chip_deliver(&chip, 3, &header, 0, bytes, 8, &out.word) == 0 && out.word == MCP_DELIVERED);
-    IS(mcp_chip_deliver(&chip, 3, &header, 0, bytes, 8, &out.word) == 0 && out.word == MCP_FULL);
-    IS(mcp_chip_deliver(&chip, 3, &header, 0, bytes, 9, &out.word) == 22);
+    IS(mcp_chip_deliver(&chip, 1, &header, 8, 0, bytes, 8, &out.word) == 0 && out.word == MCP_NOT_RECEIVING);
+    IS(mcp_chip_deliver(&chip, 3, &fd, 9, 0, bytes, 12, &out.word) == 0 && out.word == MCP_TOO_LONG);
+    IS(mcp_chip_deliver(&chip, 3, &header, 8, 0, bytes, 8, &out.word) == 0 && out.word == MCP_DELIVERED);
+    IS(mcp_chip_deliver(&chip, 3, &header, 8, 0, bytes, 8, &out.word) == 0 && out.word == MCP_FULL);
+    IS(mcp_chip_deliver(&chip, 3, &header, 9, 0, bytes, 9, &out.word) == 22);
     IS(mcp_set_op_mode(&line, 4) == 0);
-    IS(mcp_chip_deliver(&chip, 3, &header, 0, bytes, 8, &out.word) == 0 && out.word == MCP_IN_CONFIGURATION);
+    IS(mcp_chip_deliver(&chip, 3, &header, 8, 0, bytes, 8, &out.word) == 0 && out.word == MCP_IN_CONFIGURATION);
     /* 22 messages of 64 bytes, with the others' 2 x 76 + 2 x 16, do not fit: 27 on the chip's side, 12 on the driver's. */
     IS(mcp_chip_no_layout(&chip, &out.word) == 0 && out.word == 0);
     IS(mcp_configure_fifo(&line, 1, &deep) == 0 && mcp_set_op_mode(&line, 0) == 12);
@@ -562,19 +564,19 @@ static void the_chip(void)
     IS(!memcmp(whole, all_of_it, 2048));
 }
 
-/* Whether a frame is sorted so: with an identifier and a payload's length, FD above 9 bytes. */
+/* Whether a frame is sorted so: with an identifier and a payload's length, FD above 9 bytes; DLC 9 above 8. */
 static int comes_to(uint32_t id, size_t len, uint32_t turned_down, uint32_t fifo, uint32_t taken_by)
 {
     const mcp_header h = { .id = id, .fdf = len > 9 };
-    return mcp_chip_sort(&chip, &h, 7, bytes, len, &out.sorted) == 0 && out.sorted.turned_down == turned_down && out.sorted.fifo == fifo &&
-           out.sorted.filter == taken_by;
+    return mcp_chip_sort(&chip, &h, len > 8 ? 9 : (uint32_t)len, 7, bytes, len, &out.sorted) == 0 && out.sorted.turned_down == turned_down &&
+           out.sorted.fifo == fifo && out.sorted.filter == taken_by;
 }
 
 static int refused_by(uint32_t id, size_t len)
 {
     const mcp_header h = { .id = id, .fdf = len > 9 };
     fresh();
-    int r = mcp_chip_sort(&chip, &h, 7, bytes, len, &out.sorted);
+    int r = mcp_chip_sort(&chip, &h, len > 8 ? 9 : (uint32_t)len, 7, bytes, len, &out.sorted);
     IS(untouched());
     return r;
 }
@@ -602,6 +604,95 @@ static void sorting(void)
     IS(refused_by(0x423, 12) == MCP_DEVICE_NET && refused_by(0x423, 9) == MCP_BAD_PAYLOAD && refused_by(0x800, 9) == MCP_BAD_IDENTIFIER);
 }
 
+/* Whether a DLC means so many bytes: a classic frame has 8 at most; there is none above 15. */
+static int is_meant(uint32_t dlc, int fdf, size_t len)
+{
+    static const uint8_t lengths[16] = { 0, 1, 2, 3, 4, 5, 6, 7, 8, 12, 16, 20, 24, 32, 48, 64 };
+    return dlc < 16 && len == (fdf || dlc < 8 ? lengths[dlc] : 8u);
+}
+
+/* Whether a peek or a get on FIFO 3 finds a classic message with this DLC and length. */
+static int finds(int (*call)(const mcp_line *, uint32_t, uint8_t *, size_t, mcp_message *), uint32_t dlc, size_t len)
+{
+    fresh();
+    return call(&line, 3, out.buf, 72, &out.message) == 0 && out.message.found == 1 && out.message.header.id == 0x123 &&
+           !out.message.header.fdf && !out.message.stamped && out.message.dlc == dlc && out.message.len == len &&
+           !memcmp(out.buf + len, before.buf + len, 72 - len);
+}
+
+/* Document 02: 22 where the payload is not as long as the DLC means, or the DLC is above 15; otherwise the message that is held, looked
+ * at and taken has the DLC that the frame brought. */
+static void arrives(uint32_t dlc, int fdf, size_t len, int by_filter, view kept)
+{
+    static const uint8_t payload[72] = { 1, 2, 3, 4, 5, 6, 7, 8, 9, [15] = 16, [19] = 20, [23] = 24, [31] = 32, [47] = 48, [63] = 64 };
+    const mcp_header h = { .id = 0x123, .fdf = (uint8_t)fdf };
+    fresh();
+    int r = by_filter ? mcp_chip_sort(&chip, &h, dlc, 0xA1B2C3D4, payload, len, &out.sorted)
+                      : mcp_chip_deliver(&chip, 2, &h, dlc, 0xA1B2C3D4, payload, len, &out.word);
+    if (!is_meant(dlc, fdf, len)) {
+        IS(r == MCP_BAD_PAYLOAD && untouched() && is_same(kept));
+        return;
+    }
+    IS(r == 0 && (by_filter ? out.sorted.turned_down : out.word) == MCP_DELIVERED && held(2) == 1);
+    IS(mcp_chip_held_at(&chip, 2, 0, &out.frame) == 0 && out.frame.kind == MCP_FRAME && out.frame.header.fdf == fdf);
+    IS(out.frame.dlc == dlc && out.frame.len == len && !memcmp(out.frame.payload, payload, len));
+    for (int get = 0; get < 2; get++) {
+        fresh();
+        IS((get ? mcp_get : mcp_peek)(&line, 2, out.buf, 72, &out.message) == 0 && out.message.found == 1);
+        IS(out.message.dlc == dlc && out.message.len == len && out.message.header.fdf == fdf && out.message.header.id == 0x123);
+        IS(!memcmp(out.buf, payload, len) && !memcmp(out.buf + len, before.buf + len, 72 - len));
+    }
+    IS(held(2) == 0);
+}
+
+static void every_dlc(void)
+{
+    /* 264 is 8 in a byte */
+    static const uint32_t dlcs[] = { 0, 1, 2, 3, 4, 5, 6, 7, 8, 9, 10, 11, 12, 13, 14, 15, 16, 17, 31, 255, 256, 264, 0x10008, 0xFFFFFFFF };
+    prepare();
+    IS(mcp_configure_filter(&line, 0, &filter) == 0 && mcp_get(&line, 2, out.buf, 72, &out.message) == 0);
+    const mcp_chip ready = chip;
+    const view kept = looked_at();
+    for (size_t i = 0; i < sizeof dlcs / sizeof *dlcs; i++)
+        for (size_t len = 0; len <= 72; len++)
+            for (int k = 0; k < 4; k++) {
+                chip = ready;
+                arrives(dlcs[i], k % 2, len, k / 2, kept);
+            }
+}
+
+/* Classic DLCs of 9 to 15 where no frame brought them, and beside what else is refused or turned down; none of them is ever sent. */
+static void classic_dlcs(void)
+{
+    const mcp_header far = { .id = 0x800 };
+    prepare();
+    /* 20, 21, 22 in this order; FIFO 3 has slots for 8 bytes. */
+    IS(mcp_chip_deliver(&chip, 0, &far, 16, 0, bytes, 8, &out.word) == 20);
+    IS(mcp_chip_deliver(&chip, 3, &far, 16, 0, bytes, 8, &out.word) == 21);
+    IS(mcp_chip_deliver(&chip, 3, &header, 16, 0, bytes, 8, &out.word) == 22 && untouched());
+    IS(mcp_chip_deliver(&chip, 3, &header, 15, 0, bytes, 8, &out.word) == 0 && out.word == MCP_DELIVERED);
+    IS(mcp_chip_deliver(&chip, 3, &header, 15, 0, bytes, 8, &out.word) == 0 && out.word == MCP_FULL);
+    IS(finds(mcp_get, 5, 5) && finds(mcp_get, 15, 8) && !memcmp(out.buf, bytes, 8));
+    for (uint32_t dlc = 9; dlc <= 15; dlc++) {
+        /* Left by a raw write in word 1 of FIFO 3's oldest, behind 4 x 16 and 2 x 76 bytes: 8 bytes, of which 5 were delivered. */
+        const uint8_t word[4] = { (uint8_t)dlc, 0, 0, 0 }, padded[8] = { 1, 2, 3, 4, 5, 0, 0, 0 };
+        prepare();
+        IS(mcp_write_ram(&line, 0x400 + 64 + 152 + 4, word, 4) == 0 && mcp_chip_held_at(&chip, 3, 0, &out.frame) == 0);
+        IS(out.frame.kind == MCP_FRAME && out.frame.dlc == dlc && out.frame.len == 8 && !memcmp(out.frame.payload, padded, 8));
+        IS(finds(mcp_peek, dlc, 8) && finds(mcp_get, dlc, 8) && !memcmp(out.buf, padded, 8) && held(3) == 0);
+    }
+    /* A push writes DLC 8 at most, and refuses what is longer before any exchange. */
+    for (size_t len = 0; len <= 64; len++) {
+        prepare();
+        if (len > 8) {
+            IS(mcp_push(&line, 1, &header, 5, bytes, len) == 22 && exchanges == 0);
+            continue;
+        }
+        IS(mcp_push(&line, 1, &header, 5, bytes, len) == 0 && mcp_request(&line, 1) == 0 && mcp_chip_send(&chip, 1, &out.frame) == 0);
+        IS(out.frame.kind == MCP_FRAME && out.frame.dlc == len && out.frame.len == len);
+    }
+}
+
 int main(void)
 {
     failing();
@@ -614,6 +705,8 @@ int main(void)
     header_fields();
     the_chip();
     sorting();
+    every_dlc();
+    classic_dlcs();
     printf("calls: %lu looked at, all as written down\n", looked);
     return 0;
 }

@@ -21,6 +21,7 @@ pub struct CFrame {
     kind: u8,
     stamped: u8,
     len: u8,
+    dlc: u8,
     payload: [u8; 64],
 }
 
@@ -33,7 +34,7 @@ pub struct CSorted {
 
 layout! {
     CChip 2800, words 0;
-    CFrame 88, header 0, seq 12, time 16, kind 20, stamped 21, len 22, payload 23;
+    CFrame 88, header 0, seq 12, time 16, kind 20, stamped 21, len 22, dlc 23, payload 24;
     CSorted 12, turned_down 0, fifo 4, filter 8;
 }
 
@@ -44,7 +45,7 @@ const NO_FRAME: u8 = 2;
 
 impl CFrame {
     fn none(kind: u8) -> CFrame {
-        CFrame { header: CHeader::default(), seq: 0, time: 0, kind, stamped: 0, len: 0, payload: [0; 64] }
+        CFrame { header: CHeader::default(), seq: 0, time: 0, kind, stamped: 0, len: 0, dlc: 0, payload: [0; 64] }
     }
 
     fn of(frame: Frame) -> CFrame {
@@ -59,6 +60,7 @@ impl CFrame {
             kind: FRAME,
             stamped,
             len: frame.payload.len as u8,
+            dlc: frame.dlc,
             payload: frame.payload.bytes,
         }
     }
@@ -154,6 +156,7 @@ pub unsafe extern "C" fn mcp_chip_deliver(
     p: *mut CChip,
     fifo: u32,
     header: *const CHeader,
+    dlc: u32,
     time: u32,
     payload: *const u8,
     len: usize,
@@ -162,7 +165,7 @@ pub unsafe extern "C" fn mcp_chip_deliver(
     (|| {
         there(turned_down)?;
         let (header, payload) = (header.as_ref()?.header(), bytes(payload, len)?);
-        Some(told(why(chip(p)?.deliver(fifo, header, time, payload)), turned_down))
+        Some(told(why(chip(p)?.deliver(fifo, header, dlc, time, payload)), turned_down))
     })()
     .unwrap_or(NULL)
 }
@@ -171,6 +174,7 @@ pub unsafe extern "C" fn mcp_chip_deliver(
 pub unsafe extern "C" fn mcp_chip_sort(
     p: *mut CChip,
     header: *const CHeader,
+    dlc: u32,
     time: u32,
     payload: *const u8,
     len: usize,
@@ -179,7 +183,7 @@ pub unsafe extern "C" fn mcp_chip_sort(
     (|| {
         there(sorted)?;
         let (header, payload) = (header.as_ref()?.header(), bytes(payload, len)?);
-        let s = chip(p)?.sort(header, time, payload);
+        let s = chip(p)?.sort(header, dlc, time, payload);
         Some(told(why(s.delivery).map(|turned_down| CSorted { turned_down, fifo: s.fifo, filter: s.filter }), sorted))
     })()
     .unwrap_or(NULL)

@@ -1,7 +1,8 @@
 /* junk [CALLS [SEED]]: random calls with random numbers, NULLs and lengths over a line that fails, answers junk, fills only part of what
  * was wanted, and otherwise is the modelled chip. No call may panic (which ends the program), send what is no instruction, go on after
- * a failed exchange, change a byte where it is refused, write outside what it was lent, or answer what documents 01 and 02 do not have for it.
- * Prints how often each number was answered. */
+ * a failed exchange, change a byte where it is refused, write outside what it was lent, tell a message whose length is not what its DLC
+ * means, or answer what documents 01 and 02 do not have for it. Prints how often each number was answered, and how many classic
+ * messages with a DLC above 8 were found. */
 #include "masevuru.h"
 #include <stdio.h>
 #include <stdlib.h>
@@ -92,7 +93,7 @@ static int is_answer(int call, int r)
         [FIFO] = { { 1 }, { 20, 24 } }, [FILTER] = { { 1 }, { 20, 21, 24 } }, [DISABLE] = { { 1 }, { 20 } },
         [PUSH] = { { 1, 2 }, { 20, 21, 24, 22, 6, 7, 8, 25, 3 } }, [REQUEST] = { { 1 }, { 20 } },
         [TRANSMIT] = { { 1, 2 }, { 20, 21, 24, 22, 6, 7, 8, 25, 3 } }, [HAS_NEXT] = { { 1 }, { 20, 9 } },
-        [PEEK] = { { 1 }, { 20, 28, 9, 25, 3, 23 } }, [GET] = { { 1 }, { 20, 28, 9, 25, 3, 23 } },
+        [PEEK] = { { 1 }, { 20, 28, 9, 25, 3 } }, [GET] = { { 1 }, { 20, 28, 9, 25, 3 } },
         [SEND] = { { 0 }, { 20 } }, [DELIVER] = { { 0 }, { 20, 21, 22 } }, [SORT] = { { 0 }, { 21, 22, 31, 30 } },
         [HELD] = { { 0 }, { 20 } }, [HELD_AT] = { { 0 }, { 20 } },
     };
@@ -107,6 +108,15 @@ static int is_answer(int call, int r)
 static int is_first(int call, int r)
 {
     return r == 20 || r == 21 || r == 22 || r == 24 || r == 28 || r == 4 || r == 5 || (r == 3 && (call == READ_RAM || call == WRITE_RAM));
+}
+
+/* What DLC 0 to 15 mean in an FD frame; a classic one has 8 bytes at most. */
+static const uint8_t lengths[16] = { 0, 1, 2, 3, 4, 5, 6, 7, 8, 12, 16, 20, 24, 32, 48, 64 };
+
+static uint8_t meant(uint8_t dlc, uint8_t fdf)
+{
+    IS(dlc < 16);
+    return fdf || dlc < 8 ? lengths[dlc] : 8;
 }
 
 /* A chip outside Configuration with four FIFOs, two of which send, so that calls have something to do. */
@@ -142,8 +152,7 @@ static struct {
 
 int main(int argc, char **argv)
 {
-    unsigned long calls = argc > 1 ? strtoul(argv[1], NULL, 0) : 100000, counts[33] = { 0 };
-    static const uint8_t lengths[16] = { 0, 1, 2, 3, 4, 5, 6, 7, 8, 12, 16, 20, 24, 32, 48, 64 };
+    unsigned long calls = argc > 1 ? strtoul(argv[1], NULL, 0) : 100000, counts[33] = { 0 }, coded = 0;
     static uint8_t from[4096];
     if (argc > 2)
         seed ^= strtoull(argv[2], NULL, 0);
@@ -156,7 +165,7 @@ int main(int argc, char **argv)
         mcp_settings settings;
         mcp_fifo fifo;
         mcp_filter filter;
-        uint32_t a = number(), b = number(), c = number();
+        uint32_t a = number(), b = number(), c = number(), dlc = number();
         size_t len = next() % 2 ? next() % 68 : next() % 4096;
         size_t lent = next() % 32 ? len : (size_t)-1 - next() % 3; /* longer than any object is told as NULL is */
         uint8_t *p = next() % 32 ? out.to : NULL;
@@ -191,7 +200,9 @@ int main(int argc, char **argv)
             b %= 0x800000;
             a %= next() % 2 ? 6 : next() % 2 ? 34 : 0x1000;
             if (next() % 2) header.fdf = header.extended = 0;
-            if (lent == len && (call == PUSH || call == TRANSMIT || call == DELIVER || call == SORT)) lent = len = lengths[next() % 16];
+            dlc %= 16;
+            if (lent == len && (call == PUSH || call == TRANSMIT)) lent = len = lengths[dlc];
+            if (lent == len && (call == DELIVER || call == SORT)) lent = len = meant((uint8_t)dlc, header.fdf);
             if (lent == len && (call == PEEK || call == GET)) lent = len |= 64;
         }
         no_to = lent && (!p || lent != len), no_from = lent && (!q || lent != len);
@@ -226,8 +237,8 @@ int main(int argc, char **argv)
         case PEEK: r = mcp_peek(l, a, p, lent, m); none |= !m || no_to; break;
         case GET: r = mcp_get(l, a, p, lent, m); none |= !m || no_to; break;
         case SEND: r = mcp_chip_send(&chip, a, f); none |= !f; break;
-        case DELIVER: r = mcp_chip_deliver(&chip, a, h, c, q, lent, w); none |= !h || !w || no_from; break;
-        case SORT: r = mcp_chip_sort(&chip, h, c, q, lent, s); none |= !h || !s || no_from; break;
+        case DELIVER: r = mcp_chip_deliver(&chip, a, h, dlc, c, q, lent, w); none |= !h || !w || no_from; break;
+        case SORT: r = mcp_chip_sort(&chip, h, dlc, c, q, lent, s); none |= !h || !s || no_from; break;
         case HELD: r = mcp_chip_held(&chip, a, w); none |= !w; break;
         default: r = mcp_chip_held_at(&chip, a, b, f); none |= !f; break;
         }
@@ -249,12 +260,17 @@ int main(int argc, char **argv)
             size_t filled = call == READ_RAM ? len : 0;
             if (call == PEEK || call == GET) {
                 IS(len >= 64 && out.message.found <= 1 && out.message.stamped <= out.message.found);
-                IS(out.message.len <= 64 * out.message.found);
+                IS(out.message.found || !out.message.dlc);
+                IS(out.message.len == meant(out.message.dlc, out.message.header.fdf));
+                coded += !out.message.header.fdf && out.message.dlc > 8;
                 filled = out.message.len;
             }
             IS(!memcmp(out.to + filled, before.to + filled, sizeof out.to - filled));
             IS(call == HAS_NEXT ? out.flag <= 1 : out.flag == 0x5A);
-            IS((call != SEND && call != HELD_AT) || (out.frame.kind <= MCP_NO_FRAME && out.frame.len <= 64));
+            if (call == SEND || call == HELD_AT) {
+                IS(out.frame.kind <= MCP_NO_FRAME && (out.frame.kind == MCP_FRAME || !out.frame.dlc));
+                IS(out.frame.len == meant(out.frame.dlc, out.frame.header.fdf));
+            }
             IS(call != SORT || (out.sorted.turned_down <= MCP_FULL && out.sorted.fifo < 32 && out.sorted.filter < 32));
             IS((call != DELIVER || out.word <= MCP_FULL) && (call != HELD || out.word <= 32) && (call != GET_MODE || out.word <= 7));
             IS(out.value == before.value);
@@ -263,5 +279,6 @@ int main(int argc, char **argv)
     }
     for (int r = 0; r < 33; r++)
         if (counts[r]) printf("%d: %lu\n", r - 1, counts[r]);
+    printf("classic, DLC above 8: %lu\n", coded);
     return 0;
 }

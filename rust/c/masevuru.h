@@ -40,8 +40,8 @@ enum {
     MCP_PLL_NOT_READY = 14,              /* three polls without PLLRDY */
     MCP_BAD_NUMBER = 20,                 /* FIFO not 1 to 31, filter not 0 to 31 */
     MCP_BAD_IDENTIFIER = 21,             /* standard above 0x7FF, extended above 0x1FFFFFFF */
-    MCP_BAD_PAYLOAD = 22,                /* a length that no message has */
-    MCP_BAD_DLC = 23,                    /* a classic frame was received with a DLC above 8 */
+    MCP_BAD_PAYLOAD = 22,                /* a length that no message has; of a frame that arrives: not its DLC's, or a DLC above 15 */
+    /* 23 is given no more: a classic frame with a DLC above 8 is received, with 8 bytes */
     MCP_BAD_SETTING = 24,                /* FIFO size 0, or a number wider than its field */
     MCP_BAD_USER_ADDRESS = 25,           /* the chip's user address is above 0xFBFF */
     MCP_WRONG_ANSWER = 26,               /* never answered here: the loop gives each answer as it was asked for */
@@ -79,11 +79,12 @@ typedef struct {
 } mcp_header;
 
 /* What peek and get found. found is 0, as everything else, where the FIFO holds no message; time is that of a FIFO with timestamps
- * (stamped); the payload is the first len bytes of the buffer that was lent, whose other bytes stay. */
+ * (stamped); the payload is the first len bytes of the buffer that was lent, whose other bytes stay. dlc is the DLC as it was received, 0 to
+ * 15: a classic frame with 9 to 15 has a len of 8. */
 typedef struct {
     mcp_header header;
     uint32_t time;
-    uint8_t found, stamped, len;
+    uint8_t found, stamped, len, dlc;
 } mcp_message;
 
 /* divide: the system clock is half of the oscillator's or the PLL's. */
@@ -169,7 +170,7 @@ int mcp_transmit(const mcp_line *line, uint32_t fifo, const mcp_header *header, 
 int mcp_has_next(const mcp_line *line, uint32_t fifo, uint8_t *next);                                   /* 20; 9 */
 /* The oldest message, which stays in the FIFO, or is taken from it. buf has 64 bytes, also for shorter messages. Where a get is refused the
  * FIFO still holds the message. */
-int mcp_peek(const mcp_line *line, uint32_t fifo, uint8_t *buf, size_t room, mcp_message *message);     /* 20, 28; 9, 25, 3, 23 */
+int mcp_peek(const mcp_line *line, uint32_t fifo, uint8_t *buf, size_t room, mcp_message *message);     /* 20, 28; 9, 25, 3 */
 int mcp_get(const mcp_line *line, uint32_t fifo, uint8_t *buf, size_t room, mcp_message *message);      /* as peek */
 
 /* The modelled chip, to test your own code against: in a library built with the feature chip. A chip is plain memory of the caller's, and
@@ -187,26 +188,27 @@ void mcp_chip_wait(void *chip, uint32_t microseconds);
 enum {
     MCP_NOTHING = 0, /* nothing was sent, nothing is held there */
     MCP_FRAME = 1,
-    MCP_NO_FRAME = 2 /* a message that no frame can be: a classic DLC above 8, or a payload beyond the slot */
+    MCP_NO_FRAME = 2 /* a message that no frame can be: a classic one to send with a DLC above 8, or a payload beyond the slot */
 };
 typedef struct {
     mcp_header header;
     uint32_t seq, time;
-    uint8_t kind, stamped, len, payload[64];
+    uint8_t kind, stamped, len, dlc, payload[64];
 } mcp_frame;
 
 /* The chip sends the oldest message of a FIFO, if sending is requested there. */
 int mcp_chip_send(mcp_chip *chip, uint32_t fifo, mcp_frame *frame);                                     /* 20 */
 
-/* A frame arrives for a FIFO. */
+/* A frame arrives for a FIFO. Its payload is as long as its DLC means: DLC 0 to 8 as many bytes, 9 to 15 in an FD frame 12, 16, 20, 24, 32,
+ * 48 or 64, in a classic one 8. */
 enum { MCP_DELIVERED = 0, MCP_IN_CONFIGURATION = 1, MCP_NOT_RECEIVING = 2, MCP_TOO_LONG = 3, MCP_FULL = 4 };
-int mcp_chip_deliver(mcp_chip *chip, uint32_t fifo, const mcp_header *header, uint32_t time,
+int mcp_chip_deliver(mcp_chip *chip, uint32_t fifo, const mcp_header *header, uint32_t dlc, uint32_t time,
                      const uint8_t *payload, size_t len, uint32_t *turned_down);                        /* 20, 21, 22 */
 
-/* A frame arrives, and the filters sort it: the lowest-numbered enabled one that matches gives it to its FIFO. turned_down is as above;
- * fifo and filter are those that the frame was for, also where it was turned down. */
+/* A frame arrives, and the filters sort it: the lowest-numbered enabled one that matches gives it to its FIFO. dlc and turned_down are
+ * as above; fifo and filter are those that the frame was for, also where it was turned down. */
 typedef struct { uint32_t turned_down, fifo, filter; } mcp_sorted;
-int mcp_chip_sort(mcp_chip *chip, const mcp_header *header, uint32_t time,
+int mcp_chip_sort(mcp_chip *chip, const mcp_header *header, uint32_t dlc, uint32_t time,
                   const uint8_t *payload, size_t len, mcp_sorted *sorted);                              /* 21, 22, 31, 30 */
 
 /* How many messages a FIFO holds, and the one k places behind the oldest, decoded from the chip's RAM. */
@@ -225,7 +227,7 @@ MCP_LAYOUT(mcp_line, 4 * sizeof(void *), MCP_AT(mcp_line, transfer, 0) && MCP_AT
 MCP_LAYOUT(mcp_header, 12, MCP_AT(mcp_header, id, 0) && MCP_AT(mcp_header, extended, 4) && MCP_AT(mcp_header, rtr, 5) &&
     MCP_AT(mcp_header, brs, 6) && MCP_AT(mcp_header, fdf, 7) && MCP_AT(mcp_header, esi, 8));
 MCP_LAYOUT(mcp_message, 20, MCP_AT(mcp_message, header, 0) && MCP_AT(mcp_message, time, 12) && MCP_AT(mcp_message, found, 16) &&
-    MCP_AT(mcp_message, stamped, 17) && MCP_AT(mcp_message, len, 18));
+    MCP_AT(mcp_message, stamped, 17) && MCP_AT(mcp_message, len, 18) && MCP_AT(mcp_message, dlc, 19));
 MCP_LAYOUT(mcp_oscillator, 2, MCP_AT(mcp_oscillator, pll, 0) && MCP_AT(mcp_oscillator, divide, 1));
 MCP_LAYOUT(mcp_io, 4, MCP_AT(mcp_io, xstbyen, 0) && MCP_AT(mcp_io, txcanod, 1) && MCP_AT(mcp_io, sof, 2) && MCP_AT(mcp_io, intod, 3));
 MCP_LAYOUT(mcp_nominal, 16, MCP_AT(mcp_nominal, brp, 0) && MCP_AT(mcp_nominal, tseg1, 4) && MCP_AT(mcp_nominal, tseg2, 8) &&
@@ -245,7 +247,8 @@ MCP_LAYOUT(mcp_filter, 24, MCP_AT(mcp_filter, fifo, 0) && MCP_AT(mcp_filter, mod
     MCP_AT(mcp_filter, mask, 16));
 MCP_LAYOUT(mcp_chip, 2800, MCP_AT(mcp_chip, words, 0));
 MCP_LAYOUT(mcp_frame, 88, MCP_AT(mcp_frame, header, 0) && MCP_AT(mcp_frame, seq, 12) && MCP_AT(mcp_frame, time, 16) &&
-    MCP_AT(mcp_frame, kind, 20) && MCP_AT(mcp_frame, stamped, 21) && MCP_AT(mcp_frame, len, 22) && MCP_AT(mcp_frame, payload, 23));
+    MCP_AT(mcp_frame, kind, 20) && MCP_AT(mcp_frame, stamped, 21) && MCP_AT(mcp_frame, len, 22) && MCP_AT(mcp_frame, dlc, 23) &&
+    MCP_AT(mcp_frame, payload, 24));
 MCP_LAYOUT(mcp_sorted, 12, MCP_AT(mcp_sorted, turned_down, 0) && MCP_AT(mcp_sorted, fifo, 4) && MCP_AT(mcp_sorted, filter, 8));
 #undef MCP_LAYOUT
 #undef MCP_AT
