@@ -130,14 +130,7 @@ pub fn give(
     appended(m, n, payload.len(), &object[..len])
 }
 
-pub fn deliver(
-    m: Model,
-    n: u32,
-    header: Header,
-    dlc: u32,
-    time: u32,
-    payload: &[u8],
-) -> Delivered
+pub fn deliver(m: Model, n: u32, header: Header, dlc: u32, time: u32, payload: &[u8]) -> Delivered
     ensures { λ r. ⌜ r ≡ deliverOf m n header dlc time (now (payload .entry)) ⌝ }
 {
     if !fifo::is_fifo(n) {

@@ -301,8 +301,7 @@ pub always-holds : AlwaysHolds
 unfolding decoding messageIn lengthIn
 always-holds stamped b h =
     let w : ℕ = leAt b 4 in
-    let n : ℕ = receivedLength (flag FDF w) (read DLC w) in
-    (
+    let n : ℕ = receivedLength (flag FDF w) (read DLC w) in (
       messageIn false stamped n b,
       rw (le-ltb (length b) (bodyAt stamped) (omega arith), le-leb (bodyAt stamped + n) (length b) h),
       cut false stamped b n h,
