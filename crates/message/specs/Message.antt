@@ -100,6 +100,7 @@ unfoldable pub lengthIn : (sending fdf : Bool) → ℕ → Length
 lengthIn true fdf d = lengthOf fdf d
 lengthIn false fdf d = Length.Is (receivedLength fdf d)
 
+-- bytes with a payload of such a length; without a length they are no frame
 abbrev pub byLength : Length → (sending stamped : Bool) → List ℕ → Decoding
 byLength (Length.Is n) sending stamped b =
     if leb (bodyAt stamped + n) (length b) then holds (messageIn sending stamped n b) else short
