@@ -27,7 +27,7 @@ use Rattle.message.specs.Structs.{encodedAs}
 use Rattle.message.specs.declared.object.Stamp.{Stamp}
 use Rattle.message.specs.Message.{Message, byDlc, checkOf, Encoding, coded, encoding}
 use Rattle.message.specs.Laws.{Suits}
-use Rattle.message.proofs.Round.{lengths-hold, own-dlc, round-trip}
+use Rattle.message.proofs.Round.{lengths-hold, round-trip}
 use Rattle.operation.specs.declared.place.Register.{Register}
 use Rattle.call.specs.declared.Outcome.{Outcome}
 use Rattle.plan.specs.Plan.{Plan}
@@ -112,7 +112,7 @@ module _ (c : Model) (o : Sound c) (n : ℕ) (header : Header) (seq : ℕ) (payl
       let x = g .0 in
       let suits : Suits (sending (frozenAt c n)) (stamped (frozenAt c n)) sent
       = rw (x .tx, not-stamped (frozenAt c n) (x .tx)) (record { seq = refl; stamp = tt }) in
-      (record { word = x .word; tx = x .tx; fits = x .fits }, g .1, filled-item c o n i (g .1) bs (x .fits) sent (λ r. round-trip (sending (frozenAt c n)) (stamped (frozenAt c n)) sent bs r coded (own-dlc header seq Stamp.None payload bs coded) suits))
+      (record { word = x .word; tx = x .tx; fits = x .fits }, g .1, filled-item c o n i (g .1) bs (x .fits) sent (λ r. round-trip (sending (frozenAt c n)) (stamped (frozenAt c n)) header seq Stamp.None payload bs r coded suits))
 
   -- v is the FIFO with its new control word
   pub uinc-told : (w : ℕ) → PushMid c n sent bs (PushAt.Commit w)

@@ -62,8 +62,12 @@ torqueBytes = 0x10 ∷ 0x27 ∷ 0x00 ∷ 0x01 ∷ []
 abbrev pub feedback : Header
 feedback = record { extended = true; id = 0x18DA00F1; rtr = false; brs = false; fdf = false; esi = false }
 
+-- a classic frame has 8 bytes where its DLC is above 8
+abbrev pub feedbackDlc : ℕ
+feedbackDlc = 12
+
 abbrev pub feedbackBytes : List ℕ
-feedbackBytes = 1 ∷ 2 ∷ 3 ∷ []
+feedbackBytes = 1 ∷ 2 ∷ 3 ∷ 4 ∷ 5 ∷ 6 ∷ 7 ∷ 8 ∷ []
 
 -- the buffer that is lent to the get
 abbrev pub buffer : List ℕ
@@ -74,14 +78,14 @@ buffer = replicate 64 0xFF
 abbrev pub story : Event → List Event
 story e =
     Begin (Push 1 torque 5 torqueBytes) ∷ Exchange ∷ Exchange ∷ On (Send 1) ∷ Exchange ∷ e ∷ Exchange
-    ∷ Begin (Request 1) ∷ Exchange ∷ Exchange ∷ On (Send 1) ∷ On (Deliver 2 feedback 3 77 feedbackBytes)
+    ∷ Begin (Request 1) ∷ Exchange ∷ Exchange ∷ On (Send 1) ∷ On (Deliver 2 feedback feedbackDlc 77 feedbackBytes)
     ∷ Begin (Get 2 buffer) ∷ Exchange ∷ Exchange ∷ Exchange ∷ Exchange ∷ Exchange ∷ Exchange ∷ Exchange ∷ Exchange ∷ Exchange ∷ []
 
 -- ---- what is said
 
 -- the frame as FIFO 2 receives it
 abbrev pub received : Message
-received = record { header = feedback; dlc = 3; seq = 0; stamp = Stamp.At 77; payload = feedbackBytes }
+received = record { header = feedback; dlc = feedbackDlc; seq = 0; stamp = Stamp.At 77; payload = feedbackBytes }
 
 -- what the push ends with, and what the send after the request then finds
 abbrev pub saying : Outcome → Output → List Said

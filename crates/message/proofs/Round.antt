@@ -134,26 +134,17 @@ means true fdf n d e = length-back fdf n d e
 means false fdf n d e = ap Length.Is (received-sent fdf n d (length-back fdf n d e))
 
 pub round-trip : RoundTrip
-round-trip sending stamped m bs r e o s =
+round-trip sending stamped h seq stamp p bs r e s =
+    let m = toWrite h seq stamp p in
     let c = is-coded m bs e in
-    let g = sound (m .header) (m .seq) (length (m .payload)) (c .dlc) (c .checked) in
-    let d : c .dlc ≡ m .dlc = dlc-same (sym (g .dlc) ∙ o) in
-    let small = dlc-16 (m .header .fdf) (length (m .payload)) (m .dlc) o in
-    ap (λ (b : List ℕ). decoding sending stamped (b ++ r)) (sym (c .bytes) ∙ ap (bytesOf m) d)
-    ∙ returns sending stamped m (word1 (m .header) (m .seq) (m .dlc)) r (g .id) (means sending (m .header .fdf) (length (m .payload)) (m .dlc) o)
-    (word1-says (m .header) (m .dlc) small (m .seq) (g .seq-fits))
-    (ap (λ (x : ℕ). if sending then x else 0) (seq-field (m .header) (m .dlc) small (m .seq) (g .seq-fits)) ∙ s .seq) (s .stamp)
-  where
-    dlc-same : {x y : ℕ} → Dlc.Is x ≡ Dlc.Is y → x ≡ y
-    dlc-same e = cc
-
--- a message to write has the DLC of its payload's length
-pub own-dlc : (h : Header) (seq : ℕ) (s : Stamp) (p bs : List ℕ) → encoding (toWrite h seq s p) ≡ object bs
-    → dlcOf (h .fdf) (length p) ≡ Dlc.Is (toWrite h seq s p .dlc)
-own-dlc h seq s p bs e =
-    let c = is-coded (toWrite h seq s p) bs e in
-    let d = sound h seq (length p) (c .dlc) (c .checked) .dlc in
-    d ∙ ap Dlc.Is (sym (ap codeOr0 d))
+    let g = sound h seq (length p) (c .dlc) (c .checked) in
+    let own : m .dlc ≡ c .dlc = ap codeOr0 (g .dlc) in
+    let is : dlcOf (h .fdf) (length p) ≡ Dlc.Is (m .dlc) = g .dlc ∙ ap Dlc.Is (sym own) in
+    let small = dlc-16 (h .fdf) (length p) (m .dlc) is in
+    ap (λ (b : List ℕ). decoding sending stamped (b ++ r)) (sym (c .bytes) ∙ ap (bytesOf m) (sym own))
+    ∙ returns sending stamped m (word1 h seq (m .dlc)) r (g .id) (means sending (h .fdf) (length p) (m .dlc) is)
+    (word1-says h (m .dlc) small seq (g .seq-fits))
+    (ap (λ (x : ℕ). if sending then x else 0) (seq-field h (m .dlc) small seq (g .seq-fits)) ∙ s .seq) (s .stamp)
 
 pub arrival-trip : ArrivalTrip
 unfolding arriving lengthIn

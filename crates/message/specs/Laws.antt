@@ -17,7 +17,7 @@ use Rattle.spi.specs.Refusals.{doneNumbers}
 use Rattle.header.specs.Dlc.{dlcOf, receivedLength}
 use Rattle.header.specs.Header.{DLC, IDE, FDF, FILHIT, topId, meaning0, meaning1}
 use Rattle.message.specs.Object.{stampBytes, objectBytes}
-use Rattle.message.specs.Message.{Message, Encoding, object, encoding, arrivalCheck, arriving, holds, noFrame, decoding, bodyAt}
+use Rattle.message.specs.Message.{Message, toWrite, Encoding, object, encoding, arrivalCheck, arriving, holds, noFrame, decoding, bodyAt}
 use Rattle.message.specs.Numbers.{encodingNumbers}
 
 -- a timestamp is a word, and is there exactly where RXTSEN is 1
@@ -32,11 +32,12 @@ pub record Suits (sending stamped : Bool) (m : Message) : Type 0 where
   pub seq : (if sending then m .seq else 0) ≡ m .seq
   pub stamp : Stamped stamped (m .stamp)
 
--- every field comes back from the object, whatever bytes stand behind it; the DLC is that of the payload's length
+-- every field of a message to write comes back from the object, whatever bytes stand behind it
 abbrev pub RoundTrip : Type 0
 RoundTrip =
-    (sending stamped : Bool) (m : Message) (bs r : List ℕ) → encoding m ≡ object bs → dlcOf (m .header .fdf) (length (m .payload)) ≡ Dlc.Is (m .dlc)
-    → Suits sending stamped m → decoding sending stamped (bs ++ r) ≡ holds m
+    (sending stamped : Bool) (header : Header) (seq : ℕ) (stamp : Stamp) (payload bs r : List ℕ)
+    → let m = toWrite header seq stamp payload in
+    encoding m ≡ object bs → Suits sending stamped m → decoding sending stamped (bs ++ r) ≡ holds m
 
 -- so it does from the object of a frame that arrived, whichever filter took it: the DLC is the one that it brought
 abbrev pub ArrivalTrip : Type 0
