@@ -195,6 +195,20 @@ module _ (sending stamped : Bool) (b : List ℕ) (n : ℕ) (fits : bodyAt stampe
   cut : length (take n (drop (bodyAt stamped) b)) ≡ n
   cut = simp (length-take, length-drop) (omega arith)
 
+-- a frame that arrives, by its check
+pub arrival-refuses : ArrivalRefuses
+unfolding arrivalCheck
+arrival-refuses h dlc n = record {
+  identifier = λ i. rw (lt-ltb (topId (h .extended)) (h .id) i);
+  dlc-above = λ i d. rw (le-ltb (topId (h .extended)) (h .id) i, lt-ltb 15 dlc d);
+  other-length = λ i f. rw (le-ltb (topId (h .extended)) (h .id) i, ne-eqb (receivedLength (h .fdf) dlc) n f) (either (ltb 15 dlc));
+  none = λ i d f. rw (le-ltb (topId (h .extended)) (h .id) i, le-ltb 15 dlc d, eq-eqb (receivedLength (h .fdf) dlc) n f);
+}
+  where
+    either : (x : Bool) → doneNumbers (if x then Done.Bad Refusal.BadPayload else Done.Bad Refusal.BadPayload) ≡ 22 ∷ []
+    either true = refl
+    either false = refl
+
 -- one to send, and one received, are written as their meaningful bytes
 written : (sending stamped : Bool) (b : List ℕ) (n : ℕ) → bodyAt stamped + n ≤ length b
     → lengthIn sending (flag FDF (leAt b 4)) (read DLC (leAt b 4)) ≡ Length.Is n
@@ -207,7 +221,14 @@ written true stamped b n fits len =
     = ap (checkOf (headerOf w₀ w₁) (read SEQ w₁)) (cut true stamped b n fits)
     ∙ accepted (headerOf w₀ w₁) _ n (read DLC w₁) (header-small w₀ w₁) (field-lt w₁ 9 23) (ap (λ (f : Bool). dlcOf f n) (header-fdf w₀ w₁) ∙ dlc-back (flag FDF w₁) n (read DLC w₁) len) in
     rw (c, word0-again w₀ w₁, word1-again w₀ w₁)
-written false stamped b n fits len = rw (word0-again (leAt b 0) (leAt b 4), received1-again (leAt b 0) (leAt b 4))
+written false stamped b n fits len =
+    let w₀ : ℕ = leAt b 0 in
+    let w₁ : ℕ = leAt b 4 in
+    let meant : receivedLength (flag FDF w₁) (read DLC w₁) ≡ n = cc in
+    let c : arrivalCheck (headerOf w₀ w₁) (read DLC w₁) (length (take n (drop (bodyAt stamped) b))) ≡ Done.Good
+    = arrival-refuses (headerOf w₀ w₁) (read DLC w₁) _ .none (header-small w₀ w₁) (omega (arith, field-lt w₁ 0 4))
+    (ap (λ (f : Bool). receivedLength f (read DLC w₁)) (header-fdf w₀ w₁) ∙ meant ∙ sym (cut false stamped b n fits)) in
+    rw (c, word0-again w₀ w₁, received1-again w₀ w₁)
 
 pub back : Back
 back sending stamped b m e =
@@ -256,19 +277,6 @@ no-frame-iff stamped b h =
         (λ t e. let z : _≡_ {A = ℕ} 0 1 = cc in absurd (omega arith))
         (λ t e. let z : _≡_ {A = ℕ} 0 1 = cc in absurd (omega arith))
     only Length.Bad = λ e. refl
-
-pub arrival-refuses : ArrivalRefuses
-unfolding arrivalCheck
-arrival-refuses h dlc n = record {
-  identifier = λ i. rw (lt-ltb (topId (h .extended)) (h .id) i);
-  dlc-above = λ i d. rw (le-ltb (topId (h .extended)) (h .id) i, lt-ltb 15 dlc d);
-  other-length = λ i f. rw (le-ltb (topId (h .extended)) (h .id) i, ne-eqb (receivedLength (h .fdf) dlc) n f) (either (ltb 15 dlc));
-  none = λ i d f. rw (le-ltb (topId (h .extended)) (h .id) i, le-ltb 15 dlc d, eq-eqb (receivedLength (h .fdf) dlc) n f);
-}
-  where
-    either : (x : Bool) → doneNumbers (if x then Done.Bad Refusal.BadPayload else Done.Bad Refusal.BadPayload) ≡ 22 ∷ []
-    either true = refl
-    either false = refl
 
 -- ---- the DLC
 

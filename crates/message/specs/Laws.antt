@@ -17,7 +17,7 @@ use Rattle.spi.specs.Refusals.{doneNumbers}
 use Rattle.header.specs.Dlc.{dlcOf, receivedLength}
 use Rattle.header.specs.Header.{DLC, IDE, FDF, FILHIT, topId, meaning0, meaning1}
 use Rattle.message.specs.Object.{stampBytes, objectBytes}
-use Rattle.message.specs.Message.{Message, toWrite, Encoding, object, encoding, arrivalCheck, arriving, holds, noFrame, decoding, bodyAt}
+use Rattle.message.specs.Message.{Message, toWrite, Encoding, refused, object, encoding, arrivalCheck, arriving, holds, noFrame, decoding, bodyAt}
 use Rattle.message.specs.Numbers.{encodingNumbers}
 
 -- a timestamp is a word, and is there exactly where RXTSEN is 1
@@ -57,10 +57,15 @@ meaningful sending stamped n b =
     objectBytes (meaning0 (flag IDE (leAt b 4)) (leAt b 0)) (meaning1 sending (leAt b 4))
     (if stamped then Stamp.At (leAt b 8) else Stamp.None) (take n (drop (bodyAt stamped) b))
 
--- what a message is written as: one to send, and one received as of a frame that filter 0 took
+-- what a message received is written as, by its check: the object of a frame that filter 0 took
+abbrev pub arrived : Done → Message → Encoding
+arrived Done.Good m = object (arriving (m .header) (m .dlc) 0 (m .stamp) (m .payload))
+arrived (Done.Bad r) m = refused r
+
+-- what a message is written as, one to send or one received
 abbrev pub writtenAs : (sending : Bool) → Message → Encoding
 writtenAs true m = encoding m
-writtenAs false m = object (arriving (m .header) (m .dlc) 0 (m .stamp) (m .payload))
+writtenAs false m = arrived (arrivalCheck (m .header) (m .dlc) (length (m .payload))) m
 
 -- a message that bytes hold is written as their meaningful bytes
 abbrev pub Back : Type 0
