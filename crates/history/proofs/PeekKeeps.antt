@@ -7,12 +7,11 @@ use mathlib.Core.List.{List, [], _∷_, _++_}
 use lib.ListN.{length, replicate}
 use lib.Dec.{ltb}
 use Rattle.laws.proofs.Choice.{by-if}
-use Rattle.field.specs.Field.{flag, read}
+use Rattle.field.specs.Field.{flag}
 use Rattle.fifo.specs.Control.{TXEN, RXTSEN, CiFIFOCON, isFifo}
 use Rattle.fifo.specs.Status.{CiFIFOSTA, TFNRFNIF}
 use Rattle.fifo.specs.UserAddress.{CiFIFOUA}
 use Rattle.words.specs.Words.{roundUp}
-use Rattle.header.specs.Header.{DLC, FDF}
 use Rattle.spi.specs.declared.refusal.Refusal.{Refusal}
 use Rattle.spi.specs.declared.refusal.Done.{Done}
 use Rattle.spi.specs.declared.ask.Answer.{Answer}

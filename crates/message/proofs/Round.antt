@@ -5,9 +5,9 @@ use mathlib.Core.Bool.{Bool, true, false, false≢true}
 use mathlib.Core.List.{List, [], _∷_, _++_, append-assoc}
 use Prim.Native.Nat.{ℕ, _+_, _^_, _≤_, _<_}
 use native.Mathlib.Omega.{arith}
-use lib.ListN.{length, take, drop, getD, length-append, length-replicate, length-take, length-drop}
+use lib.ListN.{length, take, drop, length-append, length-replicate, length-take, length-drop}
 use lib.Seq.{take-append-seam}
-use lib.Dec.{ltb, leb, eqb}
+use lib.Dec.{ltb, leb}
 use borrow.Author.Tests.{lt-ltb, le-ltb, le-leb, lt-leb, eq-eqb, ne-eqb, leb-true, ltb-false}
 use Rattle.laws.specs.If.{if_then_else_}
 use Rattle.laws.proofs.Choice.{by-if}
@@ -29,7 +29,7 @@ use Rattle.message.specs.Object.{stampBytes, padded, objectBytes}
 use Rattle.message.specs.Message.{Message, toWrite, checkOf, object, coded, encoding, arrivalCheck, arriving, Decoding, holds, noFrame, bodyAt, messageIn, lengthIn, byLength, decoding}
 use Rattle.message.specs.Laws.{Stamped, RoundTrip, ArrivalTrip, ArrivalFilter, meaningful, writtenAs, Back, Lengths, Refuses, ArrivalRefuses, ClassicDlc, AlwaysHolds, NoFrameIff}
 use Rattle.header.proofs.Dlcs.{dlc-lt, length-back, dlc-back, dlc-16, payload-le, received-sent}
-use Rattle.message.proofs.Checks.{Sound, sound, Fitting, fitting}
+use Rattle.message.proofs.Checks.{sound, fitting}
 use Rattle.header.proofs.Fields.{word0-lt, Second, word1-says, seq-field, received1-says, hit-field, header-small, header-fdf, word0-again, word1-again, received1-again}
 
 -- ---- a message that is not refused

@@ -1,6 +1,5 @@
 -- Which numbers refusals have, as a statement.
 -- Assumes nothing.
-use Prim.Native.Nat.{ℕ}
 use mathlib.Core.Path.{_≡_}
 use Rattle.spi.specs.declared.refusal.Refusal.{Refusal}
 use Rattle.numbers.specs.Numbers.{numberOf}
