@@ -16,7 +16,7 @@ use Rattle.field.proofs.Laws.{field-lt, read-write, write-other}
 use Rattle.configuration.specs.CanControl.{OPMOD, REQOP, TXQEN, STEF}
 use Rattle.chip.specs.OscillatorControl.{PLLEN, PLLRDY}
 use Rattle.fifo.specs.Status.{RXOVIF}
-use Rattle.operation.specs.declared.place.Register.{Register}
+use Rattle.place.specs.declared.Register.{Register}
 use Rattle.ring.specs.Ring.{configured}
 use Rattle.ring.specs.Layout.{end}
 use Rattle.ring.proofs.Laws.{in-ram, uinc-inside as configured-ring}

@@ -10,7 +10,7 @@ use Rattle.laws.specs.If.{if_then_else_}
 use Rattle.field.specs.Field.{read}
 use Rattle.configuration.specs.CanControl.{OPMOD, REQOP}
 use Rattle.chip.specs.OscillatorControl.{PLLEN, PLLRDY}
-use Rattle.operation.specs.declared.place.Register.{Register}
+use Rattle.place.specs.declared.Register.{Register}
 use Rattle.ring.specs.Ring.{depth}
 use Rattle.ring.specs.Laws.{slotEnd}
 use Rattle.state.specs.declared.Model.{Model}

@@ -10,7 +10,7 @@ use Rattle.field.specs.Field.{read, write, flag}
 use Rattle.configuration.specs.CanControl.{STEF, TXQEN, OPMOD, REQOP}
 use Rattle.chip.specs.OscillatorControl.{PLLEN, PLLRDY}
 use Rattle.fifo.specs.Status.{RXOVIF}
-use Rattle.operation.specs.declared.place.Register.{Register}
+use Rattle.place.specs.declared.Register.{Register}
 use Rattle.ring.specs.Ring.{shown, configured, commanded, turned, overflowed}
 use Rattle.ring.specs.Registers.{control, status}
 use Rattle.ring.specs.Layout.{end, slotAt}

@@ -1,11 +1,11 @@
 // Registers as they read.
 ghost use mathlib.Core.Path.{_≡_};
 ghost use Prim.Native.Nat.{_≤_, _<_};
-ghost use Rattle.operation.specs.declared.place.Register.{Register};
+ghost use Rattle.place.specs.declared.Register.{Register};
 ghost use Rattle.bank.specs.Registers.{modeOf, shownAt, wordOf};
 use chip::OscillatorControl;
 use configuration::CanControl;
-use operation::Register;
+use place::Register;
 use state::Fixed;
 use state::Model;
 use state::fifo_at;

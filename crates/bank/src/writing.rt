@@ -1,10 +1,10 @@
 // Registers written.
 ghost use mathlib.Core.Path.{_≡_};
-ghost use Rattle.operation.specs.declared.place.Register.{Register};
+ghost use Rattle.place.specs.declared.Register.{Register};
 ghost use Rattle.bank.specs.Registers.{granted, turnedAll, conSet, settled, conWritten, frozenSet, controlWritten, statusWritten, oscSet, plainSet, filterSet, objectSet, maskSet, registerWritten};
 use configuration::CanControl;
 use fifo::FifoStatus;
-use operation::Register;
+use place::Register;
 use state::Fixed;
 use state::Model;
 use state::fifo_at;

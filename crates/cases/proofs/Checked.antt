@@ -5,7 +5,7 @@ use Rattle.words.specs.Words as W
 use Rattle.fifo.specs.Control as C
 use Rattle.ring.specs.Ring as N
 use Rattle.ring.specs.Layout as L
-use Rattle.operation.specs.Place as P
+use Rattle.place.specs.Place as P
 use Rattle.operation.specs.Operation as A
 use Rattle.state.specs.Model as S
 use Rattle.bank.specs.Registers as G

@@ -10,7 +10,7 @@ use Rattle.field.specs.Field.{bit, read, flag}
 use Rattle.field.proofs.Laws.{field-lt}
 use Rattle.filters.specs.Filters.{matchWord}
 use Rattle.filters.specs.Laws.{First, Lowest}
-use Rattle.filters.proofs.Bits.{bit-zero, bit-suc}
+use Rattle.bits.proofs.Bits.{bit-zero, bit-suc}
 use Rattle.filters.proofs.Word.{match-bits}
 
 first-now : (p : ℕ → Bool) (n : ℕ) → p 0 ≡ true → First p n 0

@@ -13,7 +13,7 @@ use Rattle.field.specs.Field.{bit, flag, digit}
 use Rattle.field.proofs.Laws.{digit-lt, digit-back}
 use Rattle.filters.specs.Filters.{tests, hits}
 use Rattle.filters.specs.Laws.{MatchBits}
-use Rattle.filters.proofs.Bits.{bit-zero, bit-suc}
+use Rattle.bits.proofs.Bits.{bit-zero, bit-suc}
 
 tests-bit : (p : ℕ → Bool) (k n f : ℕ) → f < n → flag (bit f) (tests p k n) ≡ p (k + f)
 unfolding tests

@@ -22,13 +22,14 @@ use Rattle.spi.specs.declared.ask.Answer.{Answer}
 use Rattle.spi.specs.Ask.{headOf, bodyOf, wanted, sent}
 use Rattle.spi.specs.Instruction.{codeOf, commandOf}
 use Rattle.spi.specs.Ram.{inRange}
-use Rattle.operation.specs.declared.place.Register.{Register}
-use Rattle.operation.specs.declared.place.Place.{Place}
+use Rattle.place.specs.declared.Register.{Register}
+use Rattle.place.specs.declared.Place.{Place}
 use Rattle.operation.specs.declared.operation.Operation.{Operation}
-use Rattle.operation.specs.Place.{registerAt}
+use Rattle.place.specs.Place.{registerAt}
 use Rattle.operation.specs.Operation.{inRam, at, readAt, asked}
-use Rattle.operation.specs.Laws.{Stand}
-use Rattle.operation.proofs.Laws.{all-carried, asks-read, asks-checked, asks-word, writes-word, asks-body}
+use Rattle.place.specs.Laws.{Stand}
+use Rattle.place.proofs.Laws.{all-carried}
+use Rattle.operation.proofs.Laws.{asks-read, asks-checked, asks-word, writes-word, asks-body}
 use Rattle.state.specs.declared.Model.{Model}
 use Rattle.state.specs.Model.{written}
 use Rattle.bank.specs.Registers.{wordOf, controlWritten, registerWritten}

@@ -30,7 +30,7 @@ use Rattle.driver.specs.Send.{bodyOf}
 use Rattle.ring.specs.Ring as ring
 use Rattle.ring.specs.Registers.{control, ready, edge, status}
 use Rattle.ring.specs.Layout.{stamped, size, room, end, base, slotAt}
-use Rattle.operation.specs.Place.{registerAt}
+use Rattle.place.specs.Place.{registerAt}
 use Rattle.operation.specs.Operation.{inRam, readAt, writeAt, asked}
 use Rattle.state.specs.Model.{reset}
 use Rattle.bank.specs.Registers.{shownAt, wordOf, granted, conWritten, controlWritten, registerWritten}

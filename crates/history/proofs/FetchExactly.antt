@@ -36,7 +36,7 @@ use Rattle.ring.specs.Ring.{sending}
 use Rattle.ring.specs.Layout.{stamped, size}
 use Rattle.state.specs.declared.Model.{Model}
 use Rattle.state.specs.Model.{fifoAt, frozenAt}
-use Rattle.operation.specs.declared.place.Register.{Register}
+use Rattle.place.specs.declared.Register.{Register}
 use Rattle.bank.specs.Registers.{wordOf, controlWritten}
 use Rattle.bus.specs.Held.{slotOf, itemAt}
 use Rattle.reach.specs.Bus.{Bus, stepped}

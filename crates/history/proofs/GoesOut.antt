@@ -22,7 +22,7 @@ use Rattle.plan.specs.Change.{modified}
 use Rattle.plan.proofs.Changes.{change-sets}
 use Rattle.transmit.specs.Transmit.{requestChange}
 use Rattle.driver.specs.Start.{idlePush, idleFetch}
-use Rattle.operation.specs.declared.place.Register.{Register}
+use Rattle.place.specs.declared.Register.{Register}
 use Rattle.ring.specs.declared.ring.Fifo.{Fifo}
 use Rattle.ring.specs.Ring.{sending, claimed, taken, overflowed, sent}
 use Rattle.ring.proofs.Laws.{control-off}

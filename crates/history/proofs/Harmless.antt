@@ -10,9 +10,9 @@ use Rattle.laws.proofs.Choice.{by-if}
 use Rattle.words.specs.Words.{leBytes, leAt}
 use Rattle.field.specs.Field.{read}
 use Rattle.fifo.specs.Control.{CiFIFOCON, TXREQ, isFifo}
-use Rattle.operation.specs.declared.place.Register.{Register}
-use Rattle.operation.specs.declared.place.Place.{Place}
-use Rattle.operation.specs.Place.{registerAt}
+use Rattle.place.specs.declared.Register.{Register}
+use Rattle.place.specs.declared.Place.{Place}
+use Rattle.place.specs.Place.{registerAt}
 use Rattle.operation.specs.Operation.{inRam}
 use Rattle.spi.specs.declared.refusal.Refusal.{Refusal}
 use Rattle.spi.specs.declared.refusal.Done.{Done}

@@ -10,7 +10,7 @@ use Rattle.spi.specs.declared.ask.Ask.{Ask}
 use Rattle.spi.specs.declared.ask.Answer.{Answer}
 use Rattle.spi.specs.Instruction.{commandOf}
 use Rattle.spi.specs.Ask.{headOf, sent}
-use Rattle.operation.specs.declared.place.Register.{Register}
+use Rattle.place.specs.declared.Register.{Register}
 use Rattle.operation.specs.declared.operation.Operation.{Operation}
 use Rattle.operation.specs.Operation.{writeAt, asked}
 use Rattle.operation.proofs.Laws.{asks-word}

@@ -22,11 +22,11 @@ use Rattle.bit_timing.specs.Delay.{CiTDC}
 use Rattle.filter.specs.Control.{CiFLTCON}
 use Rattle.filter.specs.Object.{CiFLTOBJ}
 use Rattle.filter.specs.Mask.{CiMASK}
-use Rattle.operation.specs.declared.place.Register.{Register}
-use Rattle.operation.specs.declared.place.Place.{Place}
-use Rattle.operation.specs.Place.{registerAt}
+use Rattle.place.specs.declared.Register.{Register}
+use Rattle.place.specs.declared.Place.{Place}
+use Rattle.place.specs.Place.{registerAt}
 use Rattle.operation.specs.Operation.{inRam}
-use Rattle.operation.proofs.Laws.{all-carried}
+use Rattle.place.proofs.Laws.{all-carried}
 use Rattle.spi.specs.Ram.{inRange}
 use Rattle.spi.specs.Talk.{onDone}
 use Rattle.spi.specs.declared.refusal.Refusal.{Refusal}

@@ -19,7 +19,7 @@ use Rattle.spi.specs.Refusals.{numbered}
 use Rattle.spi.specs.declared.ask.Answer.{Answer}
 use Rattle.header.specs.declared.Header.{Header}
 use Rattle.message.specs.Message.{Message, Encoding, encoding}
-use Rattle.operation.specs.declared.place.Register.{Register}
+use Rattle.place.specs.declared.Register.{Register}
 use Rattle.call.specs.declared.Outcome.{Outcome}
 use Rattle.plan.specs.Plan.{Plan}
 use Rattle.tx_fifo.specs.PushAt.{PushAt}

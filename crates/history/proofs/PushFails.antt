@@ -14,7 +14,7 @@ use Rattle.words.specs.Words.{leBytes}
 use Rattle.spi.specs.declared.refusal.Refusal.{Refusal}
 use Rattle.header.specs.declared.Header.{Header}
 use Rattle.message.specs.Message.{Encoding, encoding}
-use Rattle.operation.specs.declared.place.Register.{Register}
+use Rattle.place.specs.declared.Register.{Register}
 use Rattle.call.specs.declared.Outcome.{Outcome}
 use Rattle.tx_fifo.specs.PushAt.{PushAt}
 use Rattle.tx_fifo.specs.Step as push

@@ -28,7 +28,7 @@ use Rattle.message.specs.declared.object.Stamp.{Stamp}
 use Rattle.message.specs.Message.{Message, byDlc, checkOf, Encoding, coded, encoding}
 use Rattle.message.specs.Laws.{Suits}
 use Rattle.message.proofs.Round.{lengths-hold, round-trip}
-use Rattle.operation.specs.declared.place.Register.{Register}
+use Rattle.place.specs.declared.Register.{Register}
 use Rattle.call.specs.declared.Outcome.{Outcome}
 use Rattle.plan.specs.Plan.{Plan}
 use Rattle.tx_fifo.specs.PushAt.{PushAt}

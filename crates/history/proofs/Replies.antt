@@ -24,7 +24,7 @@ use Rattle.spi.specs.declared.refusal.Done.{Done}
 use Rattle.spi.specs.declared.ask.Answer.{Answer}
 use Rattle.spi.specs.declared.reply.OneWord.{OneWord}
 use Rattle.spi.specs.Reply.{wordReply}
-use Rattle.operation.specs.declared.place.Register.{Register}
+use Rattle.place.specs.declared.Register.{Register}
 use Rattle.call.specs.declared.Found.{Found}
 use Rattle.tx_fifo.specs.PushAt.{PushAt}
 use Rattle.tx_fifo.specs.Step.{afterControl, afterStatus, afterAddress, nextAt}

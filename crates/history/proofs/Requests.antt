@@ -19,7 +19,7 @@ use Rattle.plan.specs.Change.{modified}
 use Rattle.plan.specs.Step.{filled, arrivedAt, refusedPlan, stepOf, askAt, askOf, outcomeAt, outcomeOf}
 use Rattle.plan.proofs.Changes.{change-sets}
 use Rattle.transmit.specs.Transmit.{requestChange, requestStart}
-use Rattle.operation.specs.declared.place.Register.{Register}
+use Rattle.place.specs.declared.Register.{Register}
 use Rattle.state.specs.declared.Model.{Model}
 use Rattle.bank.specs.Registers.{wordOf}
 use Rattle.history.specs.History.{Heard, waits, isOver}

@@ -12,7 +12,7 @@ use Rattle.spi.specs.declared.refusal.Refusal.{Refusal}
 use Rattle.spi.specs.declared.ask.Answer.{Answer}
 use Rattle.header.specs.declared.Header.{Header}
 use Rattle.message.specs.Message.{Encoding}
-use Rattle.operation.specs.declared.place.Register.{Register}
+use Rattle.place.specs.declared.Register.{Register}
 use Rattle.call.specs.declared.Outcome.{Outcome}
 use Rattle.call.specs.Numbers.{outcomeNumbers}
 use Rattle.plan.specs.PlanAt.{PlanAt}

@@ -14,8 +14,8 @@ use Rattle.fifo.specs.Control.{TXREQ, payloadOf, isFifo}
 use Rattle.parts.specs.Parts.{put}
 use Rattle.spi.specs.declared.refusal.Refusal.{Refusal}
 use Rattle.spi.specs.Refusals.{numbered}
-use Rattle.operation.specs.declared.place.Register.{Register}
-use Rattle.operation.specs.Laws.{among}
+use Rattle.place.specs.declared.Register.{Register}
+use Rattle.place.specs.Laws.{among}
 use Rattle.header.specs.declared.Header.{Header}
 use Rattle.message.specs.Message.{Message, Encoding, Decoding, holds, noFrame, short}
 use Rattle.call.specs.declared.Outcome.{Outcome}

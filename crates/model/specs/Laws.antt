@@ -10,7 +10,7 @@ use Rattle.field.specs.Field.{read}
 use Rattle.configuration.specs.CanControl.{REQOP}
 use Rattle.spi.specs.declared.refusal.Refusal.{Refusal}
 use Rattle.spi.specs.Refusals.{numbered}
-use Rattle.operation.specs.declared.place.Register.{Register}
+use Rattle.place.specs.declared.Register.{Register}
 use Rattle.operation.specs.declared.operation.Operation.{Operation}
 use Rattle.operation.specs.Operation.{asked}
 use Rattle.ring.specs.Registers.{frozenFields}

@@ -10,7 +10,7 @@ ghost use Rattle.state.specs.Model.{reset, written};
 ghost use Rattle.bank.specs.Registers.{registerWritten};
 ghost use Rattle.model.specs.Exchange.{checkedBytes, doneWriting, lent, exchangedAs, filledBy};
 use operation::Operation;
-use operation::Register;
+use place::Register;
 use state::Model;
 
 pub enum Heard {

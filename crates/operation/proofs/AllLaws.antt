@@ -1,13 +1,11 @@
--- Every law of addresses and of the driver's exchanges is proved.
+-- Every law of the driver's exchanges is proved.
 -- Assumes nothing.
 use Rattle.operation.specs.Laws.{Laws}
-use Rattle.operation.proofs.Laws.{all-carried, exactly, asks-read, asks-checked, asks-word, writes-word, asks-body, asks-reset}
+use Rattle.operation.proofs.Laws.{asks-read, asks-checked, asks-word, writes-word, asks-body, asks-reset}
 use Rattle.operation.proofs.Sizes.{sizes}
 
 pub laws : Laws
 laws = record {
-  carried = all-carried;
-  exactly = exactly;
   asksRead = asks-read;
   asksChecked = asks-checked;
   asksWord = asks-word;

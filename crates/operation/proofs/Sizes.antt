@@ -12,11 +12,11 @@ use Rattle.laws.proofs.Choice.{by-if}
 use Rattle.laws.proofs.Table.{both}
 use Rattle.spi.specs.declared.instruction.OpCode.{OpCode}
 use Rattle.spi.specs.Instruction.{codeOf}
-use Rattle.operation.specs.declared.place.Place.{Place}
-use Rattle.operation.specs.declared.place.Register.{Register}
+use Rattle.place.specs.declared.Place.{Place}
+use Rattle.place.specs.declared.Register.{Register}
 use Rattle.operation.specs.declared.operation.Operation.{Operation}
 use Rattle.operation.specs.Operation.{opcode, address, inRam, at, readAt, writeAt, checkedAt, resetAt, asked}
-use Rattle.operation.specs.Place.{registerAt}
+use Rattle.place.specs.Place.{registerAt}
 use Rattle.operation.specs.Laws.{Sized, Sizes}
 use Rattle.operation.proofs.Laws.{ram-told}
 

@@ -1,3 +1,2 @@
-pub mod Place
 pub mod Operation
 pub mod Laws

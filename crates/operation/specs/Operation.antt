@@ -11,10 +11,10 @@ use Rattle.words.specs.Words.{beAt, leAt}
 use Rattle.spi.specs.declared.instruction.OpCode.{OpCode}
 use Rattle.spi.specs.Instruction.{codeOf}
 use Rattle.spi.specs.Ram.{inRange}
-use Rattle.operation.specs.declared.place.Register.{Register}
-use Rattle.operation.specs.declared.place.Place.{Place}
+use Rattle.place.specs.declared.Register.{Register}
+use Rattle.place.specs.declared.Place.{Place}
 use Rattle.operation.specs.declared.operation.Operation.{Operation}
-use Rattle.operation.specs.Place.{registerAt}
+use Rattle.place.specs.Place.{registerAt}
 
 -- a command is 16 bits, big-endian: opcode in 15..12, address in 11..0
 abbrev pub opcode : List ℕ → ℕ

@@ -3,9 +3,9 @@ ghost use mathlib.Core.Path.{_≡_};
 ghost use Prim.Native.Nat.{_≤_};
 ghost use lib.ListN.{length};
 ghost use Rattle.operation.specs.Operation.{opcode, address, inRam, readAt, writeAt, checkedAt, resetAt, asked};
-use crate::Place;
-use crate::Register;
-use crate::place::register_at;
+use place::Place;
+use place::Register;
+use place::register_at;
 
 pub enum Operation {
     Reset,

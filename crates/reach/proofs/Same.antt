@@ -19,7 +19,7 @@ use Rattle.header.specs.Header.{sidOf, eidOf}
 use Rattle.message.specs.declared.object.Stamp.{Stamp}
 use Rattle.spi.specs.declared.refusal.Done.{Done}
 use Rattle.message.specs.Message.{arrivalCheck, arriving}
-use Rattle.operation.specs.declared.place.Register.{Register}
+use Rattle.place.specs.declared.Register.{Register}
 use Rattle.operation.specs.declared.operation.Operation.{Operation}
 use Rattle.operation.specs.Operation.{asked}
 use Rattle.ring.specs.declared.ring.Fifo.{Fifo}

@@ -14,7 +14,7 @@ use Rattle.field.specs.Field.{Field, place, read, write, Fits, apart}
 use Rattle.field.proofs.Laws.{field-lt, read-write, write-other}
 use Rattle.configuration.specs.CanControl.{DNCNT, OPMOD, REQOP, TXQEN, STEF}
 use Rattle.fifo.specs.Control.{RXTSEN, TXEN, UINC, TXREQ, FRESET, FSIZE, PLSIZE}
-use Rattle.operation.specs.declared.place.Register.{Register}
+use Rattle.place.specs.declared.Register.{Register}
 use Rattle.ring.specs.Registers.{frozenFields, copied}
 use Rattle.ring.specs.Laws.{Alike}
 use Rattle.state.specs.declared.Model.{Model}

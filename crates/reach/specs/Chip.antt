@@ -14,7 +14,7 @@ use Rattle.fifo.specs.Control.{TXEN, TXREQ, FSIZE, isFifo}
 use Rattle.fifo.specs.Status.{RXOVIF}
 use Rattle.header.specs.declared.Header.{Header}
 use Rattle.message.specs.Message.{Decoding, holds}
-use Rattle.operation.specs.declared.place.Register.{Register}
+use Rattle.place.specs.declared.Register.{Register}
 use Rattle.operation.specs.declared.operation.Operation.{Operation}
 use Rattle.operation.specs.Operation.{asked}
 use Rattle.state.specs.declared.Model.{Model}

@@ -12,7 +12,7 @@ use Rattle.ring.specs.Ring.{depth}
 use Rattle.ring.specs.Layout.{end}
 use Rattle.state.specs.declared.Model.{Model}
 use Rattle.state.specs.Model.{areas, reset, fifoAt, frozenAt}
-use Rattle.operation.specs.declared.place.Register.{Register}
+use Rattle.place.specs.declared.Register.{Register}
 use Rattle.bank.specs.Registers.{wordOf}
 use Rattle.model.specs.Exchange.{exchange}
 use Rattle.reach.specs.Bus.{Bus, stepped}

@@ -10,7 +10,7 @@ use Rattle.field.specs.Field.{Field, _‥_, bit, read, apart}
 use Rattle.configuration.specs.CanControl.{CiCON, OPMOD, REQOP}
 use Rattle.fifo.specs.Control.{CiFIFOCON, RTREN}
 use Rattle.header.specs.declared.Header.{Header}
-use Rattle.operation.specs.declared.place.Register.{Register}
+use Rattle.place.specs.declared.Register.{Register}
 use Rattle.operation.specs.declared.operation.Operation.{Operation}
 use Rattle.operation.specs.Operation.{asked}
 use Rattle.ring.specs.declared.ring.Fifo.{Fifo}

@@ -1,9 +1,9 @@
--- `operation::place::single` meets its contract.
+-- `place::single` meets its contract.
 -- Assumes nothing.
 use borrow.Author.Tests.{ne-eqb}
-use Rattle.operation.specs.Place.{single}
-use Rattle.operation.proofs.place.single.Statement.{statement}
-use Rattle.operation.proofs.place.single.Tie as tie
+use Rattle.place.specs.Place.{single}
+use Rattle.place.proofs.single.Statement.{statement}
+use Rattle.place.proofs.single.Tie as tie
 
 pub single-spec : {M : Type 1} → statement M
 unfolding single

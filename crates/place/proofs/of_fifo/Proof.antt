@@ -1,11 +1,11 @@
--- `operation::place::of_fifo` meets its contract.
+-- `place::of_fifo` meets its contract.
 -- Assumes nothing.
 use mathlib.Core.Path.{_≡_, refl}
 use Prim.Native.Nat.{ℕ, zero, suc}
-use Rattle.operation.specs.Place.{ofFifo}
-use Rattle.operation.specs.declared.place.Register.{Register}
-use Rattle.operation.proofs.place.of_fifo.Statement.{statement}
-use Rattle.operation.proofs.place.of_fifo.Tie as tie
+use Rattle.place.specs.Place.{ofFifo}
+use Rattle.place.specs.declared.Register.{Register}
+use Rattle.place.proofs.of_fifo.Statement.{statement}
+use Rattle.place.proofs.of_fifo.Tie as tie
 
 third : (n word : ℕ) → (word ≡ 0 → ⊥) → (word ≡ 1 → ⊥) → Register.Address n ≡ ofFifo n word
 third n zero h j = absurd (h refl)

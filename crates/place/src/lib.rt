@@ -1,6 +1,6 @@
-// The registers that the modelled chip carries, by address.
+// The registers that are carried, by address.
 ghost use mathlib.Core.Path.{_≡_};
-ghost use Rattle.operation.specs.Place.{ofFifo, ofFilter, single, registerAt};
+ghost use Rattle.place.specs.Place.{ofFifo, ofFilter, single, registerAt, isCarried};
 
 pub enum Register {
     Con,
@@ -78,4 +78,14 @@ pub fn register_at(a: u32) -> Place
         return Place::Is(of_filter(((a - 0x1F0) / 8) as usize, (a - 0x1F0) % 8 / 4));
     }
     single(a)
+}
+
+// Whether an address is that of a register that is carried. None is cut: one of more than 12 bits is no register's.
+pub fn is_carried(a: u32) -> bool
+    ensures { λ r. ⌜ r ≡ isCarried a ⌝ }
+{
+    match register_at(a) {
+        Place::Is(_) => true,
+        Place::None => false,
+    }
 }

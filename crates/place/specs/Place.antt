@@ -1,10 +1,11 @@
--- The registers that the modelled chip carries, by address.
+-- The registers that are carried, by address.
 -- Assumes nothing.
 use Prim.Native.Nat.{ℕ, zero, suc, _-_, _/_, _%_}
+use mathlib.Core.Bool.{Bool, true, false}
 use lib.Dec.{eqb, ltb}
 use Rattle.laws.specs.If.{if_then_else_}
-use Rattle.operation.specs.declared.place.Register.{Register}
-use Rattle.operation.specs.declared.place.Place.{Place}
+use Rattle.place.specs.declared.Register.{Register}
+use Rattle.place.specs.declared.Place.{Place}
 
 -- in FIFO n's 12 bytes: control, status, user address
 abbrev pub ofFifo : (n word : ℕ) → Register
@@ -40,3 +41,12 @@ registerAt a =
     else if ltb a 0x1F0 then Place.Is (Register.Filter ((a - 0x1D0) / 4))
     else if ltb a 0x2F0 then Place.Is (ofFilter ((a - 0x1F0) / 8) ((a - 0x1F0) % 8 / 4))
     else single a
+
+-- there is a register
+abbrev pub carried : Place → Bool
+carried (Place.Is r) = true
+carried Place.None = false
+
+-- an address is that of a register that is carried
+unfoldable pub isCarried : ℕ → Bool
+isCarried a = carried (registerAt a)

@@ -1,11 +1,11 @@
--- `operation::place::of_filter` meets its contract.
+-- `place::of_filter` meets its contract.
 -- Assumes nothing.
 use mathlib.Core.Path.{_≡_, refl}
 use Prim.Native.Nat.{ℕ, zero, suc}
-use Rattle.operation.specs.Place.{ofFilter}
-use Rattle.operation.specs.declared.place.Register.{Register}
-use Rattle.operation.proofs.place.of_filter.Statement.{statement}
-use Rattle.operation.proofs.place.of_filter.Tie as tie
+use Rattle.place.specs.Place.{ofFilter}
+use Rattle.place.specs.declared.Register.{Register}
+use Rattle.place.proofs.of_filter.Statement.{statement}
+use Rattle.place.proofs.of_filter.Tie as tie
 
 second : (m word : ℕ) → (word ≡ 0 → ⊥) → Register.Mask m ≡ ofFilter m word
 second m zero h = absurd (h refl)

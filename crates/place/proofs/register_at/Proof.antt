@@ -1,10 +1,10 @@
--- `operation::place::register_at` meets its contract.
+-- `place::register_at` meets its contract.
 -- Assumes nothing.
 use borrow.Author.Tests.{lt-ltb, le-ltb}
 use borrow.Author.Needs.{needs}
-use Rattle.operation.specs.Place.{registerAt}
-use Rattle.operation.proofs.place.register_at.Statement.{statement}
-use Rattle.operation.proofs.place.register_at.Tie as tie
+use Rattle.place.specs.Place.{registerAt}
+use Rattle.place.proofs.register_at.Statement.{statement}
+use Rattle.place.proofs.register_at.Tie as tie
 
 pub register-at-spec : {M : Type 1} → statement M
 unfolding registerAt

@@ -1,0 +1,1 @@
+// Bitwise operations, bit by bit: laws that several crates cite, no code.
