@@ -3,7 +3,9 @@
 A scenario sets up some FIFOs and filters, leaves Configuration, and then calls, delivers, sorts, sends, fails and looks, with good
 arguments and bad ones. Filters and the frames that are sorted go by the same few identifiers, so that masks and kinds decide; filters are
 set by calls and by raw words (targets may be 0, unused bits may be 1), single bits of them change on the way, and DNCNT is now and then above 0.
-Frames arrive with any DLC, with one that does not fit their length, with one above 15, or without; header words are now and then overwritten."""
+Frames arrive with any DLC, with one that does not fit their length, with one above 15, or without; header words are now and then overwritten.
+A scrubber steps over lists of 0 to 6 entries, often the same as before, one longer or shorter, with words that are there, near them, or any;
+a bit of a filter's register is flipped, frames are sorted, and a list that cares for it is stepped over."""
 import random, sys
 
 if sys.argv[1:2] in (['-h'], ['--help']): sys.exit(print(__doc__))
@@ -45,7 +47,9 @@ def control(): # PLSIZE, FSIZE, TXAT, priority, then the low bits; FIFOs are sma
 def address():
     return r.choice([0, 4, 8, 0xC, 0x14, 0x1C, 0xE00, 0xE04, 0x10, 0x400, 0xBFC, 0xC00, 0x5C + 4 * r.randrange(93), 0x1D0 + 4 * r.randrange(72)])
 
-def raw_write(a, w): return 'raw 2%03x%s 0' % (a, le(w))
+def raw_write(a, w):
+    there[a] = w
+    return 'raw 2%03x%s 0' % (a, le(w))
 def object_size(w): return 8 + (4 if w & 0xa0 == 0x20 else 0) + [8, *FD][w >> 29]
 def depth(w): return (w >> 24 & 31) + 1
 def slots(n): # where FIFO n's slots lie, by the words that the scenario began with
@@ -68,14 +72,73 @@ def filter_bit(): # of a filter's register, set or cleared
     f = r.choice(near)
     a = r.choice([0x1D0 + f // 4 * 4, 0x1F0 + 8 * f, 0x1F4 + 8 * f])
     clear, set_ = r.sample([0, 1 << r.randrange(32)], 2)
+    there[a] = there.get(a, 0) & ~clear | set_
     return 'modify_register %x %08x %08x' % (a, clear, set_)
+
+def watched(fifos): # an address: of the scenario's filters and FIFOs, of another register, or of none
+    if rare(40): return r.choice([0x10, 0x18, 0x50, 0x5D, 0x400, 0xE08, 0xE14, 0x1000, 0x1005C, 0xFFFFFFFF])
+    f = r.choice(near)
+    return r.choice([0x1D0 + f // 4 * 4, 0x1F0 + 8 * f, 0x1F4 + 8 * f, 0x5C + 12 * (r.choice(fifos) - 1) + r.choice([0, 0, 4, 8]),
+                     r.choice([0, 4, 8, 0xC, 0x14, 0x1C, 0xE00, 0xE04, 0x5C + 4 * r.randrange(93), 0x1D0 + 4 * r.randrange(72)])])
+def care(a): # of CiCON mostly DNCNT or a single bit: a mode asked for empties the FIFOs
+    if a == 0 and not rare(4): return r.choice([0x1F, 1 << r.randrange(24)])
+    return r.choice([0, 0xFFFFFFFF, 0xFFFFFFFF, 0xFFFFFFFF, 0x700, 1 << r.randrange(32), r.randrange(1 << 32)])
+def entry(fifos):
+    a = watched(fifos)
+    w = there.get(a, RESETS.get(a, 0x00600000 if 0x5C <= a < 0x1D0 and a % 12 == 8 else 0))
+    if rare(3): w ^= 1 << r.randrange(32)
+    if rare(10): w = r.randrange(1 << 32)
+    return a, w & 0xFFFFFFFF, care(a)
+def relist(fifos): # the list of the last step again, changed at its end, or another one
+    k = r.randrange(12)
+    if k == 0: watch.append(entry(fifos))
+    elif k == 1: del watch[r.randrange(1 + len(watch)):]
+    elif k < 5 or not watch: watch[:] = [entry(fifos) for _ in range(r.randrange(7))]
+    del watch[6:]
+def listed(how): return ' '.join(['scrub', how] + [r.choice(['%x', '%03x']) % a + ':%08x:%08x' % (w, m) for a, w, m in watch])
+def scrub(fifos):
+    relist(fifos)
+    return listed(r.choice(['report', 'rewrite']))
+def crc(bs):
+    c = 0xFFFF
+    for b in bs:
+        c ^= b << 8
+        for _ in range(8): c = (c << 1 ^ (0x18005 if c & 0x8000 else 0)) & 0xFFFF
+    return c
+def checked_answer(a): # six bytes, with the CRC or without; a: of what
+    w = le(r.randrange(1 << 32) if rare(3) else there.get(a, 0) & 0xFFFFFFFF)
+    return w + ('%04x' % (r.randrange(1 << 16) if r.randrange(2) else crc(bytes.fromhex('b%03x04' % (a & 0xFFF) + w))))
+def answer(name):
+    if name in ('scrub', 'checked_read') and r.randrange(3): return checked_answer(r.choice(watch)[0] if watch else address())
+    return hexed(r.choice([0, 4, 4, 4, 8, 3]))
+def at_lines(fifos, text, times, last):
+    name = text.split()[0]
+    out.append('call ' + text)
+    if name in ('scrub', 'checked_read') and rare(10): # mismatches in a row
+        first = r.choice([1, 1, 3])
+        for k in range(r.choice([1, 2, 3, 3])): out.append('@%d answer %s' % (first + k, hexed(6)))
+    for _ in range(times):
+        at = 1 + r.randrange(last)
+        out.append('@%d %s' % (at, 'fail' if rare(4) else 'answer ' + answer(name) if rare(6) else step(fifos)))
+def flipped(fifos): # a bit of a filter's register that a list cares for: frames before and behind the step that visits it
+    f = r.choice(near)
+    a = r.choice([0x1D0 + f // 4 * 4, 0x1F0 + 8 * f, 0x1F4 + 8 * f])
+    w, bit = there.get(a, 0) & 0xFFFFFFFF, 1 << r.randrange(32)
+    out.append(raw_write(a, w ^ bit))
+    there[a] = w
+    out.append('sort %s %s' % (known(), arriving()))
+    watch[:] = [entry(fifos) for _ in range(r.randrange(3))]
+    watch.insert(r.randrange(1 + len(watch)), (a, w, r.choice([bit, 0xFFFFFFFF, 0xFFFFFFFF ^ bit])))
+    how = r.choice(['report', 'rewrite', 'rewrite'])
+    for _ in watch: at_lines(fifos, listed(how), r.choice([0, 0, 1]), 5)
+    out.append('sort %s %s' % (known(), arriving()))
 
 def message(fifos):
     fl = flags()
     seq = r.choice([0, 1, 0x7fffff, 0x800000]) if rare(10) else r.randrange(1 << 23)
     return '%d %s %s %d %s' % (number(fifos), ident(), fl, seq, hexed(length(fl)))
 def call(fifos):
-    k = r.randrange(44)
+    k = r.randrange(48)
     if k < 9: return 'push ' + message(fifos)
     if k < 13: return 'request %d' % number(fifos)
     if k < 17: return 'transmit ' + message(fifos)
@@ -92,24 +155,24 @@ def call(fifos):
     if k == 39: return filter_call(fifos)
     if k < 42: return filter_bit()
     if k == 42: return 'modify_register 0 0000001f %08x' % (1 << r.randrange(5) if rare(3) else 0)
+    if k > 43: return scrub(fifos)
     return 'modify_register %x %08x %08x' % (0x5C + 12 * (r.choice(fifos) - 1), r.randrange(1 << 11), r.randrange(1 << 11))
 
 def action(fifos):
-    k = r.randrange(33)
+    k = r.randrange(34)
     if k < 7: out.append(step(fifos))
     elif k < 12: out.append('held %d' % number(fifos))
     elif k < 14: out.append('raw 3%03x 4' % (0x5C + 4 * r.randrange(93)))
     elif k == 14: out.append('raw %s %d' % (hexed(r.randrange(8)), r.randrange(8)))
     elif k == 15: filter_words(fifos)
     elif k == 16: out.append(header_word(fifos))
-    else:
-        out.append('call ' + call(fifos))
-        for _ in range(r.choice([0, 0, 0, 1, 1, 2, 3])):
-            at = 1 + r.randrange(9)
-            out.append('@%d %s' % (at, 'fail' if rare(4) else 'answer ' + hexed(r.choice([0, 4, 4, 4, 8, 3])) if rare(6) else step(fifos)))
+    elif k == 17: flipped(fifos)
+    else: at_lines(fifos, call(fifos), r.choice([0, 0, 0, 1, 1, 2, 3]), 9)
 
+RESETS = {0: 0x04980760, 4: 0x003E0F0F, 8: 0x000E0303, 0xC: 0x00021000, 0xE00: 0x460, 0xE04: 0x03000003}
 for _ in range(count):
     out.append('new')
+    there, watch = {}, [] # words by address, as raw writes left them, near enough; the list of the last scrub step
     fifos = sorted(r.sample(range(1, 32), 1 + r.randrange(4)))
     ids = [r.randrange(1 << 29) for _ in range(3)]
     near = r.sample(range(32), 4)

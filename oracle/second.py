@@ -370,13 +370,34 @@ def reg(a): need(a < 0x1000)
 def c_read_register(a): reg(a); return 'word %08x' % (yield from rd(a))
 def c_write_register(a, w): reg(a); yield from wr(a, w); return 'ok'
 def c_modify_register(a, c, st): reg(a); yield from mod(a, lambda w: w & ~c & 0xffffffff | st); return 'ok'
-def c_checked_read(a):
-    reg(a)
+def checked(a):
     s = cmd(11, a) + b'\x04'
     for i in range(3):
         r = yield from ask(s, 6, 1)
-        if crc(s + r[:4]) == int.from_bytes(r[4:], 'big'): return 'word %08x' % word(r[:4])
+        if crc(s + r[:4]) == int.from_bytes(r[4:], 'big'): return word(r[:4])
     raise Refused(10)
+def c_checked_read(a): reg(a); return 'word %08x' % (yield from checked(a))
+
+CARRIED = frozenset(filter(Chip().carried, range(0x1000)))
+assert len(CARRIED) == 173
+class Scrubber:
+    def __init__(s): s.place = 0
+    def step(s, rewrite, entries):
+        """visits one entry (address, wanted word, care mask) of the list that this step brings; the next place is the one behind it"""
+        need(entries, 32)
+        need(all(a in CARRIED for a, _, _ in entries), 33)
+        k = s.place if s.place < len(entries) else 0
+        s.place = k + 1
+        a, wanted, care = entries[k]
+        try: w = yield from checked(a)
+        except Refused as e: return 'unread %x %d' % (a, e.n)
+        if (w ^ wanted) & care == 0: return 'agree %x' % a
+        differ = 'differ %x %08x %08x' % (a, w, wanted)
+        if not rewrite: return differ
+        try:
+            yield from wr(a, w & ~care | wanted & care)
+            return differ + ' back %08x' % (yield from checked(a))
+        except Refused as e: return differ + ' unread %d' % e.n
 
 # ---------------------------------------------------------------- scripts
 class Bad(Exception): pass
@@ -408,12 +429,18 @@ SIG = dict(reset=[], get_op_mode=[], verify=[], verify_long=[], set_op_mode=[D],
            configure_bit_timing=[D] * 9, configure=[D] * 20, push=[D, ident, flags, D, byts], transmit=[D, ident, flags, D, byts],
            request=[D], has_next=[D], peek=[D], get=[D], read_ram=[hexw, D], write_ram=[hexw, byts], read_register=[hexw],
            checked_read=[hexw], write_register=[hexw, hexw], modify_register=[hexw] * 3)
+def entry(t):
+    """ADDR:WORD:MASK"""
+    return args([hexw] * 3, t.split(':'))
 def args(sig, ts):
     if len(sig) != len(ts): raise Bad
     return [f(t) for f, t in zip(sig, ts)]
-def parse_call(ts):
+def parse_call(ts, scrubber):
     if not ts: raise Bad
     name, a = ts[0], ts[1:]
+    if name == 'scrub':
+        if a[:1] not in (['report'], ['rewrite']) or len(a) > 1 + 256: raise Bad
+        return scrubber.step(a[0] == 'rewrite', [entry(t) for t in a[1:]])
     if name == 'configure_fifo':
         if len(a) < 4: raise Bad
         sig = [D, D, D, direction] + [D] * (7 if a[3] == 'tx' else 5)
@@ -435,7 +462,7 @@ def parse_step(ts):
     raise Bad
 
 def run(text, out):
-    chip = Chip()
+    chip, scrubber = Chip(), Scrubber()
     lines = text.split('\n')
     if lines and lines[-1] == '': lines.pop()
     i = 0
@@ -446,7 +473,7 @@ def run(text, out):
         ts = l.split(); no = i
         try:
             if ts[0] == 'call':
-                call = parse_call(ts[1:])
+                call = parse_call(ts[1:], scrubber)
                 steps, ans, fails = {}, {}, set()
                 while i < len(lines) and (skip(lines[i]) or lines[i].split()[0].startswith('@')):
                     m = lines[i].split() if not skip(lines[i]) else None
@@ -490,7 +517,7 @@ def run(text, out):
             elif ts[0] == 'held':
                 out += chip.held(*args([D], ts[1:])) + ['']
             elif ts == ['new']:
-                chip = Chip(); out += ['new', '']
+                chip, scrubber = Chip(), Scrubber(); out += ['new', '']
             else: raise Bad
         except Bad: out += ['error %d' % no, '']
     return out
