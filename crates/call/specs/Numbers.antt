@@ -7,6 +7,8 @@ use Rattle.spi.specs.Refusals.{numbered}
 use Rattle.header.specs.declared.Header.{Header}
 use Rattle.message.specs.declared.object.Stamp.{Stamp}
 use Rattle.call.specs.declared.Found.{Found}
+use Rattle.call.specs.declared.Rewrite.{Rewrite}
+use Rattle.call.specs.declared.Report.{Report}
 use Rattle.call.specs.declared.Outcome.{Outcome}
 
 -- identifier and flags
@@ -22,6 +24,18 @@ stampNumbers (Stamp.At t) = t ∷ []
 abbrev pub foundNumbers : Found → List ℕ
 foundNumbers f = f .len ∷ headerNumbers (f .header) ++ (f .dlc ∷ stampNumbers (f .stamp))
 
+-- a rewrite that was told: 0 and the word read back, or the number of what it was refused with
+abbrev pub rewriteNumbers : Rewrite → List ℕ
+rewriteNumbers Rewrite.None = []
+rewriteNumbers (Rewrite.Back w) = 0 ∷ w ∷ []
+rewriteNumbers (Rewrite.Unread r) = numbered r
+
+-- a scrub step: 0 for agreement, 1 for a difference, 2 for an entry that was not read; the address, and what is told of it
+abbrev pub reportNumbers : Report → List ℕ
+reportNumbers (Report.Agree address) = 0 ∷ address ∷ []
+reportNumbers (Report.Differ address read wanted w) = 1 ∷ address ∷ read ∷ wanted ∷ rewriteNumbers w
+reportNumbers (Report.Unread address r) = 2 ∷ address ∷ numbered r
+
 -- a refusal has document 01's number and values; an answer that is none has 0 in the number's place, which document 01 gives to no
 -- refusal, and its values; a call that still asks has no answer
 abbrev pub outcomeNumbers : Outcome → List ℕ
@@ -33,4 +47,28 @@ outcomeNumbers Outcome.Yes = 0 ∷ 1 ∷ []
 outcomeNumbers Outcome.No = 0 ∷ 0 ∷ []
 outcomeNumbers Outcome.Empty = 0 ∷ []
 outcomeNumbers (Outcome.Message f) = 0 ∷ foundNumbers f
+outcomeNumbers (Outcome.Scrubbed s) = 0 ∷ reportNumbers s
 outcomeNumbers (Outcome.Refused r) = numbered r
+
+-- the refusal that an outcome tells: of a scrub step also the one that it reports
+abbrev pub rewriteTells : Rewrite → List ℕ
+rewriteTells Rewrite.None = []
+rewriteTells (Rewrite.Back w) = []
+rewriteTells (Rewrite.Unread r) = numbered r
+
+abbrev pub reportTells : Report → List ℕ
+reportTells (Report.Agree address) = []
+reportTells (Report.Differ address read wanted w) = rewriteTells w
+reportTells (Report.Unread address r) = numbered r
+
+abbrev pub tells : Outcome → List ℕ
+tells Outcome.Running = []
+tells Outcome.Done = []
+tells (Outcome.Word w) = []
+tells (Outcome.Mode m) = []
+tells Outcome.Yes = []
+tells Outcome.No = []
+tells Outcome.Empty = []
+tells (Outcome.Message f) = []
+tells (Outcome.Scrubbed s) = reportTells s
+tells (Outcome.Refused r) = numbered r

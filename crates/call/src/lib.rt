@@ -11,6 +11,32 @@ pub struct Found {
     pub len: u8,
 }
 
+// What came of a scrub step's rewrite: none was told; the word of the checked read-back; what the write or else the read-back was
+// refused with.
+pub enum Rewrite {
+    None,
+    Back(u32),
+    Unread(Refusal),
+}
+
+// What a scrub step reports of the entry that it visited: the cared-for bits agree; they do not, with the word read and the wanted
+// one; the checked read was refused.
+pub enum Report {
+    Agree {
+        address: u16,
+    },
+    Differ {
+        address: u16,
+        read: u32,
+        wanted: u32,
+        rewrite: Rewrite,
+    },
+    Unread {
+        address: u16,
+        why: Refusal,
+    },
+}
+
 pub enum Outcome {
     // The call still asks for something.
     Running,
@@ -24,5 +50,6 @@ pub enum Outcome {
     // No message is held.
     Empty,
     Message(Found),
+    Scrubbed(Report),
     Refused(Refusal),
 }

@@ -31,5 +31,7 @@ pub fn number(refusal: Refusal) -> u32
         Refusal::BufferTooSmall => 28,
         Refusal::NoMatch => 30,
         Refusal::DeviceNet => 31,
+        Refusal::EmptyList => 32,
+        Refusal::NotCarried => 33,
     }
 }

@@ -78,6 +78,7 @@ roomFor n (Outcome.Mode m) = Outcome.Mode m
 roomFor n Outcome.Yes = Outcome.Yes
 roomFor n Outcome.No = Outcome.No
 roomFor n Outcome.Empty = Outcome.Empty
+roomFor n (Outcome.Scrubbed s) = Outcome.Scrubbed s
 roomFor n (Outcome.Message f) = if ltb n 64 then Outcome.Refused Refusal.BufferTooSmall else Outcome.Message f
 roomFor n (Outcome.Refused r) = Outcome.Refused r
 

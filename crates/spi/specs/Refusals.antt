@@ -30,6 +30,8 @@ numbered Refusal.NoLayout = 27 ∷ []
 numbered Refusal.BufferTooSmall = 28 ∷ []
 numbered Refusal.NoMatch = 30 ∷ []
 numbered Refusal.DeviceNet = 31 ∷ []
+numbered Refusal.EmptyList = 32 ∷ []
+numbered Refusal.NotCarried = 33 ∷ []
 
 -- nothing where all is well
 abbrev pub doneNumbers : Done → List ℕ

@@ -24,6 +24,8 @@ pub enum Refusal {
     BufferTooSmall,
     NoMatch,
     DeviceNet,
+    EmptyList,
+    NotCarried,
 }
 
 // An answer that says only whether all is well.

@@ -9,7 +9,7 @@ number-spec =
     tie.close
     (tie.spec (search needs) (search needs) (search needs) (search needs) (search needs) (search needs) (search needs) (search needs) (search needs)
     (search needs) (search needs) (search needs) (search needs) (search needs) (search needs) (search needs) (search needs) (search needs) (search needs)
-    (search needs) (search needs) (search needs) (search needs) (search needs)
+    (search needs) (search needs) (search needs) (search needs) (search needs) (search needs) (search needs)
     (λ c. simp (c .enum-told .given .1))
     (λ c. simp (c .enum-told2 .given .1))
     (λ c. simp (c .enum-told3 .given .1))
@@ -33,4 +33,6 @@ number-spec =
     (λ c. simp (c .enum-told21 .given .1))
     (λ c. simp (c .enum-told22 .given .1))
     (λ c. simp (c .enum-told23 .given .1))
-    (λ c. simp (c .enum-told24 .given .1)))
+    (λ c. simp (c .enum-told24 .given .1))
+    (λ c. simp (c .enum-told25 .given .1))
+    (λ c. simp (c .enum-told26 .given .1)))
