@@ -115,10 +115,10 @@ low a h = go (ltb 0 (a % 4)) refl
         (meets (carried (registerAt (4 * (a / 4)))) (among (addressesOf kinds) (4 * (a / 4))) (at listed 1024 multiples (a / 4) (omega arith))
         (of-all (λ x. carried (registerAt x)) (addressesOf kinds) all-listed (4 * (a / 4))))
 
--- from 0x1000 on nothing is carried
-above : (a : ℕ) → 2 ^ 12 ≤ a → carried (registerAt a) ≡ false
+-- behind the filters only OSC and IOCON are
+pub behind-filters : (a : ℕ) → 0x2F0 ≤ a → (a ≡ 0xE00 → ⊥) → (a ≡ 0xE04 → ⊥) → carried (registerAt a) ≡ false
 unfolding registerAt single
-above a h =
+behind-filters a h m n =
     by-if (λ (p : Place). carried p ≡ false) (ltb 0 (a % 4)) (λ e. refl)
     (λ e.
     simp (
@@ -132,9 +132,13 @@ above a h =
       ne-eqb a 0x00C (λ q. omega arith),
       ne-eqb a 0x014 (λ q. omega arith),
       ne-eqb a 0x01C (λ q. omega arith),
-      ne-eqb a 0xE00 (λ q. omega arith),
-      ne-eqb a 0xE04 (λ q. omega arith),
+      ne-eqb a 0xE00 m,
+      ne-eqb a 0xE04 n,
     ))
+
+-- so from 0x1000 on nothing is carried
+above : (a : ℕ) → 2 ^ 12 ≤ a → carried (registerAt a) ≡ false
+above a h = behind-filters a (omega arith) (λ q. omega arith) (λ q. omega arith)
 
 -- nor is it in the table, by computing
 narrow : all (λ x. ltb x 0x1000) (addressesOf kinds) ≡ true
