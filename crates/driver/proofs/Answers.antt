@@ -30,11 +30,15 @@ use Rattle.fetch.specs.declared.FetchStage.{FetchStage}
 use Rattle.fetch.specs.declared.FetchNumbers.{FetchNumbers}
 use Rattle.rx_fifo.specs.Numbers.{fetchOf}
 use Rattle.rx_fifo.specs.Step as fetch
+use Rattle.scrub.specs.declared.ScrubStage.{ScrubStage}
+use Rattle.scrub.specs.declared.ScrubNumbers.{ScrubNumbers}
+use Rattle.scrub.specs.Numbers.{scrubOf}
+use Rattle.scrub.specs.Step as scrub
 use Rattle.driver.specs.declared.At.{At}
 use Rattle.driver.specs.declared.Numbers.{Numbers}
-use Rattle.driver.specs.Start.{ofRegister, ofRam, ofPlan, ofPush, ofTransmit, ofFetch}
+use Rattle.driver.specs.Start.{ofRegister, ofRam, ofPlan, ofPush, ofTransmit, ofFetch, ofScrub}
 use Rattle.driver.specs.Step.{stepOf}
-use Rattle.driver.specs.Numbers.{registerPart, ramPart, planPart, pushPart, transmitPart, fetchPart, registerIn, ramIn, planIn, pushIn, transmitIn, fetchIn, modelOf}
+use Rattle.driver.specs.Numbers.{registerPart, ramPart, planPart, pushPart, transmitPart, fetchPart, scrubPart, registerIn, ramIn, planIn, pushIn, transmitIn, fetchIn, scrubIn, modelOf}
 
 module _ (c : Numbers) (body after : List ℕ) (a : Answer) (rx : List ℕ) where
   pub by-register : (stage : RegisterStage) (q : RegisterNumbers) → c .at ≡ At.Register stage → registerOf q ≡ register.stepOf (registerOf (registerPart c stage)) a rx
@@ -69,3 +73,8 @@ module _ (c : Numbers) (body after : List ℕ) (a : Answer) (rx : List ℕ) wher
       → modelOf (fetchIn c q) after ≡ stepOf (modelOf c body) a rx
   unfolding modelOf stepOf ofFetch
   by-fetch want stage q e g = rw e (ap ofFetch g)
+
+  pub by-scrub : (stage : ScrubStage) (q : ScrubNumbers) → c .at ≡ At.Scrub stage → scrubOf q ≡ scrub.stepOf (scrubOf (scrubPart c stage)) a rx
+      → modelOf (scrubIn c q) after ≡ stepOf (modelOf c body) a rx
+  unfolding modelOf stepOf ofScrub
+  by-scrub stage q e g = rw e (ap ofScrub g)

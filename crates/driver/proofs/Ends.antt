@@ -37,10 +37,12 @@ use Rattle.fetch.specs.declared.Want.{Want}
 use Rattle.fetch.specs.FetchAt.{FetchAt}
 use Rattle.fetch.specs.Step as fetched
 use Rattle.rx_fifo.specs.Step as fetch
+use Rattle.scrub.specs.Scrub.{Scrub, ScrubAt}
+use Rattle.scrub.specs.Step as scrub
 use Rattle.driver.specs.CallAt.{CallAt}
 use Rattle.driver.specs.Call.{Call}
 use Rattle.driver.specs.Step.{askAt, askOf, stepAt, stepOf, transmitOf}
-use Rattle.driver.specs.Demand1.{after, registerLeft, ramLeft, pushLeft, fetchLeft, leftAt, left, TurnsFall, OverAtNone, EveryCallEnds}
+use Rattle.driver.specs.Demand1.{after, registerLeft, ramLeft, pushLeft, fetchLeft, scrubLeftAt, scrubLeft, leftAt, left, TurnsFall, OverAtNone, EveryCallEnds}
 
 -- one turn less than so many, at most
 abbrev Falls : {S : Type 0} → (S → ℕ) → ℕ → S → Type 0
@@ -228,25 +230,50 @@ fetch-over fifo FetchAt.Empty = (λ e. refl, λ e. refl)
 fetch-over fifo (FetchAt.Told next) = (λ e. refl, λ e. refl)
 fetch-over fifo (FetchAt.Refused r) = (λ e. refl, λ e. refl)
 
+-- ---- scrub
+
+scrub-falls : (at : ScrubAt) (s : Scrub) (a : Answer) (rx : List ℕ) → Falls scrubLeft (scrubLeftAt at (s .rewrite)) (scrub.stepAt at s a rx)
+scrub-falls (ScrubAt.Visit left) s a rx =
+    let P = Falls scrubLeft (scrubLeftAt (ScrubAt.Visit left) (s .rewrite)) in
+    by-checked P (λ r. omega arith) (crcReply Refusal.SpiRead (s .entry .address) a rx)
+    (by-if P (eqb left 0) (λ e. omega arith) (λ e. omega (arith, eqb-false left 0 e)))
+    (λ w. by-if P (scrub.agrees w (s .entry .wanted) (s .entry .care)) (λ e. omega arith) (λ e. by-if P (s .rewrite) (λ f. rw f (omega arith)) (λ f. omega arith)))
+scrub-falls (ScrubAt.Write read) s a rx = by-done (Falls scrubLeft 4) (λ r. omega arith) (doneReply Refusal.SpiRead a (length rx) 0) (omega arith)
+scrub-falls (ScrubAt.Back read left) s a rx =
+    let P = Falls scrubLeft (scrubLeftAt (ScrubAt.Back read left) (s .rewrite)) in
+    by-checked P (λ r. omega arith) (crcReply Refusal.SpiRead (s .entry .address) a rx)
+    (by-if P (eqb left 0) (λ e. omega arith) (λ e. omega (arith, eqb-false left 0 e))) (λ w. omega arith)
+scrub-falls (ScrubAt.Told r) s a rx = omega arith
+scrub-falls (ScrubAt.Refused r) s a rx = omega arith
+
+scrub-over : (at : ScrubAt) (s : Scrub) → (scrubLeftAt at (s .rewrite) ≡ 0) ↔ (scrub.askAt at (s .entry) ≡ Ask.Nothing)
+scrub-over (ScrubAt.Visit left) s = still-asks (omega arith) refl
+scrub-over (ScrubAt.Write read) s = still-asks (omega arith) refl
+scrub-over (ScrubAt.Back read left) s = still-asks (omega arith) refl
+scrub-over (ScrubAt.Told r) s = (λ e. refl, λ e. refl)
+scrub-over (ScrubAt.Refused r) s = (λ e. refl, λ e. refl)
+
 -- ---- any call
 
 falls-at : (at : CallAt) (call : Call) (a : Answer) (rx : List ℕ) → Falls left (leftAt at call) (stepAt at call a rx)
-unfolding push.stepOf fetch.stepOf
+unfolding push.stepOf fetch.stepOf scrub.stepOf
 falls-at (CallAt.Register r) call a rx = register-falls r a rx
 falls-at (CallAt.Ram r) call a rx = ram-falls r a rx
 falls-at CallAt.Plan call a rx = plan-falls (call .plan) a rx
 falls-at CallAt.Push call a rx = push-falls 0 (call .push .size) (call .push .object .len) (call .push .at) a rx
 falls-at CallAt.Transmit call a rx = transmit-falls (transmitOf call) a rx
 falls-at CallAt.Fetch call a rx = fetch-falls (call .fetch .want) a rx (call .fetch .at)
+falls-at (CallAt.Scrub x) call a rx = scrub-falls (x .at) x a rx
 
 over-at : (at : CallAt) (call : Call) → (leftAt at call ≡ 0) ↔ (askAt at call ≡ Ask.Nothing)
-unfolding push.askOf fetch.askOf
+unfolding push.askOf fetch.askOf scrub.askOf
 over-at (CallAt.Register r) call = register-over r
 over-at (CallAt.Ram r) call = ram-over r
 over-at CallAt.Plan call = plan-over (call .plan)
 over-at CallAt.Push call = push-over 0 (call .push .fifo) (call .push .object .len) (call .push .at) (λ e. refl)
 over-at CallAt.Transmit call = transmit-over (transmitOf call)
 over-at CallAt.Fetch call = fetch-over (call .fetch .fifo) (call .fetch .at)
+over-at (CallAt.Scrub x) call = scrub-over (x .at) x
 
 falls : (call : Call) (a : Answer) (rx : List ℕ) → Falls left (left call) (stepOf call a rx)
 unfolding stepOf

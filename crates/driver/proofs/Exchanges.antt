@@ -30,7 +30,9 @@ use Rattle.spi.specs.declared.ask.Answer.{Answer}
 use Rattle.spi.specs.Ask.{headOf, bodyOf, wanted, sent}
 use Rattle.spi.specs.Instruction.{commandOf}
 use Rattle.spi.specs.Ram.{inRange, accessOf}
+use Rattle.spi.specs.Reply.{doneReply, crcReply}
 use Rattle.spi.specs.Talk.{Talk, done, refused, onDone, asks, answered, run, readWord, writeWord, pause}
+use Rattle.spi.proofs.Talks.{by-done, by-checked}
 use Rattle.call.specs.declared.Found.{Found}
 use Rattle.call.specs.declared.Outcome.{Outcome}
 use Rattle.register.specs.Talk.{readCall, writeCall, checkedCall, checkedTalk, atAddress}
@@ -57,9 +59,14 @@ use Rattle.fetch.specs.declared.Want.{Want}
 use Rattle.fetch.specs.Step.{foundBy, stamped}
 use Rattle.rx_fifo.specs.Outcome.{messageOf}
 use Rattle.rx_fifo.specs.Talk as fetch-talks
+use Rattle.watch.specs.declared.Watch.{Watch}
+use Rattle.watch.specs.Watch.{allCarried, entryIn}
+use Rattle.watch.proofs.Lists.{due-short}
+use Rattle.scrub.specs.Step.{agrees}
+use Rattle.scrub.specs.Talk.{checkedBy, backTalk, rewriteTalk, seenTalk, visitTalk, scrubCall}
 use Rattle.driver.specs.Step.{askOf, stepOf}
 use Rattle.driver.specs.Talk.{told}
-use Rattle.driver.specs.Calls.{Plans, Modify, Verify, SetOpMode, Osc, Io, BitTiming, Fifo, Filter, FilterOff, Configure, Start, Reset, OpMode, VerifyLong, Read, Checked, Write, ReadRam, WriteRam, Planned, Push, Transmit, Request, HasNext, Peek, Get, prepared, started, wholeTalk}
+use Rattle.driver.specs.Calls.{Plans, Modify, Verify, SetOpMode, Osc, Io, BitTiming, Fifo, Filter, FilterOff, Configure, Start, Reset, OpMode, VerifyLong, Read, Checked, Write, ReadRam, WriteRam, Planned, Push, Transmit, Request, HasNext, Peek, Get, Scrub, prepared, started, wholeTalk}
 use Rattle.driver.specs.Demand1.{Narrow, Below, AddressesBelow, Fits, most, ExchangesFit, isRam, RoomEnough}
 use Rattle.driver.proofs.Runs.{follows, run-talk}
 use Rattle.driver.proofs.Starts.{starts-as-talk}
@@ -324,6 +331,30 @@ lent-always P may-get want n room e last =
     (λ f. choice P (ltb room 64) _ _ (λ d. tt) (λ d. control-always P may-read n f want (λ b. rw e (or-none P may-read n f may-get want (last f) b))))
     (λ f. tt))
 
+-- ---- scrub
+
+module _ (P : Ask → Type 0) where
+  checked-always : (address left : ℕ) (bad : Refusal → Talk Outcome) (k : ℕ → Talk Outcome) → P (Ask.Checked address) → ((r : Refusal) → Always P (bad r))
+      → ((w : ℕ) → Always P (k w)) → Always P (checkedBy address left bad k)
+  unfolding checkedBy
+  checked-always address zero bad k l b h =
+      (l, λ a rx. by-checked (λ (t : Talk Outcome). Always P t) b (crcReply Refusal.SpiRead address a rx) (b Refusal.CrcMismatch) h)
+  checked-always address (suc left) bad k l b h =
+      (l, λ a rx. by-checked (λ (t : Talk Outcome). Always P t) b (crcReply Refusal.SpiRead address a rx) (checked-always address left bad k l b h) h)
+
+  visit-always : (w : Watch) (rewrite : Bool) → P (Ask.Checked (w .address)) → ((word : ℕ) → P (Ask.Word (w .address) word)) → Always P (visitTalk w rewrite 2)
+  visit-always w rewrite l may-write =
+      checked-always (w .address) 2 _ (seenTalk w rewrite) l (λ r. tt)
+      (λ read.
+      choice P (agrees read (w .wanted) (w .care)) _ _ (λ e. tt)
+      (λ e. choice P rewrite (rewriteTalk w read) _
+      (λ f. (
+        may-write _,
+        λ a rx. by-done (λ (t : Talk Outcome). Always P t) (λ r. tt) (doneReply Refusal.SpiRead a (length rx) 0)
+            (checked-always (w .address) 2 _ _ l (λ r. tt) (λ x. tt)),
+      ))
+      (λ f. tt)))
+
 -- ---- addresses and sizes
 
 abbrev Small : ℕ × ℕ → Ask → Type 0
@@ -363,7 +394,7 @@ pushed : (m : ℕ × ℕ) → 4 ≤ m .0 → 74 ≤ m .1 → (n : ℕ) (header :
 pushed m h k = pushed-always (Small m) (read-small m 4 h (omega arith)) (word-small m (omega arith)) (λ a len l d. body-small m len (omega arith) a l)
 
 whole-always : (x : Start) → Always (Small (most x)) (wholeTalk x)
-unfolding readCall checkedCall writeCall readRamTalk writeRamTalk verifyLongTalk transmitCall fetch-talks.hasNextTalk
+unfolding readCall checkedCall writeCall readRamTalk writeRamTalk verifyLongTalk transmitCall fetch-talks.hasNextTalk scrubCall
 whole-always Reset = let m = most Reset in puts (Small m) Refusal.SpiWrite Ask.Reset (done Outcome.Done) (reset-small m (omega arith)) tt
 whole-always OpMode = let m = most OpMode in reads (Small m) Refusal.SpiRead 0 _ (read-small m 4 (omega arith) (omega arith) 0 (omega arith)) (λ w. tt)
 whole-always VerifyLong =
@@ -409,6 +440,14 @@ whole-always (Get n room) =
     let m = most (Get n room) in
     lent-always (Small m) (λ a count l h. read-small m count (omega arith) (omega arith) a l) Want.Get n room (λ b. refl)
     (λ f. next-always (Small m) (read-small m 4 (omega arith) (omega arith)) (word-small m (omega arith)) n f)
+whole-always (Scrub p list rewrite) =
+    let m = most (Scrub p list rewrite) in
+    choice (Small m) (eqb (length list) 0) _ _ (λ e. tt)
+    (λ e. choice (Small m) (not (allCarried list)) _ _ (λ c. tt)
+    (λ c.
+    let l = due-short p list e (not-false _ c) in
+    visit-always (Small m) (entryIn p list) rewrite (checked-small m (omega arith) (omega arith) (entryIn p list .address) l)
+    (λ word. word-small m (omega arith) (entryIn p list .address) word l)))
 
 started-small : (x : Start) (xs : List (Answer × List ℕ)) → Small (most x) (askOf (run stepOf (started x) xs))
 started-small x xs =
@@ -438,6 +477,7 @@ most-le (Request n) e = (omega arith, omega arith)
 most-le (HasNext n) e = (omega arith, omega arith)
 most-le (Peek n room) e = (omega arith, omega arith)
 most-le (Get n room) e = (omega arith, omega arith)
+most-le (Scrub p list rewrite) e = (omega arith, omega arith)
 
 pub room-enough : RoomEnough
 room-enough x xs e =

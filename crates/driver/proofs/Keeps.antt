@@ -53,6 +53,7 @@ module _ (r : Refusal) (rx buf : List ℕ) where
   keeps-at CallAt.Push call e = refl
   keeps-at CallAt.Transmit call e = refl
   keeps-at CallAt.Fetch call e = fetch-keeps (call .fetch) e
+  keeps-at (CallAt.Scrub x) call e = refl
 
   call-keeps : (call : Call) → outcomeOf call ≡ Outcome.Refused r → filledBy call rx buf ≡ buf
   unfolding outcomeOf filledBy
@@ -88,6 +89,7 @@ module _ (r : Refusal) (rx buf : List ℕ) where
   own-end n Outcome.No l = refl
   own-end n Outcome.Empty l = refl
   own-end n (Outcome.Message f) l = rw l
+  own-end n (Outcome.Scrubbed x) l = refl
   own-end n (Outcome.Refused x) l = refl
 
   where-changed : (b : Bool) (new : List ℕ) → (b ≡ true → (if b then new else buf) ≡ buf) → (if b then new else buf) ≡ buf
@@ -107,6 +109,7 @@ module _ (r : Refusal) (rx buf : List ℕ) where
   end-at CallAt.Push call e = refl
   end-at CallAt.Transmit call e = refl
   end-at CallAt.Fetch call e = fetch-end (call .fetch) e
+  end-at (CallAt.Scrub x) call e = refl
 
 pub finish-keeps : FinishKeeps
 unfolding finishedAs filledBy

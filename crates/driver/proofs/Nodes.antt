@@ -3,18 +3,19 @@
 use Prim.Native.Nat.{ℕ, zero, suc}
 use mathlib.Core.Path.{_≡_, refl, ap, _∙_, sym}
 use mathlib.Core.Bool.{Bool, true, false, false≢true, true≢false}
-use mathlib.Core.List.{List}
+use mathlib.Core.List.{List, [], _∷_}
 use lib.ListN.{length}
 use lib.Dec.{eqb}
 use Rattle.spi.specs.declared.refusal.Refusal.{Refusal}
 use Rattle.spi.specs.declared.ask.Ask.{Ask}
 use Rattle.spi.specs.declared.ask.Answer.{Answer}
+use Rattle.spi.specs.Refusals.{numbered}
 use Rattle.spi.specs.Reply.{wordReply, pairReply, doneReply, waitReply, crcReply}
 use Rattle.spi.specs.Talk.{Talk, done, refused, ask, onWord, onPair, onDone, onChecked, andThen, asks, answered}
 use Rattle.spi.proofs.Talks.{isNothing}
 use Rattle.call.specs.declared.Outcome.{Outcome}
 use Rattle.call.specs.Outcome.{ended}
-use Rattle.call.specs.Numbers.{outcomeNumbers}
+use Rattle.call.specs.Numbers.{tells}
 use Rattle.register.specs.RegisterCall.{RegisterCall}
 use Rattle.register.specs.Talk as register-talks
 use Rattle.ram.specs.RamCall.{RamCall}
@@ -27,6 +28,10 @@ use Rattle.transmit.specs.Transmit.{transmitTalkOf}
 use Rattle.fetch.specs.declared.Want.{Want}
 use Rattle.fetch.specs.FetchAt.{FetchAt}
 use Rattle.rx_fifo.specs.Talk.{Fetched, told, message, empty, outcomeBy, talkAt as fetchAt, talkOf as fetchOf}
+use Rattle.watch.specs.declared.Watch.{Watch}
+use Rattle.scrub.specs.Scrub.{ScrubAt}
+use Rattle.scrub.specs.Step.{rewritten}
+use Rattle.scrub.specs.Talk as scrub-talks
 use Rattle.driver.specs.CallAt.{CallAt}
 use Rattle.driver.specs.Call.{Call}
 use Rattle.driver.specs.Step.{stepOf}
@@ -43,6 +48,7 @@ isRunning Outcome.Yes = false
 isRunning Outcome.No = false
 isRunning Outcome.Empty = false
 isRunning (Outcome.Message f) = false
+isRunning (Outcome.Scrubbed s) = false
 isRunning (Outcome.Refused r) = false
 
 -- ---- talks that are so where they stand; P holds of what one is done with
@@ -164,25 +170,70 @@ fetched-over (told false) = refl
 fetched-over (message m) = refl
 fetched-over empty = refl
 
-stands-at : (at : CallAt) (call : Call) → Stands Over (talkAt at call)
-unfolding push-talks.talkOf fetchOf transmitTalkOf
-stands-at (CallAt.Register r) call = register-stands r
-stands-at (CallAt.Ram r) call = ram-stands r
-stands-at CallAt.Plan call = plan-stands (call .plan .failed) (call .plan .at) _
-stands-at CallAt.Push call = push-stands (call .push .fifo) (call .push .size) (call .push .object .len) (call .push .at)
-stands-at CallAt.Transmit call =
-    then-stands Over Over _ _ (push-stands (call .push .fifo) (call .push .size) (call .push .object .len) (call .push .at))
-    (λ x h. plan-stands (call .plan .failed) (call .plan .at) _)
-stands-at CallAt.Fetch call =
-    then-stands Any Over _ _ (fetch-stands (call .fetch .want) (call .fetch .fifo) (call .fetch .held) (call .fetch .at)) (λ x h. fetched-over x)
+-- ---- any call: a wrong answer is told as 26, by a scrub step in its report
 
-call-stands : (call : Call) → Stands Over (talkOf call)
+abbrev told26 : Talk Outcome → Type 0
+told26 t = tells (ended (λ o. o) t) ≡ 26 ∷ []
+
+abbrev Sound : Talk Outcome → Type 0
+Sound (done x) = Over x
+Sound (refused r) = Unit {0}
+Sound (ask q k) = (isNothing q ≡ false) × ((a : Answer) (rx : List ℕ) → answers q a rx ≡ false → told26 (k a rx))
+
+sound-of : (t : Talk Outcome) → Stands Over t → Sound t
+sound-of (done x) h = h
+sound-of (refused r) h = tt
+sound-of (ask q k) h = (h .0, λ a rx e. ap (λ (t : Talk Outcome). tells (ended (λ o. o) t)) (h .1 a rx e))
+
+module _ (bad : Refusal → Talk Outcome) (says : (r : Refusal) → tells (ended (λ o. o) (bad r)) ≡ numbered r) where
+  checked-wrong : (address : ℕ) (o : Talk Outcome) (k : ℕ → Talk Outcome) (a : Answer) (rx : List ℕ) → exchanged a (length rx) 6 ≡ false
+      → told26 (onChecked bad (crcReply Refusal.SpiRead address a rx) o k)
+  checked-wrong address o k Answer.Exchanged rx e = rw e (says Refusal.WrongAnswer)
+  checked-wrong address o k Answer.Failed rx e = absurd (true≢false e)
+  checked-wrong address o k Answer.Waited rx e = says Refusal.WrongAnswer
+
+  checked-sound : (address left : ℕ) (k : ℕ → Talk Outcome) → Sound (scrub-talks.checkedBy address left bad k)
+  unfolding scrub-talks.checkedBy
+  checked-sound address zero k = (refl, checked-wrong address (bad Refusal.CrcMismatch) k)
+  checked-sound address (suc left) k = (refl, checked-wrong address (scrub-talks.checkedBy address left bad k) k)
+
+  written-sound : (address word : ℕ) (t : Talk Outcome) → Sound (ask (Ask.Word address word) (λ a rx. onDone bad (doneReply Refusal.SpiRead a (length rx) 0) t))
+  written-sound address word t = (refl, go)
+    where
+      go : (a : Answer) (rx : List ℕ) → exchanged a (length rx) 0 ≡ false → told26 (onDone bad (doneReply Refusal.SpiRead a (length rx) 0) t)
+      go Answer.Exchanged rx e = rw e (says Refusal.WrongAnswer)
+      go Answer.Failed rx e = absurd (true≢false e)
+      go Answer.Waited rx e = says Refusal.WrongAnswer
+
+scrub-sound : (at : ScrubAt) (w : Watch) (rewrite : Bool) → Sound (scrub-talks.talkAt at w rewrite)
+scrub-sound (ScrubAt.Visit left) w rewrite = checked-sound _ (λ r. refl) (w .address) left _
+scrub-sound (ScrubAt.Write read) w rewrite = written-sound _ (λ r. refl) (w .address) (rewritten read (w .wanted) (w .care)) _
+scrub-sound (ScrubAt.Back read left) w rewrite = checked-sound _ (λ r. refl) (w .address) left _
+scrub-sound (ScrubAt.Told r) w rewrite = refl
+scrub-sound (ScrubAt.Refused r) w rewrite = tt
+
+sound-at : (at : CallAt) (call : Call) → Sound (talkAt at call)
+unfolding push-talks.talkOf fetchOf transmitTalkOf
+sound-at (CallAt.Register r) call = sound-of (talkAt (CallAt.Register r) call) (register-stands r)
+sound-at (CallAt.Ram r) call = sound-of (talkAt (CallAt.Ram r) call) (ram-stands r)
+sound-at CallAt.Plan call = sound-of (talkAt CallAt.Plan call) (plan-stands (call .plan .failed) (call .plan .at) _)
+sound-at CallAt.Push call = sound-of (talkAt CallAt.Push call) (push-stands (call .push .fifo) (call .push .size) (call .push .object .len) (call .push .at))
+sound-at CallAt.Transmit call =
+    sound-of (talkAt CallAt.Transmit call)
+    (then-stands Over Over _ _ (push-stands (call .push .fifo) (call .push .size) (call .push .object .len) (call .push .at))
+    (λ x h. plan-stands (call .plan .failed) (call .plan .at) _))
+sound-at CallAt.Fetch call =
+    sound-of (talkAt CallAt.Fetch call)
+    (then-stands Any Over _ _ (fetch-stands (call .fetch .want) (call .fetch .fifo) (call .fetch .held) (call .fetch .at)) (λ x h. fetched-over x))
+sound-at (CallAt.Scrub x) call = scrub-sound (x .at) (x .entry) (x .rewrite)
+
+call-sound : (call : Call) → Sound (talkOf call)
 unfolding talkOf
-call-stands call = stands-at (call .at) call
+call-sound call = sound-at (call .at) call
 
 -- ---- the laws
 
-asks-something : (t : Talk Outcome) → Stands Over t → asks t ≡ Ask.Nothing → ended (λ o. o) t ≡ Outcome.Running → ⊥
+asks-something : (t : Talk Outcome) → Sound t → asks t ≡ Ask.Nothing → ended (λ o. o) t ≡ Outcome.Running → ⊥
 asks-something (done x) h e d = true≢false (sym (ap isRunning d) ∙ h)
 asks-something (refused r) h e d = false≢true (ap isRunning d)
 asks-something (ask q k) h e d = true≢false (sym (ap isNothing e) ∙ h .0)
@@ -194,11 +245,11 @@ runs-asking (ask q k) h = absurd (h refl)
 
 pub over-agrees : OverAgrees
 over-agrees call = (
-  λ e d. asks-something (talkOf call) (call-stands call) (sym (follows .asked call) ∙ e) (sym (outcome-talk call) ∙ d),
+  λ e d. asks-something (talkOf call) (call-sound call) (sym (follows .asked call) ∙ e) (sym (outcome-talk call) ∙ d),
   λ h. follows .asked call ∙ runs-asking (talkOf call) (λ e. h (outcome-talk call ∙ e)),
 )
 
-wrong-talk : (t : Talk Outcome) (a : Answer) (rx : List ℕ) → Stands Over t → answers (asks t) a rx ≡ false → answered t a rx ≡ refused Refusal.WrongAnswer
+wrong-talk : (t : Talk Outcome) (a : Answer) (rx : List ℕ) → Sound t → answers (asks t) a rx ≡ false → told26 (answered t a rx)
 unfolding answered
 wrong-talk (done x) a rx h e = refl
 wrong-talk (refused r) a rx h e = refl
@@ -206,6 +257,5 @@ wrong-talk (ask q k) a rx h e = h .1 a rx e
 
 pub wrong-answers : WrongAnswers
 wrong-answers call a rx e =
-    ap outcomeNumbers
-    (outcome-talk (stepOf call a rx)
-    ∙ ap (ended (λ o. o)) (follows .stepped call a rx ∙ wrong-talk (talkOf call) a rx (call-stands call) (ap (λ q. answers q a rx) (sym (follows .asked call)) ∙ e)))
+    ap tells (outcome-talk (stepOf call a rx) ∙ ap (ended (λ o. o)) (follows .stepped call a rx))
+    ∙ wrong-talk (talkOf call) a rx (call-sound call) (ap (λ q. answers q a rx) (sym (follows .asked call)) ∙ e)

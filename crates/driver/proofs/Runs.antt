@@ -25,10 +25,13 @@ use Rattle.tx_fifo.proofs.Runs as push
 use Rattle.transmit.proofs.Transmits as transmit
 use Rattle.rx_fifo.proofs.Runs as fetch
 use Rattle.rx_fifo.specs.Talk.{outcomeBy}
+use Rattle.scrub.specs.Scrub.{Scrub}
+use Rattle.scrub.specs.Talk as scrub-talks
+use Rattle.scrub.proofs.Runs as scrub
 use Rattle.driver.specs.CallAt.{CallAt}
 use Rattle.driver.specs.Call.{Call}
 use Rattle.driver.specs.Step.{transmitOf, askAt, askOf, stepAt, stepOf, outcomeAt, outcomeOf}
-use Rattle.driver.specs.Start.{ofRegister, ofRam, ofPlan, ofPush, ofTransmit, ofFetch}
+use Rattle.driver.specs.Start.{ofRegister, ofRam, ofPlan, ofPush, ofTransmit, ofFetch, ofScrub}
 use Rattle.driver.specs.Talk.{fetchTalk, talkAt, talkOf}
 
 -- ---- a talk whose result is told in other words
@@ -62,6 +65,7 @@ step-at CallAt.Plan s a rx = plan.follows .stepped (s .plan) a rx
 step-at CallAt.Push s a rx = push.follows .stepped (s .push) a rx
 step-at CallAt.Transmit s a rx = transmit.follows .stepped (transmitOf s) a rx
 step-at CallAt.Fetch s a rx = ap (λ t. andThen t (λ x. done (outcomeBy x))) (fetch.follows .stepped (s .fetch) a rx) ∙ told-answered outcomeBy _ a rx
+step-at (CallAt.Scrub x) s a rx = scrub.follows .stepped x a rx
 
 ask-at : (at : CallAt) (s : Call) → askAt at s ≡ asks (talkAt at s)
 ask-at (CallAt.Register r) s = register.follows .asked r
@@ -70,6 +74,7 @@ ask-at CallAt.Plan s = plan.follows .asked (s .plan)
 ask-at CallAt.Push s = push.follows .asked (s .push)
 ask-at CallAt.Transmit s = transmit.follows .asked (transmitOf s)
 ask-at CallAt.Fetch s = fetch.follows .asked (s .fetch) ∙ told-asks outcomeBy _
+ask-at (CallAt.Scrub x) s = scrub.follows .asked x
 
 outcome-at : (at : CallAt) (s : Call) → outcomeAt at s ≡ ended (λ x. x) (talkAt at s)
 outcome-at (CallAt.Register r) s = register.outcome-talk r
@@ -78,6 +83,7 @@ outcome-at CallAt.Plan s = plan.outcome-talk (s .plan)
 outcome-at CallAt.Push s = push.outcome-talk (s .push)
 outcome-at CallAt.Transmit s = transmit.outcome-talk (transmitOf s)
 outcome-at CallAt.Fetch s = fetch.outcome-talk (s .fetch) ∙ told-ended outcomeBy _
+outcome-at (CallAt.Scrub x) s = scrub.outcome-talk x
 
 stepped : (s : Call) (a : Answer) (rx : List ℕ) → talkOf (stepOf s a rx) ≡ answered (talkOf s) a rx
 unfolding stepOf talkOf
@@ -123,3 +129,7 @@ transmit-talk t = refl
 pub fetch-talk : (f : Fetch) → talkOf (ofFetch f) ≡ fetchTalk f
 unfolding talkOf ofFetch
 fetch-talk f = refl
+
+pub scrub-talk : (x : Scrub) → talkOf (ofScrub x) ≡ scrub-talks.talkOf x
+unfolding talkOf ofScrub
+scrub-talk x = refl

@@ -42,10 +42,13 @@ use Rattle.transmit.proofs.Transmits as transmit
 use Rattle.fetch.specs.declared.Want.{Want}
 use Rattle.rx_fifo.specs.Talk.{hasNextTalk, lentTalk}
 use Rattle.rx_fifo.proofs.Runs as fetch
+use Rattle.watch.specs.Watch.{allCarried}
+use Rattle.scrub.specs.Talk.{checkedBy, scrubCall}
+use Rattle.scrub.proofs.Runs as scrub
 use Rattle.driver.specs.Talk.{told}
-use Rattle.driver.specs.Calls.{Plans, Modify, Verify, SetOpMode, Osc, Io, BitTiming, Fifo, Filter, FilterOff, Configure, Start, Reset, OpMode, VerifyLong, Read, Checked, Write, ReadRam, WriteRam, Planned, Push, Transmit, Request, HasNext, Peek, Get, prepared, fifoNumber, started, wholeTalk, first, sendable, roomy, planTests, tests}
+use Rattle.driver.specs.Calls.{Plans, Modify, Verify, SetOpMode, Osc, Io, BitTiming, Fifo, Filter, FilterOff, Configure, Start, Reset, OpMode, VerifyLong, Read, Checked, Write, ReadRam, WriteRam, Planned, Push, Transmit, Request, HasNext, Peek, Get, Scrub, prepared, fifoNumber, started, wholeTalk, first, sendable, roomy, planTests, tests}
 use Rattle.driver.specs.Demand1.{StartsAsTalk, RefusesFirst}
-use Rattle.driver.proofs.Runs.{outcome-talk, register-talk, ram-talk, plan-talk, push-talk, transmit-talk, fetch-talk}
+use Rattle.driver.proofs.Runs.{outcome-talk, register-talk, ram-talk, plan-talk, push-talk, transmit-talk, fetch-talk, scrub-talk}
 
 by-bool : {G : Type 0} (b : Bool) → (b ≡ true → G) → (b ≡ false → G) → G
 by-bool true f g = f refl
@@ -98,6 +101,7 @@ starts-as-talk (Request n) = plan-talk _ ∙ transmit.request-talk n
 starts-as-talk (HasNext n) = fetch-talk _ ∙ ap told (fetch.has-next-start-talk (fifoNumber n) ∙ next-kept n)
 starts-as-talk (Peek n room) = fetch-talk _ ∙ ap told (fetch.lent-start-talk Want.Peek (fifoNumber n) room ∙ lent-kept Want.Peek n room)
 starts-as-talk (Get n room) = fetch-talk _ ∙ ap told (fetch.lent-start-talk Want.Get (fifoNumber n) room ∙ lent-kept Want.Get n room)
+starts-as-talk (Scrub place list rewrite) = scrub-talk _ ∙ scrub.scrub-start-talk place list rewrite
 
 -- ---- refusals before any exchange
 
@@ -141,7 +145,7 @@ unfolding lentTalk andThen
 lent-first want n room = by-bool (isFifo n) (λ e. by-bool (ltb room 64) (λ l. simp (e, l)) (λ l. simp (e, l))) (λ e. simp e)
 
 talk-first : (x : Start) → answer (wholeTalk x) ≡ first (tests x)
-unfolding verifyLongTalk readCall checkedCall checkedTalk writeCall readRamTalk writeRamTalk accessOf requestCall transmitCall hasNextTalk andThen
+unfolding verifyLongTalk readCall checkedCall checkedTalk writeCall readRamTalk writeRamTalk accessOf requestCall transmitCall hasNextTalk andThen scrubCall checkedBy
 talk-first Reset = refl
 talk-first OpMode = refl
 talk-first VerifyLong = refl
@@ -160,6 +164,8 @@ talk-first (Request n) = by-bool (isFifo n) (λ e. simp e) (λ e. simp e)
 talk-first (HasNext n) = by-bool (isFifo n) (λ e. simp e) (λ e. simp e)
 talk-first (Peek n room) = lent-first Want.Peek n room
 talk-first (Get n room) = lent-first Want.Get n room
+talk-first (Scrub place list rewrite) =
+    by-bool (eqb (length list) 0) (λ e. simp e) (λ e. by-bool (allCarried list) (λ d. simp (e, d)) (λ d. simp (e, d)))
 
 pub refuses-first : RefusesFirst
 refuses-first x = ap outcomeNumbers (outcome-talk (started x) ∙ ap (ended (λ o. o)) (starts-as-talk x)) ∙ talk-first x

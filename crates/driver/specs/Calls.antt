@@ -37,9 +37,13 @@ use Rattle.tx_fifo.specs.Talk.{pushCall}
 use Rattle.transmit.specs.Transmit.{requestStart, requestCall, transmitStart, transmitCall}
 use Rattle.rx_fifo.specs.Step.{hasNextStart, peekStart, getStart}
 use Rattle.rx_fifo.specs.Talk.{hasNextTalk, peekTalk, getTalk}
+use Rattle.watch.specs.declared.Watch.{Watch}
+use Rattle.watch.specs.Watch.{allCarried}
+use Rattle.scrub.specs.Step.{scrubStart}
+use Rattle.scrub.specs.Talk.{scrubCall}
 use Rattle.driver.specs.Call.{Call}
 use Rattle.driver.specs.Talk.{told}
-use Rattle.driver.specs.Start.{ofRegister, ofRam, ofPlan, ofPush, ofTransmit, ofFetch}
+use Rattle.driver.specs.Start.{ofRegister, ofRam, ofPlan, ofPush, ofTransmit, ofFetch, ofScrub}
 
 -- the calls that set the chip up, and the two others that are lists of changes and echoes
 pub data Plans : Type 0 where
@@ -65,6 +69,7 @@ pub data Start : Type 0 where
   Push Transmit : (fifo : ℕ) → Header → (seq : ℕ) → List ℕ → Start
   Request HasNext : (fifo : ℕ) → Start
   Peek Get : (fifo room : ℕ) → Start
+  Scrub : (place : ℕ) → List Watch → (rewrite : Bool) → Start
 
 -- ---- where the driver starts, and the whole call as the line sees it
 
@@ -100,6 +105,7 @@ started (Request n) = ofPlan (requestStart n)
 started (HasNext n) = ofFetch (hasNextStart (fifoNumber n))
 started (Peek n room) = ofFetch (peekStart (fifoNumber n) room)
 started (Get n room) = ofFetch (getStart (fifoNumber n) room)
+started (Scrub place list rewrite) = ofScrub (scrubStart place list rewrite)
 
 abbrev pub wholeTalk : Start → Talk Outcome
 wholeTalk Reset = resetTalk
@@ -117,6 +123,7 @@ wholeTalk (Request n) = requestCall n
 wholeTalk (HasNext n) = told (hasNextTalk n)
 wholeTalk (Peek n room) = told (peekTalk n room)
 wholeTalk (Get n room) = told (getTalk n room)
+wholeTalk (Scrub place list rewrite) = scrubCall place list rewrite
 
 -- ---- what is refused before any exchange: document 01's number, followed by the value that it carries, and when it is given
 
@@ -158,6 +165,10 @@ sendable n header seq payload =
 abbrev pub roomy : (n room : ℕ) → List Test
 roomy n room = notFifo n ∷ (28 ∷ []) when ltb room 64 ∷ []
 
+-- scrub: 32, 33
+abbrev pub watchable : List Watch → List Test
+watchable list = (32 ∷ []) when eqb (length list) 0 ∷ (33 ∷ []) when not (allCarried list) ∷ []
+
 -- configuration calls: 20, 21, 24
 abbrev pub planTests : Plans → List Test
 planTests (Modify address clear set) = wide address
@@ -188,3 +199,4 @@ tests (Request n) = notFifo n ∷ []
 tests (HasNext n) = notFifo n ∷ []
 tests (Peek n room) = roomy n room
 tests (Get n room) = roomy n room
+tests (Scrub place list rewrite) = watchable list

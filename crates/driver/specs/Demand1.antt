@@ -15,18 +15,20 @@ use Rattle.spi.specs.Ask.{wanted, sent}
 use Rattle.spi.specs.Talk.{asks, answered, run}
 use Rattle.call.specs.declared.Outcome.{Outcome}
 use Rattle.call.specs.Outcome.{ended}
-use Rattle.call.specs.Numbers.{outcomeNumbers}
+use Rattle.call.specs.Numbers.{outcomeNumbers, tells}
 use Rattle.register.specs.RegisterCall.{RegisterCall}
 use Rattle.ram.specs.RamCall.{RamCall}
 use Rattle.plan.specs.Talk.{planLeft}
 use Rattle.tx_fifo.specs.PushAt.{PushAt}
 use Rattle.fetch.specs.FetchAt.{FetchAt}
+use Rattle.laws.specs.If.{if_then_else_}
+use Rattle.scrub.specs.Scrub.{Scrub as Scrubbing, ScrubAt}
 use Rattle.driver.specs.CallAt.{CallAt}
 use Rattle.driver.specs.Call.{Call}
 use Rattle.driver.specs.Step.{askOf, stepOf, outcomeOf, filledBy}
 use Rattle.driver.specs.Finish.{finishedAs}
 use Rattle.driver.specs.Talk.{talkOf}
-use Rattle.driver.specs.Calls.{Start, Reset, OpMode, VerifyLong, Read, Checked, Write, ReadRam, WriteRam, Planned, Push, Transmit, Request, HasNext, Peek, Get, started, wholeTalk, first, tests}
+use Rattle.driver.specs.Calls.{Start, Reset, OpMode, VerifyLong, Read, Checked, Write, ReadRam, WriteRam, Planned, Push, Transmit, Request, HasNext, Peek, Get, Scrub, started, wholeTalk, first, tests}
 
 -- a call after these answers, each with what was received
 abbrev pub after : Call → List (Answer × List ℕ) → Call
@@ -82,6 +84,17 @@ fetchLeft FetchAt.Empty = 0
 fetchLeft (FetchAt.Told next) = 0
 fetchLeft (FetchAt.Refused r) = 0
 
+-- a scrub step: behind the visit's read, where it was told so, a write and a checked read-back
+abbrev pub scrubLeftAt : ScrubAt → (rewrite : Bool) → ℕ
+scrubLeftAt (ScrubAt.Visit left) rewrite = left + 1 + (if rewrite then 4 else 0)
+scrubLeftAt (ScrubAt.Write read) rewrite = 4
+scrubLeftAt (ScrubAt.Back read left) rewrite = left + 1
+scrubLeftAt (ScrubAt.Told r) rewrite = 0
+scrubLeftAt (ScrubAt.Refused r) rewrite = 0
+
+abbrev pub scrubLeft : Scrubbing → ℕ
+scrubLeft s = scrubLeftAt (s .at) (s .rewrite)
+
 -- behind the push of a transmit stands its request
 abbrev pub leftAt : CallAt → Call → ℕ
 leftAt (CallAt.Register r) call = registerLeft r
@@ -90,6 +103,7 @@ leftAt CallAt.Plan call = planLeft (call .plan)
 leftAt CallAt.Push call = pushLeft (call .push .at) 0
 leftAt CallAt.Transmit call = pushLeft (call .push .at) (planLeft (call .plan))
 leftAt CallAt.Fetch call = fetchLeft (call .fetch .at)
+leftAt (CallAt.Scrub x) call = scrubLeft x
 
 -- the most exchanges and waits that a call may still ask for
 abbrev pub left : Call → ℕ
@@ -150,11 +164,11 @@ answers Ask.Reset a rx = exchanged a (length rx) 0
 answers Ask.Wait a rx = waited a (length rx)
 answers Ask.Nothing a rx = false
 
--- any other is 26, whatever the call: never converted
+-- any other is 26, whatever the call: never converted; a scrub step reports it
 abbrev pub WrongAnswers : Type 0
 WrongAnswers =
     (call : Call) (a : Answer) (rx : List ℕ) → answers (askOf call) a rx ≡ false
-    → outcomeNumbers (outcomeOf (stepOf call a rx)) ≡ 26 ∷ []
+    → tells (outcomeOf (stepOf call a rx)) ≡ 26 ∷ []
 
 -- ---- each call is its talk, in which every further refusal stands behind the exchange that it comes from
 
@@ -208,6 +222,7 @@ most (Request n) = (4, 6)
 most (HasNext n) = (4, 2)
 most (Peek n room) = (64, 2)
 most (Get n room) = (64, 6)
+most (Scrub place list rewrite) = (6, 6)
 
 -- none is larger, whatever is answered
 abbrev pub ExchangesFit : Type 0
@@ -230,6 +245,7 @@ isRam (Request n) = false
 isRam (HasNext n) = false
 isRam (Peek n room) = false
 isRam (Get n room) = false
+isRam (Scrub place list rewrite) = false
 
 -- for all others 128 bytes to receive and 130 to send are enough
 abbrev pub RoomEnough : Type 0

@@ -19,6 +19,7 @@ finishedAt CallAt.Plan s got room = outcomeOf s
 finishedAt CallAt.Push s got room = outcomeOf s
 finishedAt CallAt.Transmit s got room = outcomeOf s
 finishedAt CallAt.Fetch s got room = fetch.finishedAs (s .fetch) room
+finishedAt (CallAt.Scrub x) s got room = outcomeOf s
 
 unfoldable pub finishedAs : Call → (got room : ℕ) → Outcome
 finishedAs s got room = finishedAt (s .at) s got room
@@ -31,6 +32,20 @@ acceptedAt CallAt.Plan s = false
 acceptedAt CallAt.Push s = isDone (s .push)
 acceptedAt CallAt.Transmit s = isDone (s .push)
 acceptedAt CallAt.Fetch s = false
+acceptedAt (CallAt.Scrub x) s = false
 
 unfoldable pub acceptedBy : Call → Bool
 acceptedBy s = acceptedAt (s .at) s
+
+-- the place of a scrub step's scrubber; of a call of another kind that of a new one
+abbrev pub placeAt : CallAt → ℕ
+placeAt (CallAt.Register r) = 0
+placeAt (CallAt.Ram r) = 0
+placeAt CallAt.Plan = 0
+placeAt CallAt.Push = 0
+placeAt CallAt.Transmit = 0
+placeAt CallAt.Fetch = 0
+placeAt (CallAt.Scrub x) = x .place
+
+unfoldable pub placeOf : Call → ℕ
+placeOf s = placeAt (s .at)

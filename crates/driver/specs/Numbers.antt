@@ -23,11 +23,14 @@ use Rattle.fetch.specs.declared.Want.{Want}
 use Rattle.fetch.specs.declared.FetchStage.{FetchStage}
 use Rattle.fetch.specs.declared.FetchNumbers.{FetchNumbers}
 use Rattle.rx_fifo.specs.Numbers.{fetchOf}
+use Rattle.scrub.specs.declared.ScrubStage.{ScrubStage}
+use Rattle.scrub.specs.declared.ScrubNumbers.{ScrubNumbers}
+use Rattle.scrub.specs.Numbers.{scrubOf}
 use Rattle.driver.specs.declared.At.{At}
 use Rattle.driver.specs.declared.Numbers.{Numbers}
 use Rattle.driver.specs.declared.Call as code
 use Rattle.driver.specs.Call.{Call}
-use Rattle.driver.specs.Start.{ofRegister, ofRam, ofPlan, ofPush, ofTransmit, ofFetch}
+use Rattle.driver.specs.Start.{ofRegister, ofRam, ofPlan, ofPush, ofTransmit, ofFetch, ofScrub}
 
 -- ---- the numbers of each family among those that they share, and those with the family's own in them
 
@@ -67,6 +70,12 @@ fetchPart c want stage = record { want = want; stage = stage; fifo = c .fifo; st
 abbrev pub fetchIn : Numbers → FetchNumbers → Numbers
 fetchIn c p = record { at = At.Fetch (p .want) (p .stage); stamped = p .stamped; fifo = p .fifo; more = p .len; next = c .next; m = p .m; w = p .w; a = p .a; b = p .b; t = p .t; size = c .size; len = c .len; why = p .why }
 
+abbrev pub scrubPart : Numbers → ScrubStage → ScrubNumbers
+scrubPart c stage = record { stage = stage; rewrite = c .stamped; more = c .more; m = c .m; w = c .w; a = c .a; b = c .b; t = c .t; place = c .size; next = c .len; why = c .why }
+
+abbrev pub scrubIn : Numbers → ScrubNumbers → Numbers
+scrubIn c p = record { at = At.Scrub (p .stage); stamped = p .rewrite; fifo = c .fifo; more = p .more; next = c .next; m = p .m; w = p .w; a = p .a; b = p .b; t = p .t; size = p .place; len = p .next; why = p .why }
+
 -- ---- the call
 
 abbrev pub modelAt : At → Numbers → List ℕ → Call
@@ -76,6 +85,7 @@ modelAt (At.Plan kind stage) c body = ofPlan (plan.planIn (planPart c kind stage
 modelAt (At.Push stage) c body = ofPush (pushOf (pushPart c stage) body)
 modelAt (At.Transmit stage request) c body = ofTransmit (transmit.transmitIn (transmitPart c stage request) body)
 modelAt (At.Fetch want stage) c body = ofFetch (fetchOf (fetchPart c want stage) body)
+modelAt (At.Scrub stage) c body = ofScrub (scrubOf (scrubPart c stage))
 
 -- numbers with the body that is lent to them
 unfoldable pub modelOf : Numbers → List ℕ → Call
@@ -95,6 +105,7 @@ isOwn (At.Plan kind stage) = false
 isOwn (At.Push stage) = true
 isOwn (At.Transmit stage request) = true
 isOwn (At.Fetch want stage) = false
+isOwn (At.Scrub stage) = false
 
 -- the pattern of the long echo test
 abbrev pub echoes : RamStage → Bool
@@ -113,3 +124,4 @@ isEcho (At.Plan kind stage) = false
 isEcho (At.Push stage) = false
 isEcho (At.Transmit stage request) = false
 isEcho (At.Fetch want stage) = false
+isEcho (At.Scrub stage) = false

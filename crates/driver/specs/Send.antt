@@ -25,6 +25,7 @@ bodyAt CallAt.Plan s lent = lent
 bodyAt CallAt.Push s lent = s .push .object .bytes
 bodyAt CallAt.Transmit s lent = s .push .object .bytes
 bodyAt CallAt.Fetch s lent = lent
+bodyAt (CallAt.Scrub x) s lent = lent
 
 unfoldable pub bodyOf : Call → List ℕ → List ℕ
 bodyOf s lent = bodyAt (s .at) s lent

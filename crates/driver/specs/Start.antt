@@ -12,6 +12,7 @@ use Rattle.tx_fifo.specs.PushAt.{PushAt}
 use Rattle.transmit.specs.Transmit.{Transmit}
 use Rattle.rx_fifo.specs.Fetch.{Fetch}
 use Rattle.rx_fifo.specs.Step.{hasNextStart}
+use Rattle.scrub.specs.Scrub.{Scrub}
 use Rattle.driver.specs.CallAt.{CallAt}
 use Rattle.driver.specs.Call.{Call}
 
@@ -42,3 +43,6 @@ ofTransmit t = record { at = CallAt.Transmit; plan = t .request; push = t .push;
 
 unfoldable pub ofFetch : Fetch → Call
 ofFetch f = record { at = CallAt.Fetch; plan = idlePlan; push = idlePush; fetch = f }
+
+unfoldable pub ofScrub : Scrub → Call
+ofScrub s = record { at = CallAt.Scrub s; plan = idlePlan; push = idlePush; fetch = idleFetch }

@@ -15,6 +15,7 @@ use Rattle.plan.specs.Step as plan
 use Rattle.tx_fifo.specs.Step as push
 use Rattle.rx_fifo.specs.Step as fetch
 use Rattle.rx_fifo.specs.Outcome as found
+use Rattle.scrub.specs.Step as scrub
 use Rattle.driver.specs.CallAt.{CallAt}
 use Rattle.driver.specs.Call.{Call}
 
@@ -33,6 +34,7 @@ askAt CallAt.Plan s = plan.askOf (s .plan)
 askAt CallAt.Push s = push.askOf (s .push)
 askAt CallAt.Transmit s = transmitAsk (transmitOf s)
 askAt CallAt.Fetch s = fetch.askOf (s .fetch)
+askAt (CallAt.Scrub x) s = scrub.askOf x
 
 unfoldable pub askOf : Call → Ask
 askOf s = askAt (s .at) s
@@ -49,6 +51,7 @@ stepAt CallAt.Plan s a rx = record { at = CallAt.Plan; plan = plan.stepOf (s .pl
 stepAt CallAt.Push s a rx = record { at = CallAt.Push; plan = s .plan; push = push.stepOf (s .push) a rx; fetch = s .fetch }
 stepAt CallAt.Transmit s a rx = transmitting (transmitStep (transmitOf s) a rx) (s .fetch)
 stepAt CallAt.Fetch s a rx = record { at = CallAt.Fetch; plan = s .plan; push = s .push; fetch = fetch.stepOf (s .fetch) a rx }
+stepAt (CallAt.Scrub x) s a rx = movedTo s (CallAt.Scrub (scrub.stepOf x a rx))
 
 unfoldable pub stepOf : Call → Answer → List ℕ → Call
 stepOf s a rx = stepAt (s .at) s a rx
@@ -61,6 +64,7 @@ outcomeAt CallAt.Plan s = plan.outcomeOf (s .plan)
 outcomeAt CallAt.Push s = push.outcomeOf (s .push)
 outcomeAt CallAt.Transmit s = transmitOutcome (transmitOf s)
 outcomeAt CallAt.Fetch s = found.outcomeOf (s .fetch)
+outcomeAt (CallAt.Scrub x) s = scrub.outcomeOf x
 
 unfoldable pub outcomeOf : Call → Outcome
 outcomeOf s = outcomeAt (s .at) s
@@ -73,6 +77,7 @@ filledAt CallAt.Plan s rx buf = buf
 filledAt CallAt.Push s rx buf = buf
 filledAt CallAt.Transmit s rx buf = buf
 filledAt CallAt.Fetch s rx buf = found.filledBy (s .fetch) buf
+filledAt (CallAt.Scrub x) s rx buf = buf
 
 unfoldable pub filledBy : Call → (rx buf : List ℕ) → List ℕ
 filledBy s rx buf = filledAt (s .at) s rx buf

@@ -9,6 +9,7 @@ use Rattle.tx_fifo.specs.Talk as push
 use Rattle.transmit.specs.Transmit.{transmitTalkOf}
 use Rattle.rx_fifo.specs.Fetch.{Fetch}
 use Rattle.rx_fifo.specs.Talk as fetch
+use Rattle.scrub.specs.Talk as scrub
 use Rattle.driver.specs.CallAt.{CallAt}
 use Rattle.driver.specs.Call.{Call}
 use Rattle.driver.specs.Step.{transmitOf}
@@ -27,6 +28,7 @@ talkAt CallAt.Plan s = plan.talkOf (s .plan)
 talkAt CallAt.Push s = push.talkOf (s .push)
 talkAt CallAt.Transmit s = transmitTalkOf (transmitOf s)
 talkAt CallAt.Fetch s = fetchTalk (s .fetch)
+talkAt (CallAt.Scrub x) s = scrub.talkOf x
 
 -- the rest of a call
 unfoldable pub talkOf : Call → Talk Outcome

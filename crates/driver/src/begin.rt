@@ -1,12 +1,13 @@
 // The calls: one function for each, which starts it. Any number may be given: what is refused is refused before any exchange, and the
 // call is then over.
 ghost use mathlib.Core.Path.{_≡_};
-ghost use Rattle.driver.specs.Calls.{Modify, Verify, SetOpMode, Osc, Io, BitTiming, Fifo, Filter, FilterOff, Configure, Reset, OpMode, VerifyLong, Read, Checked, Write, ReadRam, WriteRam, Planned, Push, Transmit, Request, HasNext, Peek, Get, fifoNumber, started};
+ghost use Rattle.driver.specs.Calls.{Modify, Verify, SetOpMode, Osc, Io, BitTiming, Fifo, Filter, FilterOff, Configure, Reset, OpMode, VerifyLong, Read, Checked, Write, ReadRam, WriteRam, Planned, Push, Transmit, Request, HasNext, Peek, Get, Scrub, fifoNumber, started};
 ghost use Rattle.register.specs.Numbers.{registerOf};
 ghost use Rattle.ram.specs.Numbers.{ramOf};
 ghost use Rattle.configure.specs.Numbers.{planIn};
 ghost use Rattle.rx_fifo.specs.Numbers.{fetchOf};
-ghost use Rattle.driver.specs.Start.{ofRegister, ofRam, ofPlan, ofFetch};
+ghost use Rattle.scrub.specs.Step.{begins};
+ghost use Rattle.driver.specs.Start.{ofRegister, ofRam, ofPlan, ofFetch, ofScrub};
 ghost use Rattle.driver.specs.Numbers.{callOf};
 use crate::Call;
 use crate::parts_of::idle;
@@ -15,6 +16,7 @@ use crate::parts_of::with_plan;
 use crate::parts_of::with_push;
 use crate::parts_of::with_ram;
 use crate::parts_of::with_register;
+use crate::parts_of::with_scrub;
 use crate::parts_of::with_transmit;
 use areas::FifoConfiguration;
 use areas::FilterConfiguration;
@@ -27,6 +29,9 @@ use fetch::FetchNumbers;
 use header::Header;
 use ram::RamNumbers;
 use register::RegisterNumbers;
+use watch::Begun;
+use watch::Scrubber;
+use watch::Watch;
 
 fn fifo_number(n: u32) -> u8
     ensures { λ r. ⌜ r ≡ fifoNumber n ⌝ }
@@ -263,4 +268,22 @@ pub fn get(fifo: u32, room: usize) -> Call
     let mut body = [0u8; 76];
     let p = rx_fifo::get_start(fifo_number(fifo), room, &mut body);
     of_fetch(p, body)
+}
+
+fn scrub_from(b: Begun, rewrite: bool) -> Call
+    ensures { λ r. ⌜ callOf r ≡ ofScrub (begins b rewrite) ⌝ }
+{
+    Call {
+        numbers: with_scrub(idle(), scrub::scrub_begin(b, rewrite)),
+        body: [0u8; 76],
+    }
+}
+
+// One step of a scrubber over a list: the register that is due is read, checked, and its cared-for bits compared with the wanted ones.
+// Where they differ and `rewrite` is true they are written, and read back. `scrubber` gives the scrubber back.
+pub fn scrub(s: Scrubber, list: &[Watch], rewrite: bool) -> Call
+    ensures { λ r. ⌜ callOf r ≡ started (Scrub (s .place) (now (list .entry)) rewrite) ⌝ }
+{
+    let b = watch::scrub_start(s, list);
+    scrub_from(b, rewrite)
 }

@@ -1,14 +1,16 @@
 // How many exchanges and waits are left.
 ghost use mathlib.Core.Path.{_≡_};
 ghost use Prim.Native.Nat.{_<_};
+ghost use Rattle.laws.specs.If.{if_then_else_};
 ghost use Rattle.register.specs.Numbers.{registerOf};
 ghost use Rattle.ram.specs.Numbers.{ramOf};
 ghost use Rattle.tx_fifo.specs.Numbers.{pushAt};
 ghost use Rattle.transmit.specs.Numbers.{requestOf, transmitIn};
 ghost use Rattle.fetch.specs.Numbers.{fetchAt};
+ghost use Rattle.scrub.specs.Numbers.{scrubOf};
 ghost use Rattle.plan.specs.Talk.{planLeft};
 ghost use mathlib.Core.List.{[]};
-ghost use Rattle.driver.specs.Demand1.{registerLeft, ramLeft, pushLeft, fetchLeft, left};
+ghost use Rattle.driver.specs.Demand1.{registerLeft, ramLeft, pushLeft, fetchLeft, scrubLeft, left};
 ghost use Rattle.driver.specs.Numbers.{modelOf};
 use crate::At;
 use crate::Numbers;
@@ -17,6 +19,7 @@ use crate::parts_of::plan_part;
 use crate::parts_of::push_part;
 use crate::parts_of::ram_part;
 use crate::parts_of::register_part;
+use crate::parts_of::scrub_part;
 use crate::parts_of::transmit_part;
 use fetch::FetchNumbers;
 use fetch::FetchStage;
@@ -25,6 +28,8 @@ use ram::RamNumbers;
 use ram::RamStage;
 use register::RegisterNumbers;
 use register::RegisterStage;
+use scrub::ScrubNumbers;
+use scrub::ScrubStage;
 use transmit::RequestStage;
 use transmit::TransmitNumbers;
 use tx_fifo::PushNumbers;
@@ -134,6 +139,30 @@ fn fetch_turns(c: FetchNumbers) -> u32
     }
 }
 
+// A write and three checked reads, where a rewrite was told.
+fn behind_visit(rewrite: bool) -> u32
+    ensures { λ r. ⌜ (r ≡ (if rewrite then 4 else 0)) × (r < 1000) ⌝ }
+{
+    if rewrite { 4 } else { 0 }
+}
+
+fn scrub_turns(c: ScrubNumbers) -> u32
+    ensures { λ r. ⌜ r ≡ scrubLeft (scrubOf c) ⌝ }
+{
+    let stage = c.stage;
+    match stage {
+        ScrubStage::Visit => c.more as u32 + 1 + behind_visit(c.rewrite),
+        ScrubStage::Write => 4,
+        ScrubStage::Back => c.more as u32 + 1,
+        ScrubStage::Agree => 0,
+        ScrubStage::Differ => 0,
+        ScrubStage::Rewritten => 0,
+        ScrubStage::Unwritten => 0,
+        ScrubStage::Unread => 0,
+        ScrubStage::Refused => 0,
+    }
+}
+
 pub fn turns_lent(c: Numbers, body: &[u8; 76]) -> u32
     ensures { λ r. ⌜ r ≡ left (modelOf c (now (body .entry))) ⌝ }
 {
@@ -145,5 +174,6 @@ pub fn turns_lent(c: Numbers, body: &[u8; 76]) -> u32
         At::Push(stage) => push_turns(push_part(c, stage), 0),
         At::Transmit(stage, request) => transmit_turns(transmit_part(c, stage, request)),
         At::Fetch(want, stage) => fetch_turns(fetch_part(c, want, stage)),
+        At::Scrub(stage) => scrub_turns(scrub_part(c, stage)),
     }
 }

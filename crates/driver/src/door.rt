@@ -4,7 +4,7 @@ ghost use lib.ListN.{length};
 ghost use Rattle.send.specs.Send.{nextOf, putInto};
 ghost use Rattle.driver.specs.Step.{askOf, stepOf, filledBy};
 ghost use Rattle.driver.specs.Send.{bodyOf};
-ghost use Rattle.driver.specs.Finish.{finishedAs, acceptedBy};
+ghost use Rattle.driver.specs.Finish.{finishedAs, acceptedBy, placeOf};
 ghost use Rattle.driver.specs.Demand1.{left};
 ghost use Rattle.driver.specs.Numbers.{callOf};
 use crate::At;
@@ -15,6 +15,7 @@ use crate::parts_of;
 use call::Outcome;
 use send::Next;
 use spi::Answer;
+use watch::Scrubber;
 
 // What the call asks for now, its bytes put at the front of `tx`. `lent` is what a RAM write was started with, otherwise not looked
 // at.
@@ -61,6 +62,20 @@ pub fn accepted(call: Call) -> bool
             request,
         )),
         At::Fetch(_, _) => false,
+        At::Scrub(_) => false,
+    }
+}
+
+// The scrubber of a scrub step: moved on where the step reported, as it was where the step was refused or is not over. Of a call of
+// another kind: at the first entry.
+pub fn scrubber(call: Call) -> Scrubber
+    ensures { λ r. ⌜ r .place ≡ placeOf (callOf call) ⌝ }
+{
+    let c = call.numbers;
+    let at = c.at;
+    match at {
+        At::Scrub(_) => Scrubber { place: c.size },
+        _ => Scrubber { place: 0 },
     }
 }
 

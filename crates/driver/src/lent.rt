@@ -16,12 +16,14 @@ use crate::parts_of::plan_part;
 use crate::parts_of::push_part;
 use crate::parts_of::ram_part;
 use crate::parts_of::register_part;
+use crate::parts_of::scrub_part;
 use crate::parts_of::transmit_part;
 use crate::parts_of::with_fetch;
 use crate::parts_of::with_plan;
 use crate::parts_of::with_push;
 use crate::parts_of::with_ram;
 use crate::parts_of::with_register;
+use crate::parts_of::with_scrub;
 use crate::parts_of::with_transmit;
 use call::Outcome;
 use ram::RamStage;
@@ -41,6 +43,7 @@ fn ask(c: Numbers) -> Ask
         At::Push(stage) => tx_fifo::push_ask(push_part(c, stage)),
         At::Transmit(stage, request) => transmit::transmit_ask(transmit_part(c, stage, request)),
         At::Fetch(want, stage) => rx_fifo::fetch_ask(fetch_part(c, want, stage)),
+        At::Scrub(stage) => scrub::scrub_ask(scrub_part(c, stage)),
     }
 }
 
@@ -76,6 +79,7 @@ fn is_echo(c: Numbers) -> bool
         At::Push(_) => false,
         At::Transmit(_, _) => false,
         At::Fetch(_, _) => false,
+        At::Scrub(_) => false,
     }
 }
 
@@ -90,6 +94,7 @@ fn is_own(c: Numbers) -> bool
         At::Push(_) => true,
         At::Transmit(_, _) => true,
         At::Fetch(_, _) => false,
+        At::Scrub(_) => false,
     }
 }
 
@@ -133,6 +138,7 @@ pub fn answer_lent(c: Numbers, answer: Answer, rx: &[u8], body: &mut [u8; 76]) -
             c,
             rx_fifo::fetch_step(fetch_part(c, want, stage), answer, rx, body),
         ),
+        At::Scrub(stage) => with_scrub(c, scrub::scrub_step(scrub_part(c, stage), answer, rx)),
     }
 }
 
@@ -153,5 +159,6 @@ pub fn finish_lent(c: Numbers, body: &[u8; 76], rx: &[u8], buf: &mut [u8]) -> Ou
             request,
         )),
         At::Fetch(want, stage) => rx_fifo::fetch_finish(fetch_part(c, want, stage), body, buf),
+        At::Scrub(stage) => scrub::scrub_outcome(scrub_part(c, stage)),
     }
 }

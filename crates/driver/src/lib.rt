@@ -32,6 +32,7 @@ pub use begin::read_ram;
 pub use begin::read_register;
 pub use begin::request;
 pub use begin::reset;
+pub use begin::scrub;
 pub use begin::set_op_mode;
 pub use begin::transmit;
 pub use begin::verify;
@@ -40,6 +41,8 @@ pub use begin::write_ram;
 pub use begin::write_register;
 pub use call::Found;
 pub use call::Outcome;
+pub use call::Report;
+pub use call::Rewrite;
 pub use changes::BitTimeConfiguration;
 pub use changes::DataBitTime;
 pub use changes::IoConfiguration;
@@ -54,6 +57,7 @@ pub use door::body_of;
 pub use door::finish;
 pub use door::next;
 pub use door::numbers_of;
+pub use door::scrubber;
 pub use door::turns;
 use fetch::FetchStage;
 use fetch::Want;
@@ -65,11 +69,14 @@ pub use message::Stamp;
 pub use numbers::number;
 use ram::RamStage;
 use register::RegisterStage;
+use scrub::ScrubStage;
 pub use send::Next;
 pub use spi::Answer;
 pub use spi::Refusal;
 use transmit::RequestStage;
 use tx_fifo::PushStage;
+pub use watch::Scrubber;
+pub use watch::Watch;
 
 // Where a call stands in its family.
 enum At {
@@ -79,6 +86,7 @@ enum At {
     Push(PushStage),
     Transmit(PushStage, RequestStage),
     Fetch(Want, FetchStage),
+    Scrub(ScrubStage),
 }
 
 // A call without its bytes: where it stands, and numbers that the families share. Nobody outside makes one by hand.

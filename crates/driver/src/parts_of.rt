@@ -1,7 +1,7 @@
 // A family's own numbers in those of a call, and back.
 ghost use mathlib.Core.Path.{_≡_};
 ghost use Rattle.driver.specs.declared.At.{At};
-ghost use Rattle.driver.specs.Numbers.{registerPart, ramPart, planPart, pushPart, transmitPart, fetchPart, registerIn, ramIn, planIn, pushIn, transmitIn, fetchIn};
+ghost use Rattle.driver.specs.Numbers.{registerPart, ramPart, planPart, pushPart, transmitPart, fetchPart, scrubPart, registerIn, ramIn, planIn, pushIn, transmitIn, fetchIn, scrubIn};
 use crate::At;
 use crate::Numbers;
 use configure::PlanKind;
@@ -14,6 +14,8 @@ use ram::RamNumbers;
 use ram::RamStage;
 use register::RegisterNumbers;
 use register::RegisterStage;
+use scrub::ScrubNumbers;
+use scrub::ScrubStage;
 use spi::Refusal;
 use transmit::RequestStage;
 use transmit::TransmitNumbers;
@@ -258,6 +260,47 @@ pub fn with_fetch(c: Numbers, p: FetchNumbers) -> Numbers
         t: p.t,
         size: c.size,
         len: c.len,
+        why: why,
+    }
+}
+
+pub fn scrub_part(c: Numbers, stage: ScrubStage) -> ScrubNumbers
+    ensures { λ r. ⌜ r ≡ scrubPart c stage ⌝ }
+{
+    let why = c.why;
+    ScrubNumbers {
+        stage: stage,
+        rewrite: c.stamped,
+        more: c.more,
+        m: c.m,
+        w: c.w,
+        a: c.a,
+        b: c.b,
+        t: c.t,
+        place: c.size,
+        next: c.len,
+        why: why,
+    }
+}
+
+pub fn with_scrub(c: Numbers, p: ScrubNumbers) -> Numbers
+    ensures { λ r. ⌜ r ≡ scrubIn c p ⌝ }
+{
+    let stage = p.stage;
+    let why = p.why;
+    Numbers {
+        at: At::Scrub(stage),
+        stamped: p.rewrite,
+        fifo: c.fifo,
+        more: p.more,
+        next: c.next,
+        m: p.m,
+        w: p.w,
+        a: p.a,
+        b: p.b,
+        t: p.t,
+        size: p.place,
+        len: p.next,
         why: why,
     }
 }

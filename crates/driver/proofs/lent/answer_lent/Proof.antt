@@ -1,6 +1,6 @@
 -- `driver::lent::answer_lent` meets its contract.
 -- Assumes nothing.
-use Rattle.driver.proofs.Answers.{by-register, by-ram, by-plan, by-push, by-transmit, by-fetch}
+use Rattle.driver.proofs.Answers.{by-register, by-ram, by-plan, by-push, by-transmit, by-fetch, by-scrub}
 use denote.Ref.{now}
 use borrow.Author.Needs.{needs}
 use Rattle.driver.proofs.lent.answer_lent.Statement.{statement}
@@ -24,7 +24,10 @@ returns-5 c = rw (c .with-transmit .ensures) (by-transmit _ _ _ _ _ _ _ _ (c .be
 returns-6 : tie.Need-returns-6
 returns-6 c = rw (c .with-fetch .ensures) (by-fetch _ _ _ _ _ _ _ _ (c .before .before .before .before .before .at6 .given .1) (rw (c .before .before .before .fetch-part .ensures) at (c .before .fetch-step .ensures)))
 
+returns-7 : tie.Need-returns-7
+returns-7 c = rw (c .with-scrub .ensures) (by-scrub _ _ _ _ _ _ _ (c .before .before .before .before .at7 .given .1) (rw (c .before .before .scrub-part .ensures) at (c .before .scrub-step .ensures)))
+
 pub answer-lent-spec : {M : Type 1} → statement M
 answer-lent-spec =
     tie.close
-    (tie.spec (λ c. search needs) (λ c κs. search needs) (λ c κs. search needs) (λ c κs. search needs) (λ c. search needs) (λ c κs. search needs) (λ c κs. search needs) (λ c κs. search needs) (λ c. search needs) (λ c κs. search needs) (λ c κs. search needs) (λ c κs. search needs) (λ c. search needs) (λ c κs. search needs) (λ c κs. search needs) (λ c κs. search needs) (λ c. search needs) (λ c κs. search needs) (λ c κs. search needs) (λ c κs. search needs) (λ c. search needs) (λ c κs. search needs) (λ c κs. search needs) (λ c κs. search needs) returns returns-2 returns-3 returns-4 returns-5 returns-6)
+    (tie.spec (λ c. search needs) (λ c κs. search needs) (λ c κs. search needs) (λ c κs. search needs) (λ c. search needs) (λ c κs. search needs) (λ c κs. search needs) (λ c κs. search needs) (λ c. search needs) (λ c κs. search needs) (λ c κs. search needs) (λ c κs. search needs) (λ c. search needs) (λ c κs. search needs) (λ c κs. search needs) (λ c κs. search needs) (λ c. search needs) (λ c κs. search needs) (λ c κs. search needs) (λ c κs. search needs) (λ c. search needs) (λ c κs. search needs) (λ c κs. search needs) (λ c κs. search needs) (λ c. search needs) (λ c κs. search needs) (λ c κs. search needs) (λ c κs. search needs) returns returns-2 returns-3 returns-4 returns-5 returns-6 returns-7)
