@@ -33,7 +33,7 @@ use Rattle.operation.proofs.Laws.{asks-read, asks-checked, asks-word, writes-wo
 use Rattle.state.specs.declared.Model.{Model}
 use Rattle.state.specs.Model.{written}
 use Rattle.bank.specs.Registers.{wordOf, controlWritten, registerWritten}
-use Rattle.model.specs.Exchange.{doneWriting, performed, exchange}
+use Rattle.model.specs.Exchange.{doneWriting, checkedBytes, performed, exchange}
 use Rattle.history.proofs.Slots.{fifo-told}
 use Rattle.history.proofs.Line.{hearing, spoken}
 use Rattle.history.proofs.Kept.{heard-chip}
@@ -82,6 +82,16 @@ module _ (b : List ℕ) (c : Model) where
         does (Ask.Word a w) b c (Operation.Write r w)
         (ap (λ (s : List ℕ). asked s 0) (sent-head (Ask.Word a w) b refl) ∙ asks-word a w h ∙ writes-word a w off l
         ∙ ap (λ (p : Place). at p (λ x. Operation.Write x w)) is)
+
+  -- a register's word is read, checked
+  pub hear-checked : (a : ℕ) (r : Register) → registerAt a ≡ Place.Is r → a < 2 ^ 12
+      → spoken (Ask.Checked a) b c ≡ hears Answer.Exchanged (checkedBytes (headOf (Ask.Checked a)) (wordOf c r)) c
+  unfolding performed
+  hear-checked a r is h =
+      let s = sent-head (Ask.Checked a) b refl in
+      does (Ask.Checked a) b c (Operation.Checked r)
+      (ap (λ (x : List ℕ). asked x 6) s ∙ asks-checked a h ∙ ap (λ (p : Place). at p Operation.Checked) is)
+      ∙ ap (λ (x : List ℕ). hears Answer.Exchanged (checkedBytes x (wordOf c r)) c) s
 
   module _ (n : ℕ) (f : isFifo n ≡ true) where
     -- FIFO n's registers lie below RAM

@@ -12,31 +12,34 @@ use Rattle.history.proofs.PeekKeeps.{peek-keeps}
 use Rattle.history.proofs.PushFails.{push-fails, transmit-fails}
 use Rattle.history.proofs.Theorem.{holds-always, fits}
 use Rattle.history.proofs.GoesOut.{oldest-goes, request-sends, transmit-sends}
+use Rattle.history.proofs.Scrubs.{flip-reported, rewrite-leaves}
 use Rattle.history.proofs.Example as example
 
 pub demand3 : Demand3
 demand3 = record {
   startsAtDoor = starts-at-door;
-  lists = λ c w g es. holds-always c w g es .lists;
-  pushExactly = λ c w g es. push-exactly (world c w es) (fits c w g es);
-  pushedIff = λ c w g es. pushed-iff (world c w es) (fits c w g es);
-  getExactly = λ c w g es. get-exactly (world c w es) (fits c w g es);
-  gotIff = λ c w g es. got-iff (world c w es) (fits c w g es);
-  getHandsOut = λ c w g es. get-hands-out (world c w es) (fits c w g es);
-  peekExactly = λ c w g es. peek-exactly (world c w es) (fits c w g es);
-  peekKeeps = λ c w g es. peek-keeps (world c w es);
-  hasNextExactly = λ c w g es. has-next-exactly (world c w es) (fits c w g es);
-  pushFails = λ c w g es. push-fails (world c w es) (fits c w g es);
-  transmitFails = λ c w g es. transmit-fails (world c w es) (fits c w g es);
-  requestExactly = λ c w g es. request-exactly (world c w es);
-  transmitRefused = λ c w g es. transmit-refused (world c w es) (fits c w g es);
-  transmitDone = λ c w g es. transmit-done (world c w es) (fits c w g es);
-  requestFails = λ c w g es. request-fails (world c w es) (fits c w g es);
+  lists = λ c w g es r. holds-always c w g es r .lists;
+  pushExactly = λ c w g es r. push-exactly (world c w es) (fits c w g es r);
+  pushedIff = λ c w g es r. pushed-iff (world c w es) (fits c w g es r);
+  getExactly = λ c w g es r. get-exactly (world c w es) (fits c w g es r);
+  gotIff = λ c w g es r. got-iff (world c w es) (fits c w g es r);
+  getHandsOut = λ c w g es r. get-hands-out (world c w es) (fits c w g es r);
+  peekExactly = λ c w g es r. peek-exactly (world c w es) (fits c w g es r);
+  peekKeeps = λ c w g es r. peek-keeps (world c w es);
+  hasNextExactly = λ c w g es r. has-next-exactly (world c w es) (fits c w g es r);
+  pushFails = λ c w g es r. push-fails (world c w es) (fits c w g es r);
+  transmitFails = λ c w g es r. transmit-fails (world c w es) (fits c w g es r);
+  requestExactly = λ c w g es r. request-exactly (world c w es);
+  transmitRefused = λ c w g es r. transmit-refused (world c w es) (fits c w g es r);
+  transmitDone = λ c w g es r. transmit-done (world c w es) (fits c w g es r);
+  requestFails = λ c w g es r. request-fails (world c w es) (fits c w g es r);
   oldestGoes = oldest-goes;
   requestSends = request-sends;
   transmitSends = transmit-sends;
-  neverCaused = λ c w g es. holds-always c w g es .tells;
+  neverCaused = λ c w g es r. holds-always c w g es r .tells;
   answeredWhole = answered-whole;
+  flipReported = flip-reported;
+  rewriteLeaves = rewrite-leaves;
   begins = example.begins;
   sends = example.computed .0;
   sendsNot = example.computed .1;

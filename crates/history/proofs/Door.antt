@@ -10,6 +10,7 @@ looks-at-door (Look.Register a) = refl
 looks-at-door (Look.Checked a) = refl
 looks-at-door Look.OpMode = refl
 looks-at-door (Look.Ram a place count buf) = refl
+looks-at-door (Look.Scrub place list rewrite) = refl
 
 sets-at-door : (x : Setting) → doorStarted (doorOf (Command.Configuring x)) ≡ started (Command.Configuring x)
 sets-at-door (Setting.Fifo n c) = refl

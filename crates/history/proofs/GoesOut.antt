@@ -21,7 +21,7 @@ use Rattle.message.specs.Message.{Decoding}
 use Rattle.plan.specs.Change.{modified}
 use Rattle.plan.proofs.Changes.{change-sets}
 use Rattle.transmit.specs.Transmit.{requestChange}
-use Rattle.driver.specs.Start.{idlePush, idleFetch}
+use Rattle.driver.specs.Start.{idlePush, idleFetch, ofPlan, ofTransmit}
 use Rattle.place.specs.declared.Register.{Register}
 use Rattle.ring.specs.declared.ring.Fifo.{Fifo}
 use Rattle.ring.specs.Ring.{sending, claimed, taken, overflowed, sent}
@@ -37,9 +37,9 @@ use Rattle.bus.specs.Sort.{filterFor, targetFor}
 use Rattle.bus.proofs.Arriving.{by-deliver, by-give, receives-is}
 use Rattle.bus.proofs.Sorts.{by-sort}
 use Rattle.reach.specs.Bus.{Bus, Send, Deliver, Sort, stepped}
-use Rattle.history.specs.Command.{Command, Request, Transmit}
+use Rattle.history.specs.Command.{Command, Request, Transmit, started}
 use Rattle.history.specs.History.{Event, Begin, On, Said, idle, World, event, after}
-use Rattle.history.specs.Demand.{world, calm, buses, atStatus, Takes, Requested, SendsOldest, OldestGoes, TakesLast, LastStays, GoesOut, RequestSends, TransmitSends}
+use Rattle.history.specs.Demand.{world, calm, buses, atStatus, Takes, Requested, NoRewrite, SendsOldest, OldestGoes, TakesLast, LastStays, GoesOut, RequestSends, TransmitSends}
 use Rattle.history.proofs.Sound.{Sound, Asked}
 use Rattle.history.proofs.Few.{just-two, seven}
 use Rattle.history.proofs.Slots.{next-fifo, next-asked}
@@ -50,6 +50,7 @@ use Rattle.history.proofs.Calm.{buses-fit}
 use Rattle.history.proofs.PushSteps.{encoded-for}
 use Rattle.history.proofs.PlanSteps.{alone}
 use Rattle.history.proofs.Transmits.{nothing-more, request-goes, request-starts-at, half-way, pushed, pushed-ready}
+use Rattle.history.proofs.Still.{scrubs, call-still}
 use Rattle.history.proofs.Theorem.{None, event-keeps, run-keeps, holds-always, fits}
 
 -- ---- a bus step that is no send of the last leaves TXREQ of FIFO n at 1
@@ -93,12 +94,12 @@ module _ (n : ℕ) (c : Model) (o : Sound c) (q : Asked (Only n) c) where
 
 -- ---- any events of which none is
 
-run-stands : (n : ℕ) (es : List Event) (v : World) → Inv (Only n) v → LastStays n es v → Inv (Only n) (after es v)
+run-stands : (n : ℕ) (es : List Event) (v : World) → NoRewrite es v → Inv (Only n) v → LastStays n es v → Inv (Only n) (after es v)
 unfolding after
-run-stands n [] v i l = i
-run-stands n (e ∷ es) v i (last, l) =
-    run-stands n es _
-    (event-keeps (Only n) e (v .doing) (v .chip) (v .said) i
+run-stands n [] v r i l = i
+run-stands n (e ∷ es) v r i (last, l) =
+    run-stands n es _ (r .1)
+    (event-keeps (Only n) e (v .doing) (v .chip) (v .said) (r .0) i
     (λ b x. bus-asked n (v .chip) (i .sound) (i .asked) b (subst (λ (y : Event). TakesLast n y (v .chip) → ⊥) x last)))
     l
 
@@ -130,7 +131,7 @@ module _ (X : ℕ → Type 0) (v : World) (inv : Inv X v) (n : ℕ) (i : isFifo 
       )
 
 pub oldest-goes : OldestGoes
-oldest-goes c w g es n i tx asked some = sends-oldest None (world c w es) (holds-always c w g es) n i tx asked some
+oldest-goes c w g es r n i tx asked some = sends-oldest None (world c w es) (holds-always c w g es r) n i tx asked some
 
 -- ---- where no call is under way
 
@@ -145,8 +146,8 @@ module _ (n : ℕ) (i : isFifo n ≡ true) (v : World) (inv : Inv None v) (e : v
   }
 
   goes-out : GoesOut v n
-  goes-out es l =
-      let z = run-stands n es v asked-now l in
+  goes-out es r l =
+      let z = run-stands n es v r asked-now l in
       let req : Requested (after es v .chip) n = requested-is (after es v .chip) n ∙ z .asked n refl in
       (req, λ tx some. sends-oldest (Only n) (after es v) z n i tx req some)
 
@@ -176,32 +177,41 @@ module _ (z : World) (inv : Inv None z) (n : ℕ) (i : isFifo n ≡ true) (c d :
       goes-out n i z inv (ap (λ (x : World). x .doing) is)
       (ap (λ (x : World). read TXREQ (fifoAt (x .chip) n .control)) is ∙ request-sets n i c d o s)
 
+-- neither call is a scrub step
+request-quiet : (n : ℕ) → scrubs (started (Request n) .at) ≡ false
+unfolding ofPlan
+request-quiet n = refl
+
+transmit-quiet : (n : ℕ) (header : Header) (seq : ℕ) (payload : List ℕ) → scrubs (started (Transmit n header seq payload) .at) ≡ false
+unfolding ofTransmit
+transmit-quiet n header seq payload = refl
+
 pub request-sends : RequestSends
-request-sends c w g es e n i =
+request-sends c w g es r e n i =
     let v : World = world c w es in
-    let inv = holds-always c w g es in
+    let inv = holds-always c w g es r in
     just-two (λ ys. GoesOut (after (Begin (Request n) ∷ calm ys) v) n)
     (λ b b′.
-    let f = buses-fit b (v .chip) (v .said) (fits c w g es) in
+    let f = buses-fit b (v .chip) (v .said) (fits c w g es r) in
     let f′ = buses-fit b′ (buses b (v .chip)) _ f in
     let (s, same, is) = request-goes n i false idlePush idleFetch (alone idlePush idleFetch) b b′ [] (v .chip) (v .said) in
-    goes-from-there _ (run-keeps (Begin (Request n) ∷ calm (b ∷ b′ ∷ [])) v inv) n i _ _ (f .sound) (f′ .sound) _
+    goes-from-there _ (run-keeps (Begin (Request n) ∷ calm (b ∷ b′ ∷ [])) v (call-still v e (Request n) (request-quiet n) (b ∷ b′ ∷ [])) inv) n i _ _ (f .sound) (f′ .sound) _
     (request-starts-at v e n i (calm (b ∷ b′ ∷ [])) ∙ is ∙ nothing-more _))
 
 pub transmit-sends : TransmitSends
-transmit-sends c w g es e n header seq payload (bs, h) =
+transmit-sends c w g es r e n header seq payload (bs, h) =
     let v : World = world c w es in
-    let inv = holds-always c w g es in
+    let inv = holds-always c w g es r in
     let k : Command = Transmit n header seq payload in
     let (i, coded) = encoded-for n header seq payload bs h in
     seven (λ ys. Takes (atStatus v ys) n payload → GoesOut (after (Begin k ∷ calm ys) v) n)
     (λ b₁ b₂ b₃ b₄ b₅ b b′ ok.
-    let (d, s, one, is) = half-way v (fits c w g es) e n header seq payload bs h b₁ b₂ b₃ b₄ b₅ i ok in
+    let (d, s, one, is) = half-way v (fits c w g es r) e n header seq payload bs h b₁ b₂ b₃ b₄ b₅ i ok in
     let xs : List (List Bus) = b₁ ∷ b₂ ∷ b₃ ∷ b₄ ∷ b₅ ∷ [] in
-    let there = subst (Inv None) (is [] ∙ nothing-more _) (run-keeps (Begin k ∷ calm xs) v inv) in
+    let there = subst (Inv None) (is [] ∙ nothing-more _) (run-keeps (Begin k ∷ calm xs) v (call-still v e k (transmit-quiet n header seq payload) xs) inv) in
     let f = buses-fit b d s (record { sound = there .sound; lists = there .lists }) in
     let f′ = buses-fit b′ (buses b d) _ f in
-    let u = pushed v (fits c w g es) e n header seq payload bs h b₁ b₂ b₃ b₄ b₅ in
-    let (s′, same, goes) = request-goes n i true u idleFetch (pushed-ready v (fits c w g es) e n header seq payload bs h b₁ b₂ b₃ b₄ b₅) b b′ [] d s in
-    goes-from-there _ (run-keeps (Begin k ∷ calm (b₁ ∷ b₂ ∷ b₃ ∷ b₄ ∷ b₅ ∷ b ∷ b′ ∷ [])) v inv) n i _ _ (f .sound) (f′ .sound) _
+    let u = pushed v (fits c w g es r) e n header seq payload bs h b₁ b₂ b₃ b₄ b₅ in
+    let (s′, same, goes) = request-goes n i true u idleFetch (pushed-ready v (fits c w g es r) e n header seq payload bs h b₁ b₂ b₃ b₄ b₅) b b′ [] d s in
+    goes-from-there _ (run-keeps (Begin k ∷ calm (b₁ ∷ b₂ ∷ b₃ ∷ b₄ ∷ b₅ ∷ b ∷ b′ ∷ [])) v (call-still v e k (transmit-quiet n header seq payload) (b₁ ∷ b₂ ∷ b₃ ∷ b₄ ∷ b₅ ∷ b ∷ b′ ∷ [])) inv) n i _ _ (f .sound) (f′ .sound) _
     (is (b ∷ b′ ∷ []) ∙ goes ∙ nothing-more _))

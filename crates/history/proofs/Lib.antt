@@ -31,7 +31,10 @@ pub mod FetchExactly
 pub mod GotIff
 pub mod PeekKeeps
 pub mod PushFails
+pub mod Still
 pub mod Theorem
 pub mod GoesOut
+pub mod Checked
+pub mod Scrubs
 pub mod Example
 pub mod Demand3

@@ -2,6 +2,7 @@
 -- Assumes nothing.
 use Prim.Native.Nat.{ℕ, _^_}
 use mathlib.Core.Path.{_≡_}
+use mathlib.Core.Bool.{false, true≢false}
 use mathlib.Core.List.{List}
 use lib.Dec.{eqb, ltb}
 use lib.ListN.{length}
@@ -19,12 +20,15 @@ use Rattle.register.specs.RegisterCall.{RegisterCall}
 use Rattle.register.specs.Step as register
 use Rattle.ram.specs.RamCall.{RamCall}
 use Rattle.ram.specs.Step as ram
+use Rattle.scrub.specs.Scrub.{Scrub, ScrubAt}
+use Rattle.scrub.specs.Step as scrub
 use Rattle.state.specs.declared.Model.{Model}
 use Rattle.driver.specs.CallAt.{CallAt}
 use Rattle.driver.specs.Call.{Call}
 use Rattle.driver.specs.Step.{askAt, askOf, stepAt, stepOf}
-use Rattle.driver.specs.Start.{ofRegister, ofRam}
+use Rattle.driver.specs.Start.{ofRegister, ofRam, ofScrub}
 use Rattle.history.specs.Command.{Look, looks}
+use Rattle.history.specs.Demand.{atWrite, asksRewrite}
 use Rattle.history.proofs.Line.{spoken}
 use Rattle.history.proofs.Asks.{hear-keeps, check-keeps}
 use Rattle.history.proofs.PlanAsks.{nothing-keeps}
@@ -133,6 +137,15 @@ looks-keeps-ram RamCall.EchoRead b c h = absurd h
 looks-keeps-ram RamCall.Done b c h = nothing-keeps b c
 looks-keeps-ram (RamCall.Refused r) b c h = nothing-keeps b c
 
+-- ---- a scrub step that has not asked for its WRITE
+
+scrub-keeps : (at : ScrubAt) (s : Scrub) (b : List ℕ) (c : Model) → atWrite at ≡ false → spoken (scrub.askAt at (s .entry)) b c .chip ≡ c
+scrub-keeps (ScrubAt.Visit left) s b c n = check-keeps b c (s .entry .address)
+scrub-keeps (ScrubAt.Write read) s b c n = absurd (true≢false n)
+scrub-keeps (ScrubAt.Back read left) s b c n = check-keeps b c (s .entry .address)
+scrub-keeps (ScrubAt.Told r) s b c n = nothing-keeps b c
+scrub-keeps (ScrubAt.Refused r) s b c n = nothing-keeps b c
+
 -- ---- the same of the driver
 
 abbrev pub LooksAt : CallAt → Type 0
@@ -142,28 +155,33 @@ LooksAt CallAt.Plan = ⊥
 LooksAt CallAt.Push = ⊥
 LooksAt CallAt.Transmit = ⊥
 LooksAt CallAt.Fetch = ⊥
+LooksAt (CallAt.Scrub s) = Unit {0}
 
 pub look-starts : (x : Look) → LooksAt (looks x .at)
-unfolding ofRegister ofRam
+unfolding ofRegister ofRam ofScrub
 look-starts (Look.Register a) = read-looks a
 look-starts (Look.Checked a) = checked-looks a
 look-starts Look.OpMode = tt
 look-starts (Look.Ram a place count buf) = ram-looks a (length buf) place count
+look-starts (Look.Scrub place list rewrite) = tt
 
--- it reads a register or RAM
+-- it reads a register or RAM, or scrubs
 by-look : (P : CallAt → Type 0) → ((r : RegisterCall) → Looks r → P (CallAt.Register r)) → ((r : RamCall) → LooksRam r → P (CallAt.Ram r))
-    → (at : CallAt) → LooksAt at → P at
-by-look P f g (CallAt.Register r) h = f r h
-by-look P f g (CallAt.Ram r) h = g r h
-by-look P f g CallAt.Plan h = absurd h
-by-look P f g CallAt.Push h = absurd h
-by-look P f g CallAt.Transmit h = absurd h
-by-look P f g CallAt.Fetch h = absurd h
+    → ((s : Scrub) → P (CallAt.Scrub s)) → (at : CallAt) → LooksAt at → P at
+by-look P f g k (CallAt.Register r) h = f r h
+by-look P f g k (CallAt.Ram r) h = g r h
+by-look P f g k CallAt.Plan h = absurd h
+by-look P f g k CallAt.Push h = absurd h
+by-look P f g k CallAt.Transmit h = absurd h
+by-look P f g k CallAt.Fetch h = absurd h
+by-look P f g k (CallAt.Scrub s) h = k s
 
 pub look-steps : (s : Call) (a : Answer) (rx : List ℕ) → LooksAt (s .at) → LooksAt (stepOf s a rx .at)
 unfolding stepOf
-look-steps s a rx = by-look (λ at. LooksAt (stepAt at s a rx .at)) (λ r. step-looks r a rx) (λ r. step-looks-ram r a rx) (s .at)
+look-steps s a rx = by-look (λ at. LooksAt (stepAt at s a rx .at)) (λ r. step-looks r a rx) (λ r. step-looks-ram r a rx) (λ x. tt) (s .at)
 
-pub look-keeps : (s : Call) (b : List ℕ) (c : Model) → LooksAt (s .at) → spoken (askOf s) b c .chip ≡ c
-unfolding askOf
-look-keeps s b c = by-look (λ at. spoken (askAt at s) b c .chip ≡ c) (λ r. looks-keeps r b c) (λ r. looks-keeps-ram r b c) (s .at)
+pub look-keeps : (s : Call) (b : List ℕ) (c : Model) → LooksAt (s .at) → asksRewrite (s .at) ≡ false → spoken (askOf s) b c .chip ≡ c
+unfolding askOf scrub.askOf
+look-keeps s b c =
+    by-look (λ at. asksRewrite at ≡ false → spoken (askAt at s) b c .chip ≡ c) (λ r h n. looks-keeps r b c h) (λ r h n. looks-keeps-ram r b c h)
+    (λ x. scrub-keeps (x .at) x b c) (s .at)

@@ -22,7 +22,7 @@ use Rattle.bus.specs.Held.{held}
 use Rattle.history.specs.Command.{Command, Request, Reading, Configuring, Look, Setting, started, sets, firstCall, lent}
 use Rattle.history.specs.History.{Said, called, idle, Heard, heard, isOver, halfway, settled, goesOn}
 use Rattle.history.specs.Lists.{acceptedIn, handedOutIn}
-use Rattle.history.specs.Demand.{Each, TellsWell, Told}
+use Rattle.history.specs.Demand.{Each, TellsWell, Told, asksRewrite}
 use Rattle.history.proofs.Sound.{Sound, Asked}
 use Rattle.history.proofs.Bus.{Listed, quiet}
 use Rattle.history.proofs.Line.{heard-by}
@@ -178,10 +178,10 @@ module _ (X : ℕ → Type 0) (c : Model) (o : Sound c) (ok : Asked X c) (t : Li
 
   -- ---- a call that only reads
 
-  pub look-heard : (b : Bool) (x : Look) (s : Call) → LooksAt (s .at) → Inv X (goesOn t (Reading x) s (heard b s c))
-  look-heard b x s h =
+  pub look-heard : (b : Bool) (x : Look) (s : Call) → LooksAt (s .at) → asksRewrite (s .at) ≡ false → Inv X (goesOn t (Reading x) s (heard b s c))
+  look-heard b x s h n =
       let z = heard b s c in
-      let same : z .chip ≡ c = heard-by (λ (y : Heard). y .chip ≡ c) b s (askOf s) refl c (λ w. refl) (look-keeps s (bodyOf s []) c h) refl in
+      let same : z .chip ≡ c = heard-by (λ (y : Heard). y .chip ≡ c) b s (askOf s) refl c (λ w. refl) (look-keeps s (bodyOf s []) c h n) refl in
       settles (Reading x) (look-silent x) (z .chip) (subst Sound (sym same) o) (subst (Asked X) (sym same) ok) (λ j. ap (λ (y : Model). held y j) same) (stepOf s (z .answer) (z .rx)) (z .rx)
       (λ y. looks x (look-steps s (z .answer) (z .rx) h) refl) (λ y. tt)
 

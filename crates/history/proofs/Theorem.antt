@@ -18,7 +18,7 @@ use Rattle.reach.proofs.Told.{leaving-outside, leaving-empty}
 use Rattle.history.specs.Command.{Command, Push, Transmit, Request, HasNext, Peek, Get, Reading, Configuring, started}
 use Rattle.history.specs.History.{Event, Begin, Exchange, Fail, On, Said, Doing, idle, busy, World, says, heard, settled, goesOn, event, after}
 use Rattle.history.specs.Lists.{accepted, handedOut}
-use Rattle.history.specs.Demand.{Leaves, start, world, Each, TellsWell}
+use Rattle.history.specs.Demand.{Leaves, start, world, rewriting, NoRewrite, Each, TellsWell}
 use Rattle.history.proofs.Sound.{Sound, Asked}
 use Rattle.history.proofs.Bus.{Listed}
 use Rattle.history.proofs.Calm.{Fit, step-fit, step-later}
@@ -48,26 +48,26 @@ module _ (X : ℕ → Type 0) (c : Model) (o : Sound c) (q : Asked X c) (t : Lis
   begins (Configuring x) = configure-starts-well X c o q t l e x
 
   -- the call under way has its next exchange, which is carried out or not
-  goes : (b : Bool) (k : Command) (s : Call) → Mid X c k s → Inv X (goesOn t k s (heard b s c))
-  goes true k s (pushes also n header seq payload bs at p f i x r g z ek es) = rw (ek, es) (push-exchanged X c o q t l e also n header seq payload bs p f i x r at g z)
-  goes false k s (pushes also n header seq payload bs at p f i x r g z ek es) = rw (ek, es) (push-failed X c o q t l e also n header seq payload bs p f i x r at g)
-  goes true k s (fetches want n buf held at p u i b h g z ek es) = rw (ek, es) (fetch-exchanged X c o q t l e want n buf p u i b held h at g z)
-  goes false k s (fetches want n buf held at p u i b h g z ek es) = rw (ek, es) (fetch-failed X c o q t l e want n buf p u i b held h at g)
-  goes b k s (requests also n p u f a r h z ek es) = rw (ek, es) (request-heard X c o q t l e also u f a b n p r h z)
-  goes b k s (configures x p u f h ek es) = rw (ek, es) (configure-heard X c o q t l e b x p u f h)
-  goes b k s (looks x h ek) = rw ek (look-heard X c o q t l e b x s h)
+  goes : (b : Bool) (k : Command) (s : Call) → rewriting (busy k s) ≡ false → Mid X c k s → Inv X (goesOn t k s (heard b s c))
+  goes true k s calm (pushes also n header seq payload bs at p f i x r g z ek es) = rw (ek, es) (push-exchanged X c o q t l e also n header seq payload bs p f i x r at g z)
+  goes false k s calm (pushes also n header seq payload bs at p f i x r g z ek es) = rw (ek, es) (push-failed X c o q t l e also n header seq payload bs p f i x r at g)
+  goes true k s calm (fetches want n buf held at p u i b h g z ek es) = rw (ek, es) (fetch-exchanged X c o q t l e want n buf p u i b held h at g z)
+  goes false k s calm (fetches want n buf held at p u i b h g z ek es) = rw (ek, es) (fetch-failed X c o q t l e want n buf p u i b held h at g)
+  goes b k s calm (requests also n p u f a r h z ek es) = rw (ek, es) (request-heard X c o q t l e also u f a b n p r h z)
+  goes b k s n (configures x p u f h ek es) = rw (ek, es) (configure-heard X c o q t l e b x p u f h)
+  goes b k s n (looks x h ek) = rw ek (look-heard X c o q t l e b x s h n)
 
 -- a bus step is taken to leave the TXREQ that are to stay 1
-pub event-keeps : (X : ℕ → Type 0) (x : Event) (d : Doing) (c : Model) (t : List Said) → Inv X (record { chip = c; doing = d; said = t })
+pub event-keeps : (X : ℕ → Type 0) (x : Event) (d : Doing) (c : Model) (t : List Said) → rewriting d ≡ false → Inv X (record { chip = c; doing = d; said = t })
     → ((b : Bus) → x ≡ On b → Asked X (stepped b c)) → Inv X (event x d c t)
 unfolding event
-event-keeps X (Begin k) idle c t i a = begins X c (i .sound) (i .asked) t (i .lists) (i .tells) k
-event-keeps X (Begin k) (busy j s) c t i a = i
-event-keeps X Exchange idle c t i a = i
-event-keeps X Exchange (busy k s) c t i a = goes X c (i .sound) (i .asked) t (i .lists) (i .tells) true k s (i .doing)
-event-keeps X Fail idle c t i a = i
-event-keeps X Fail (busy k s) c t i a = goes X c (i .sound) (i .asked) t (i .lists) (i .tells) false k s (i .doing)
-event-keeps X (On b) d c t i a =
+event-keeps X (Begin k) idle c t n i a = begins X c (i .sound) (i .asked) t (i .lists) (i .tells) k
+event-keeps X (Begin k) (busy j s) c t n i a = i
+event-keeps X Exchange idle c t n i a = i
+event-keeps X Exchange (busy k s) c t n i a = goes X c (i .sound) (i .asked) t (i .lists) (i .tells) true k s n (i .doing)
+event-keeps X Fail idle c t n i a = i
+event-keeps X Fail (busy k s) c t n i a = goes X c (i .sound) (i .asked) t (i .lists) (i .tells) false k s n (i .doing)
+event-keeps X (On b) d c t n i a =
     let f : Fit c t = record { sound = i .sound; lists = i .lists } in
     let g = step-fit c t f b in
     record {
@@ -82,10 +82,10 @@ event-keeps X (On b) d c t i a =
 abbrev pub None : ℕ → Type 0
 None n = ⊥
 
-pub run-keeps : (es : List Event) (v : World) → Inv None v → Inv None (after es v)
+pub run-keeps : (es : List Event) (v : World) → NoRewrite es v → Inv None v → Inv None (after es v)
 unfolding after
-run-keeps [] v i = i
-run-keeps (x ∷ es) v i = run-keeps es _ (event-keeps None x (v .doing) (v .chip) (v .said) i (λ b e n y. absurd y))
+run-keeps [] v n i = i
+run-keeps (x ∷ es) v n i = run-keeps es _ (n .1) (event-keeps None x (v .doing) (v .chip) (v .said) (n .0) i (λ b e j y. absurd y))
 
 -- ---- where a history begins
 
@@ -110,8 +110,8 @@ module _ (c : Model) (w : ℕ) (g : Leaves c w) where
     doing = tt;
   }
 
-pub holds-always : (c : Model) (w : ℕ) → Leaves c w → (es : List Event) → Inv None (world c w es)
-holds-always c w g es = run-keeps es (start c w) (begins-well c w g)
+pub holds-always : (c : Model) (w : ℕ) → Leaves c w → (es : List Event) → NoRewrite es (start c w) → Inv None (world c w es)
+holds-always c w g es r = run-keeps es (start c w) r (begins-well c w g)
 
-pub fits : (c : Model) (w : ℕ) → Leaves c w → (es : List Event) → Fit (world c w es .chip) (world c w es .said)
-fits c w g es = let i = holds-always c w g es in record { sound = i .sound; lists = i .lists }
+pub fits : (c : Model) (w : ℕ) → Leaves c w → (es : List Event) → NoRewrite es (start c w) → Fit (world c w es .chip) (world c w es .said)
+fits c w g es r = let i = holds-always c w g es r in record { sound = i .sound; lists = i .lists }

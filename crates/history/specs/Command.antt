@@ -1,6 +1,7 @@
 -- The calls that a history may have: what is called, and where the driver starts. What ends a history is not among them.
 -- Assumes nothing.
 use Prim.Native.Nat.{ℕ}
+use mathlib.Core.Bool.{Bool}
 use mathlib.Core.List.{List, []}
 use lib.ListN.{length}
 use Rattle.header.specs.declared.Header.{Header}
@@ -17,14 +18,18 @@ use Rattle.adjust.specs.Calls.{configureOsc, configureIo, configureBitTiming, c
 use Rattle.tx_fifo.specs.Step.{startOf}
 use Rattle.transmit.specs.Transmit.{requestStart, transmitStart}
 use Rattle.rx_fifo.specs.Step.{hasNextStart, peekStart, getStart}
+use Rattle.watch.specs.declared.Watch.{Watch}
+use Rattle.scrub.specs.Step.{scrubStart}
 use Rattle.driver.specs.Call.{Call}
-use Rattle.driver.specs.Start.{ofRegister, ofRam, ofPlan, ofPush, ofTransmit, ofFetch}
+use Rattle.driver.specs.Start.{ofRegister, ofRam, ofPlan, ofPush, ofTransmit, ofFetch, ofScrub}
 
--- the calls that only read: a register, a register checked, the mode, RAM into a part of a lent buffer
+-- the calls that only read: a register, a register checked, the mode, RAM into a part of a lent buffer, a scrub step for as long as it has
+-- not asked for its WRITE
 pub data Look : Type 0 where
   Register Checked : (address : ℕ) → Look
   OpMode : Look
   Ram : (address place count : ℕ) → List ℕ → Look
+  Scrub : (place : ℕ) → List Watch → (rewrite : Bool) → Look
 
 -- the calls that set a part of the chip up
 pub data Setting : Type 0 where
@@ -50,6 +55,7 @@ looks (Register a) = ofRegister (register.readStart a)
 looks (Checked a) = ofRegister (register.checkedStart a)
 looks OpMode = ofRegister RegisterCall.Mode
 looks (Ram a place count buf) = ofRam (ram.readStart a (length buf) place count)
+looks (Scrub place list rewrite) = ofScrub (scrubStart place list rewrite)
 
 abbrev pub sets : Setting → Prepared
 sets (Fifo n c) = configureFifo n c
@@ -76,6 +82,7 @@ lookedInto (Register a) = []
 lookedInto (Checked a) = []
 lookedInto OpMode = []
 lookedInto (Ram a place count buf) = buf
+lookedInto (Scrub place list rewrite) = []
 
 abbrev pub lent : Command → List ℕ
 lent (Push n header seq payload) = []

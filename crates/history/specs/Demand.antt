@@ -2,7 +2,7 @@
 -- Assumes nothing.
 use Prim.Native.Nat.{ℕ, _+_, _≤_, _<_}
 use mathlib.Core.Path.{_≡_}
-use mathlib.Core.Bool.{true, false, not}
+use mathlib.Core.Bool.{Bool, true, false, not}
 use mathlib.Core.Logic.{_↔_}
 use mathlib.Core.List.{List, [], _∷_, _++_, map}
 use lib.ListN.{length, getD, take}
@@ -22,6 +22,8 @@ use Rattle.call.specs.declared.Outcome.{Outcome}
 use Rattle.call.specs.Numbers.{outcomeNumbers}
 use Rattle.tx_fifo.specs.Step.{toSend, encodingFor}
 use Rattle.rx_fifo.specs.Outcome.{foundOf}
+use Rattle.scrub.specs.Scrub.{ScrubAt}
+use Rattle.driver.specs.CallAt.{CallAt}
 use Rattle.ring.specs.Ring.{sending, depth}
 use Rattle.ring.specs.Layout.{size}
 use Rattle.state.specs.declared.Model.{Model}
@@ -33,7 +35,7 @@ use Rattle.bus.specs.Bus.{frame, sends}
 use Rattle.reach.specs.Bus.{Bus, Send, Deliver, Sort, stepped}
 use Rattle.reach.specs.Reach.{Reached}
 use Rattle.history.specs.Command.{Command, Push, Transmit, Request, HasNext, Peek, Get, Reading, Configuring, firstCall, lent}
-use Rattle.history.specs.History.{Event, Begin, Exchange, Fail, On, Said, called, left, arrived, idle, World, after}
+use Rattle.history.specs.History.{Event, Begin, Exchange, Fail, On, Said, called, left, arrived, Doing, idle, busy, World, after}
 use Rattle.history.specs.Lists.{accepted, acceptedIn, handedOut, handedOutIn}
 
 -- ---- where a history begins
@@ -53,9 +55,37 @@ start c w = record { chip = conWritten c w .model; doing = idle; said = [] }
 abbrev pub world : Model → ℕ → List Event → World
 world c w es = after es (start c w)
 
+-- document 02, request 4: a rewrite ends a history, and none is made before it is asked for
+
+-- a scrub step stands at its WRITE
+abbrev pub atWrite : ScrubAt → Bool
+atWrite (ScrubAt.Visit more) = false
+atWrite (ScrubAt.Write word) = true
+atWrite (ScrubAt.Back word more) = false
+atWrite (ScrubAt.Told r) = false
+atWrite (ScrubAt.Refused r) = false
+
+abbrev pub asksRewrite : CallAt → Bool
+asksRewrite (CallAt.Register r) = false
+asksRewrite (CallAt.Ram r) = false
+asksRewrite CallAt.Plan = false
+asksRewrite CallAt.Push = false
+asksRewrite CallAt.Transmit = false
+asksRewrite CallAt.Fetch = false
+asksRewrite (CallAt.Scrub s) = atWrite (s .at)
+
+abbrev pub rewriting : Doing → Bool
+rewriting idle = false
+rewriting (busy k s) = asksRewrite (s .at)
+
+-- from v on, through these events, no scrub step has asked for its WRITE
+abbrev pub NoRewrite : List Event → World → Type 0
+NoRewrite [] v = rewriting (v .doing) ≡ false
+NoRewrite (e ∷ es) v = (rewriting (v .doing) ≡ false) × NoRewrite es (after (e ∷ []) v)
+
 -- what holds after every history, whatever its events
 abbrev pub Always : (World → Type 0) → Type 0
-Always P = (c : Model) (w : ℕ) → Leaves c w → (es : List Event) → P (world c w es)
+Always P = (c : Model) (w : ℕ) → Leaves c w → (es : List Event) → NoRewrite es (start c w) → P (world c w es)
 
 -- what holds of every call that begins after any history
 abbrev pub NextCall : (World → Type 0) → Type 0
@@ -304,7 +334,7 @@ LastStays n (e ∷ es) v = (TakesLast n e (v .chip) → ⊥) × LastStays n es (
 -- until a send takes the last, TXREQ of FIFO n reads 1, and if it transmits and holds a message a send puts the oldest on the bus
 abbrev pub GoesOut : World → ℕ → Type 0
 GoesOut v n =
-    (es : List Event) → LastStays n es v
+    (es : List Event) → NoRewrite es v → LastStays n es v
     → (let z = after es v in
     Requested (z .chip) n × (sending (frozenAt (z .chip) n) ≡ true → 0 < fifoAt (z .chip) n .count → SendsOldest z n))
 
@@ -335,6 +365,7 @@ Ordinary Outcome.Yes = Unit {0}
 Ordinary Outcome.No = Unit {0}
 Ordinary Outcome.Empty = Unit {0}
 Ordinary (Outcome.Message f) = Unit {0}
+Ordinary (Outcome.Scrubbed s) = Unit {0}
 Ordinary (Outcome.Refused r) = NotCaused r
 
 -- of the calls that move messages, whatever they answer

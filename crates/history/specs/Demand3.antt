@@ -4,6 +4,7 @@ use Rattle.history.specs.Demand.{Lists, PushExactly, PushedIff, GetExact
 use Rattle.history.specs.Demand.{HasNextExactly, PushFails, TransmitFails, RequestExactly, TransmitRefused, TransmitDone}
 use Rattle.history.specs.Demand.{RequestFails, OldestGoes, RequestSends, TransmitSends, NeverCaused, AnsweredWhole}
 use Rattle.history.specs.Door.{StartsAtDoor}
+use Rattle.history.specs.Scrub.{FlipReported, RewriteLeaves}
 use Rattle.history.specs.Example.{Begins, Sends, SendsNot}
 
 pub record Demand3 : Type 0 where
@@ -28,6 +29,8 @@ pub record Demand3 : Type 0 where
   pub transmitSends : TransmitSends
   pub neverCaused : NeverCaused
   pub answeredWhole : AnsweredWhole
+  pub flipReported : FlipReported
+  pub rewriteLeaves : RewriteLeaves
   pub begins : Begins
   pub sends : Sends
   pub sendsNot : SendsNot

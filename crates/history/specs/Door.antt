@@ -12,6 +12,7 @@ lookAt (Look.Register a) = Start.Read a
 lookAt (Look.Checked a) = Start.Checked a
 lookAt Look.OpMode = Start.OpMode
 lookAt (Look.Ram a place count buf) = Start.ReadRam a (length buf) place count
+lookAt (Look.Scrub place list rewrite) = Start.Scrub place list rewrite
 
 abbrev pub settingAt : Setting → Plans
 settingAt (Setting.Fifo n c) = Plans.Fifo n c

@@ -89,6 +89,7 @@ isOver Outcome.Yes = true
 isOver Outcome.No = true
 isOver Outcome.Empty = true
 isOver (Outcome.Message f) = true
+isOver (Outcome.Scrubbed s) = true
 isOver (Outcome.Refused r) = true
 
 -- a transmit that has pushed its message

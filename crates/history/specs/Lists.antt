@@ -28,6 +28,7 @@ doneWith Outcome.Yes m = []
 doneWith Outcome.No m = []
 doneWith Outcome.Empty m = []
 doneWith (Outcome.Message f) m = []
+doneWith (Outcome.Scrubbed s) m = []
 doneWith (Outcome.Refused r) m = []
 
 -- a push that is done
@@ -72,6 +73,7 @@ foundIn Outcome.Yes buf = []
 foundIn Outcome.No buf = []
 foundIn Outcome.Empty buf = []
 foundIn (Outcome.Message f) buf = messageOf f buf ∷ []
+foundIn (Outcome.Scrubbed s) buf = []
 foundIn (Outcome.Refused r) buf = []
 
 abbrev pub got : ℕ → Command → Outcome → List ℕ → List Message

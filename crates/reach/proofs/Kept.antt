@@ -38,7 +38,7 @@ use Rattle.bus.specs.Sort.{filterFor, targetFor, sortOf}
 use Rattle.bus.proofs.Laws.{sends-one}
 use Rattle.bus.proofs.Sorts.{by-sort}
 use Rattle.reach.specs.Bus.{Bus, Send, Deliver, Sort, stepped}
-use Rattle.reach.specs.Reach.{Happening, Exchange, On, happens, lived, InOrder, Valid, AlwaysValid}
+use Rattle.reach.specs.Reach.{Happening, Exchange, On, happens, lived, InOrder, Valid, AlwaysValid, AllThere}
 use Rattle.reach.proofs.Order.{quiet-inside, fresh-order, overflowed-order, claimed-order, sent-order, commanded-order, any-size, configured-order, entered-order, left-order}
 
 -- ---- lists
@@ -84,6 +84,7 @@ module _ (m : Model) (v : Valid m) where
     frozens = v .frozens;
     fifos = length-set (m .fifo) n f ∙ v .fifos;
     ram = v .ram;
+    setup = v .setup;
     fifo = at-set (λ i x. InOrder (m .fixed .configuring) (frozenAt m i) x) (m .fifo) n f blank (subst (λ (c : Bool). InOrder c (frozenAt m n) f) (sym e) o) (v .fifo);
     layout = v .layout;
   }
@@ -100,21 +101,22 @@ module _ (m : Model) (v : Valid m) where
         frozens = length-set (m .fixed .frozen) n w ∙ v .frozens;
         fifos = v .fifos;
         ram = v .ram;
+        setup = v .setup;
         fifo = λ i. subst (λ (b : Bool). InOrder b (frozenAt k i) (fifoAt m i)) (sym c) (any-size (frozenAt m i) (frozenAt k i) (fifoAt m i) (in-mode true c i));
         layout = λ e. absurd (false≢true (sym e ∙ c));
       }
 
   -- other bytes in RAM
   with-bytes : (a : ℕ) (bs : List ℕ) → Valid (written m a bs)
-  with-bytes a bs = record { frozens = v .frozens; fifos = v .fifos; ram = written-length (m .ram) bs a ∙ v .ram; fifo = v .fifo; layout = v .layout }
+  with-bytes a bs = record { frozens = v .frozens; fifos = v .fifos; ram = written-length (m .ram) bs a ∙ v .ram; setup = v .setup; fifo = v .fifo; layout = v .layout }
 
   -- other registers that only hold
-  with-setup : (s : Setup) → Valid (withSetup m s)
-  with-setup s = record { frozens = v .frozens; fifos = v .fifos; ram = v .ram; fifo = v .fifo; layout = v .layout }
+  with-setup : (s : Setup) → AllThere s → Valid (withSetup m s)
+  with-setup s h = record { frozens = v .frozens; fifos = v .fifos; ram = v .ram; setup = h; fifo = v .fifo; layout = v .layout }
 
   -- another CiCON in the same mode
   with-con : (b : Bool) → m .fixed .configuring ≡ b → (w : ℕ) → Valid (conSet m w b)
-  with-con b e w = record { frozens = v .frozens; fifos = v .fifos; ram = v .ram; fifo = in-mode b e; layout = λ c. v .layout (e ∙ c) }
+  with-con b e w = record { frozens = v .frozens; fifos = v .fifos; ram = v .ram; setup = v .setup; fifo = in-mode b e; layout = λ c. v .layout (e ∙ c) }
 
   -- and in the other, every FIFO turned
   with-turned : (b : Bool) (w : ℕ) → ((n : ℕ) → InOrder b (frozenAt m n) (turned b (fifoAt m n)))
@@ -123,6 +125,7 @@ module _ (m : Model) (v : Valid m) where
     frozens = v .frozens;
     fifos = length-map (m .fifo) (turned b) ∙ v .fifos;
     ram = v .ram;
+    setup = v .setup;
     fifo = λ n. subst (InOrder b (frozenAt m n)) (sym (turned-at b m n)) (f n);
     layout = fits;
   }
@@ -171,11 +174,19 @@ module _ (m : Model) (v : Valid m) where
   register-valid : (r : Register) (w : ℕ) → Valid (registerWritten m r w .model)
   unfolding registerWritten
   register-valid Register.Con w = leaving-valid m w v
-  register-valid Register.Osc w = with-setup m v _
-  register-valid (Register.Plain k) w = with-setup m v _
-  register-valid (Register.Filter k) w = with-setup m v _
-  register-valid (Register.Object k) w = with-setup m v _
-  register-valid (Register.Mask k) w = with-setup m v _
+  register-valid Register.Osc w = let h = v .setup in with-setup m v _ (record { plain = h .plain; filter = h .filter; object = h .object; mask = h .mask })
+  register-valid (Register.Plain k) w =
+      let h = v .setup in
+      with-setup m v _ (record { plain = length-set (m .setup .plain) k w ∙ h .plain; filter = h .filter; object = h .object; mask = h .mask })
+  register-valid (Register.Filter k) w =
+      let h = v .setup in
+      with-setup m v _ (record { plain = h .plain; filter = length-set (m .setup .filter) k w ∙ h .filter; object = h .object; mask = h .mask })
+  register-valid (Register.Object k) w =
+      let h = v .setup in
+      with-setup m v _ (record { plain = h .plain; filter = h .filter; object = length-set (m .setup .object) k w ∙ h .object; mask = h .mask })
+  register-valid (Register.Mask k) w =
+      let h = v .setup in
+      with-setup m v _ (record { plain = h .plain; filter = h .filter; object = h .object; mask = length-set (m .setup .mask) k w ∙ h .mask })
   register-valid (Register.Control n) w = control-valid n w
   register-valid (Register.Status n) w = status-valid n w
   register-valid (Register.Address n) w = v
@@ -193,6 +204,7 @@ reset-valid ram e = record {
   frozens = refl;
   fifos = refl;
   ram = e;
+  setup = record { plain = refl; filter = refl; object = refl; mask = refl };
   fifo = λ n. reset-order (frozenAt (reset ram) n) n;
   layout = λ c. absurd (false≢true (sym c));
 }

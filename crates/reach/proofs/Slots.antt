@@ -192,7 +192,7 @@ module _ (c : Model) (s : Sound c) (n : ℕ) (h : isFifo n ≡ true) (free : fif
       let e : length (filled c n bs .ram) ≡ length (c .ram)
       = ap length (put-inside (c .ram) (slotOf c n (fifoAt c n .count)) bs (omega (arith, free-inside)))
       ∙ length-put (c .ram) (slotOf c n (fifoAt c n .count)) bs (omega (arith, free-inside)) in
-      record { valid = record { frozens = v .frozens; fifos = v .fifos; ram = e ∙ v .ram; fifo = v .fifo; layout = v .layout }; out = s .out }
+      record { valid = record { frozens = v .frozens; fifos = v .fifos; ram = e ∙ v .ram; setup = v .setup; fifo = v .fifo; layout = v .layout }; out = s .out }
 
 -- ---- FIFO n becomes g
 

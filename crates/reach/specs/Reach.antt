@@ -10,6 +10,7 @@ use Rattle.fifo.specs.Control.{UINC, FRESET}
 use Rattle.ring.specs.declared.ring.Fifo.{Fifo}
 use Rattle.ring.specs.Ring.{depth}
 use Rattle.ring.specs.Layout.{end}
+use Rattle.state.specs.declared.Setup.{Setup}
 use Rattle.state.specs.declared.Model.{Model}
 use Rattle.state.specs.Model.{areas, reset, fifoAt, frozenAt}
 use Rattle.place.specs.declared.Register.{Register}
@@ -50,11 +51,19 @@ pub record InOrder (configuring : Bool) (frozen : ℕ) (f : Fifo) : Type 0 where
   pub empty : configuring ≡ true → f .count ≡ 0
   pub freset : configuring ≡ false → read FRESET (f .control) ≡ 0
 
+-- the registers that hold what is written are all there
+pub record AllThere (s : Setup) : Type 0 where
+  pub plain : length (s .plain) ≡ 6
+  pub filter : length (s .filter) ≡ 8
+  pub object : length (s .object) ≡ 32
+  pub mask : length (s .mask) ≡ 32
+
 -- every FIFO is in order, and outside Configuration all their slots are in RAM
 pub record Valid (m : Model) : Type 0 where
   pub frozens : length (m .fixed .frozen) ≡ areas
   pub fifos : length (m .fifo) ≡ areas
   pub ram : length (m .ram) ≡ 2048
+  pub setup : AllThere (m .setup)
   pub fifo : (n : ℕ) → InOrder (m .fixed .configuring) (frozenAt m n) (fifoAt m n)
   pub layout : m .fixed .configuring ≡ false → end (m .fixed .frozen) 31 ≤ 2048
 
