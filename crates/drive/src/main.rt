@@ -3,6 +3,7 @@
 use output::write;
 use script::Entry;
 use spoken::Fault;
+use spoken::Spoken;
 use state::Model;
 
 // The number of the line that was read last, counted from 1; whether a call waits for its @ lines, and how many bytes its own line and
@@ -21,16 +22,50 @@ fn next(p: Place) -> Place {
 }
 
 // The call that waits is run before the line that ends it, or at the input's end.
-fn run_call(m: Model, p: Place, over: bool, head: &[u8], notes: &[u8]) -> Model {
+fn run_call(
+    m: Model,
+    p: Place,
+    over: bool,
+    head: &[u8],
+    notes: &[u8],
+    scrubber: &mut [u64; 1],
+) -> Model {
     if p.open && over {
-        return stage::run(m, text::front(head, p.head), text::front(notes, p.notes));
+        return stage::run(
+            m,
+            text::front(head, p.head),
+            text::front(notes, p.notes),
+            scrubber,
+        );
     }
     m
 }
 
-fn act(m: Model, entry: Entry, line: &[u8], numbers: &[u64], lent: &[u8]) -> Model {
+// With a new chip the scrubber is at the first entry.
+fn step(
+    m: Model,
+    s: Spoken,
+    line: &[u8],
+    numbers: &[u64],
+    lent: &[u8],
+    scrubber: &mut [u64; 1],
+) -> Model {
+    if s.row == script::NEW {
+        scrubber[0] = 0;
+    }
+    acts::between(m, s, line, numbers, lent)
+}
+
+fn act(
+    m: Model,
+    entry: Entry,
+    line: &[u8],
+    numbers: &[u64],
+    lent: &[u8],
+    scrubber: &mut [u64; 1],
+) -> Model {
     match entry {
-        Entry::Step(s) => acts::between(m, s, line, numbers, lent),
+        Entry::Step(s) => step(m, s, line, numbers, lent, scrubber),
         _ => m,
     }
 }
@@ -89,7 +124,7 @@ fn after(p: Place, entry: Entry, line: &[u8], head: &mut [u8], notes: &mut [u8])
     }
 }
 
-// A line at a time. No script has so many lines that the turns run out.
+// A line at a time; `scrubber` is the place of the one scrubber. No script has so many lines that the turns run out.
 fn run(
     piece: &mut [u8; 65536],
     buf: &mut [u8; 65536],
@@ -97,6 +132,7 @@ fn run(
     notes: &mut [u8; 65536],
     lent: &mut [u8; 32768],
     numbers: &mut [u64; 24],
+    scrubber: &mut [u64; 1],
 ) {
     let mut r = reading::begin();
     let mut m = acts::new_chip();
@@ -114,11 +150,11 @@ fn run(
         let entry = script::entry_of(line, reading::is_long(kind), numbers, lent);
         let end = reading::is_end(kind);
         p = next(p);
-        m = run_call(m, p, end || script::ends(entry), head, notes);
+        m = run_call(m, p, end || script::ends(entry), head, notes, scrubber);
         if end {
             return;
         }
-        m = act(m, entry, line, numbers, lent);
+        m = act(m, entry, line, numbers, lent, scrubber);
         p = after(p, entry, line, head, notes);
         if turns < 1 {
             return;
@@ -134,6 +170,7 @@ fn main() {
     let mut notes = io::large_buffer();
     let mut lent = [0u8; 32768];
     let mut numbers = [0u64; 24];
+    let mut scrubber = [0u64; 1];
     run(
         &mut piece,
         &mut buf,
@@ -141,5 +178,6 @@ fn main() {
         &mut notes,
         &mut lent,
         &mut numbers,
+        &mut scrubber,
     );
 }

@@ -81,6 +81,10 @@ fn expected(letter: u8) {
         b's' => put(b"a timestamp, which is at most 8 lowercase hex digits, or -"),
         b't' => put(b"tx"),
         b'r' => put(b"rx"),
+        b'w' => put(b"report or rewrite"),
+        b'e' => put(b"ADDR:WORD:MASK, three hex numbers of at most 8 lowercase digits"),
+        b'a' => put(b"back"),
+        b'u' => put(b"unread"),
         _ => put(b"off"),
     }
 }
@@ -125,7 +129,7 @@ fn forms_of(rows: &[u8], name: &[u8]) {
 // The rows of a name, by their arguments' names in docs/SCRIPTS.md and oracle/README.md.
 fn forms(name: &[u8]) {
     let rows =
-        b"reset;get_op_mode;verify;verify_long;set_op_mode M;configure_osc PLL DIV;configure_io XSTBY TXCANOD SOF INTOD;configure_bit_timing NBRP NTSEG1 NTSEG2 NSJW DBRP DTSEG1 DTSEG2 DSJW TDCO;configure PLL DIV XSTBY TXCANOD SOF INTOD NBRP NTSEG1 NTSEG2 NSJW DBRP DTSEG1 DTSEG2 DSJW TDCO COUNTER DNCNT CANIE SPIIE ECCIE;configure_fifo N SIZE PLSIZE tx PRI TXAT RTREN TXATIE EMPTYIE HALFIE NOTFULLIE;configure_fifo N SIZE PLSIZE rx TS OVIE FULLIE HALFIE NOTEMPTYIE;configure_filter F off;configure_filter F FIFO std|ext|both ID MASKID;push N ID FLAGS SEQ PAYLOAD;transmit N ID FLAGS SEQ PAYLOAD;request N;has_next N;peek N;get N;read_ram ADDR LEN;write_ram ADDR BYTES;read_register ADDR;checked_read ADDR;write_register ADDR WORD;modify_register ADDR CLEAR SET;send N;deliver N ID FLAGS TIMESTAMP PAYLOAD [DLC];sort ID FLAGS TIMESTAMP PAYLOAD [DLC];raw SENT WANT;held N;new;fail;answer BYTES;> SENT WANT;< RECEIVED;!;wait 500;ok;none;yes;no;panic;refused N [VALUE];word HEX;bytes HEX;mode N;message std|ext ID FLAGS TIMESTAMP|- PAYLOAD [DLC];field REGISTER NAME WORD -> VALUE;field REGISTER NAME VALUE WORD -> WORD;crc BYTES -> HEX";
+        b"reset;get_op_mode;verify;verify_long;set_op_mode M;configure_osc PLL DIV;configure_io XSTBY TXCANOD SOF INTOD;configure_bit_timing NBRP NTSEG1 NTSEG2 NSJW DBRP DTSEG1 DTSEG2 DSJW TDCO;configure PLL DIV XSTBY TXCANOD SOF INTOD NBRP NTSEG1 NTSEG2 NSJW DBRP DTSEG1 DTSEG2 DSJW TDCO COUNTER DNCNT CANIE SPIIE ECCIE;configure_fifo N SIZE PLSIZE tx PRI TXAT RTREN TXATIE EMPTYIE HALFIE NOTFULLIE;configure_fifo N SIZE PLSIZE rx TS OVIE FULLIE HALFIE NOTEMPTYIE;configure_filter F off;configure_filter F FIFO std|ext|both ID MASKID;push N ID FLAGS SEQ PAYLOAD;transmit N ID FLAGS SEQ PAYLOAD;request N;has_next N;peek N;get N;read_ram ADDR LEN;write_ram ADDR BYTES;read_register ADDR;checked_read ADDR;write_register ADDR WORD;modify_register ADDR CLEAR SET;scrub report|rewrite ADDR:WORD:MASK ... (at most 256);send N;deliver N ID FLAGS TIMESTAMP PAYLOAD [DLC];sort ID FLAGS TIMESTAMP PAYLOAD [DLC];raw SENT WANT;held N;new;fail;answer BYTES;> SENT WANT;< RECEIVED;!;wait 500;ok;none;yes;no;panic;refused N [VALUE];word HEX;bytes HEX;mode N;message std|ext ID FLAGS TIMESTAMP|- PAYLOAD [DLC];agree ADDR;differ ADDR READ WANTED;differ ADDR READ WANTED back WORD;differ ADDR READ WANTED unread N;unread ADDR N;field REGISTER NAME WORD -> VALUE;field REGISTER NAME VALUE WORD -> WORD;crc BYTES -> HEX";
     forms_of(rows, name);
 }
 

@@ -1,11 +1,12 @@
 // What no script can show, by the numbers of docs/TRACE.md: buffers that are lent too small, the bytes of a lent buffer that stay, answers
-// of another kind than asked or after the end, and what a register's reader says.
+// of another kind than asked or after the end, where a scrubber is before its step ends, and what a register's reader says.
 use driver::Answer;
 use driver::Call;
 use driver::Outcome;
 use driver::Refusal;
 use fifo::FifoControl;
 use spi::Done;
+use spoken::Line;
 
 fn tell_refusal(r: Refusal) {
     output::write(b"refused ");
@@ -144,6 +145,55 @@ fn taken(what: &[u8], call: Call) {
     show(b"  buffer ", &buf);
 }
 
+// A scrub by its line, from the second entry on.
+fn scrub_of(line: &[u8]) -> Call {
+    let mut numbers = [0u64; 24];
+    let mut lent = [0u8; 64];
+    numbers[starts::PLACE] = 1;
+    match spoken::understood(line, &mut numbers, &mut lent) {
+        Line::Row(s) => starts::start(s.row, &numbers, text::front(&lent, s.count)),
+        Line::Bad(_) => driver::reset(),
+    }
+}
+
+// How a step stands, and where its scrubber is.
+fn stands(what: &[u8], call: Call) {
+    let none = [0u8; 1];
+    let mut line = [0u8; 128];
+    let n = lines::result(&mut line, 0, begun(call), text::front(&none, 0));
+    let s = driver::scrubber(call);
+    output::write(what);
+    output::write(text::front(&line, n));
+    output::write(b", place ");
+    output::number(s.place as u64);
+    output::write(b"\n");
+}
+
+// The word read is 460, with the CRC of be 00 04 60 04 00 00.
+fn scrubs() {
+    let none = [0u8; 1];
+    let empty = text::front(&none, 0);
+    let word = [0x60u8, 4, 0, 0, 0x6C, 0x41];
+    let first = scrub_of(b"call scrub rewrite e04:3000003:ffffffff e00:461:1");
+    stands(b"R4.4 a scrub, not answered yet: ", first);
+    stands(
+        b"S26 the same, its read answered as a wait: ",
+        driver::answer(first, Answer::Waited, empty),
+    );
+    let second = driver::answer(first, Answer::Exchanged, &word);
+    stands(
+        b"R4.4 the same, read, and its rewrite not answered yet: ",
+        second,
+    );
+    let over = driver::answer(second, Answer::Waited, empty);
+    stands(b"S26 the same, its rewrite answered as a wait: ", over);
+    stands(
+        b"S26 the same, answered again after its end: ",
+        driver::answer(over, Answer::Exchanged, empty),
+    );
+    stands(b"R4.4 a call of another kind: ", driver::reset());
+}
+
 fn main() {
     parts();
     rooms();
@@ -154,6 +204,7 @@ fn main() {
         b"S30 the same, its payload answered with 3 bytes: ",
         peeked(&[1u8, 2, 3]),
     );
+    scrubs();
     output::write(b"S57 TXAT of the reset word, which has 3 there, reads as ");
     output::number(FifoControl::reset().txat() as u64);
     output::write(b"\n");

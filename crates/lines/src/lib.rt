@@ -3,6 +3,8 @@
 ghost use Prim.Native.Nat.{_≤_};
 use call::Found;
 use call::Outcome;
+use call::Report;
+use call::Rewrite;
 use header::Header;
 use message::Frame;
 use message::Stamp;
@@ -187,7 +189,7 @@ pub fn frame(out: &mut [u8], at: usize, sending: bool, f: Frame) -> usize {
     received(out, at, h, s, payload, f.dlc)
 }
 
-// Which of a list's words an outcome without a message or a refusal is told by.
+// Which of a list's words an outcome without a message, a report or a refusal is told by.
 fn name_of(o: Outcome) -> usize {
     match o {
         Outcome::Done => 0,
@@ -217,10 +219,62 @@ fn plain(out: &mut [u8], at: usize, o: Outcome) -> usize {
     tail(out, a, value_of(o))
 }
 
+// What came of a rewrite.
+fn rewritten(out: &mut [u8], at: usize, r: Rewrite) -> usize {
+    match r {
+        Rewrite::None => at,
+        Rewrite::Back(w) => {
+            let a = put(out, at, b" back");
+            tail(out, a, Value::Hex(w as u64, 8))
+        }
+        Rewrite::Unread(why) => {
+            let a = put(out, at, b" unread");
+            tail(out, a, Value::Decimal(numbers::number(why) as u64))
+        }
+    }
+}
+
+fn addressed(out: &mut [u8], at: usize, what: &[u8], address: u16) -> usize {
+    let a = put(out, at, what);
+    tail(out, a, Value::Hex(address as u64, 1))
+}
+
+fn differing(
+    out: &mut [u8],
+    at: usize,
+    address: u16,
+    read: u32,
+    wanted: u32,
+    rewrite: Rewrite,
+) -> usize {
+    let a = addressed(out, at, b"differ", address);
+    let b = tail(out, a, Value::Hex(read as u64, 8));
+    let c = tail(out, b, Value::Hex(wanted as u64, 8));
+    rewritten(out, c, rewrite)
+}
+
+// What a scrub step reports.
+fn report(out: &mut [u8], at: usize, r: Report) -> usize {
+    match r {
+        Report::Agree { address } => addressed(out, at, b"agree", address),
+        Report::Differ {
+            address,
+            read,
+            wanted,
+            rewrite,
+        } => differing(out, at, address, read, wanted, rewrite),
+        Report::Unread { address, why } => {
+            let a = addressed(out, at, b"unread", address);
+            tail(out, a, Value::Decimal(numbers::number(why) as u64))
+        }
+    }
+}
+
 // How a call ended. `buf` is what it filled.
 pub fn result(out: &mut [u8], at: usize, o: Outcome, buf: &[u8]) -> usize {
     match o {
         Outcome::Message(f) => found(out, at, f, buf),
+        Outcome::Scrubbed(r) => report(out, at, r),
         Outcome::Refused(r) => refusal(out, at, r),
         _ => plain(out, at, o),
     }

@@ -33,6 +33,8 @@ pub const RAW: usize = 5;
 
 pub const HELD: usize = 6;
 
+pub const NEW: usize = 7;
+
 pub const FAIL: usize = 5;
 
 pub const ANSWER: usize = 6;

@@ -1,7 +1,10 @@
 // Lines that are a name and arguments: calls and results.
 ghost use Prim.Native.Nat.{_≤_};
 ghost use lib.ListN.{length};
+use entries::entry;
 use text::Number;
+
+mod entries;
 
 // A line by its row in a table, and its last number: of bytes, how many.
 pub struct Spoken {
@@ -79,6 +82,9 @@ fn argument(letter: u8, w: &[u8], lent: &mut [u8]) -> Number {
         b't' => choice(w, b"tx"),
         b'r' => choice(w, b"rx"),
         b'o' => choice(w, b"off"),
+        b'w' => choice(w, b"report rewrite"),
+        b'a' => choice(w, b"back"),
+        b'u' => choice(w, b"unread"),
         _ => Number::Bad,
     }
 }
@@ -117,15 +123,49 @@ fn arguments(line: &[u8], shape: &[u8], numbers: &mut [u64], lent: &mut [u8]) ->
     Tried::Is(last)
 }
 
+// The n words from the third on are entries: how many bytes they are.
+fn all_entries(line: &[u8], n: usize, lent: &mut [u8]) -> Tried
+    requires { ⌜ n ≤ 256 ⌝ }
+{
+    let mut k = 0;
+    while k < n {
+        if !entry(text::word(line, k + 2), k, lent) {
+            return Tried::Bad(Fault::Word(k + 2, b'e'));
+        }
+        k += 1;
+    }
+    Tried::Is((12 * n) as u64)
+}
+
+// The arguments of a line whose row is we.
+fn listed(line: &[u8], numbers: &mut [u64], lent: &mut [u8]) -> Tried {
+    let words = text::count(line);
+    if words < 2 {
+        return Tried::Bad(Fault::Count);
+    }
+    if 258 < words {
+        return Tried::Bad(Fault::Count);
+    }
+    let Number::Is(v) = argument(b'w', text::word(line, 1), lent) else {
+        return Tried::Bad(Fault::Word(1, b'w'));
+    };
+    put_at(numbers, 0, v);
+    all_entries(line, words - 2, lent)
+}
+
 // Whether a row is the line's.
 fn try_row(line: &[u8], table: &[u8], row: usize, numbers: &mut [u64], lent: &mut [u8]) -> Tried {
     if 100 <= row {
         return Tried::Bad(Fault::Name);
     }
-    if text::is(line, 0, text::word(table, 2 * row)) {
-        return arguments(line, text::word(table, 2 * row + 1), numbers, lent);
+    if !text::is(line, 0, text::word(table, 2 * row)) {
+        return Tried::Bad(Fault::Name);
     }
-    Tried::Bad(Fault::Name)
+    let shape = text::word(table, 2 * row + 1);
+    if check::same(shape, b"we") {
+        return listed(line, numbers, lent);
+    }
+    arguments(line, shape, numbers, lent)
 }
 
 // Of two rows' faults the one that says more.
@@ -141,8 +181,8 @@ fn nearer(a: Fault, b: Fault) -> Fault {
 }
 
 // The first row of a table that is the line's. A row is a name, the line's first word, and a letter for each word that follows it: d
-// decimal, h hex, i identifier, f flags, b bytes, m std, ext or both, k std or ext, s timestamp; t, r and o are the words tx, rx and
-// off; - is no word.
+// decimal, h hex, i identifier, f flags, b bytes, m std, ext or both, k std or ext, s timestamp; t, r, o, a and u are the words tx, rx,
+// off, back and unread; - is no word. The row we is report or rewrite, and behind it entries, any number up to 256, none included.
 pub fn row_of(line: &[u8], table: &[u8], numbers: &mut [u64], lent: &mut [u8]) -> Line {
     let n = text::count(table) / 2;
     let mut fault = Fault::Name;
@@ -165,13 +205,13 @@ pub fn row_of(line: &[u8], table: &[u8], numbers: &mut [u64], lent: &mut [u8]) -
 // A call's line, `call NAME ARGS...`.
 pub fn understood(line: &[u8], numbers: &mut [u64], lent: &mut [u8]) -> Line {
     let table =
-        b"reset - get_op_mode - read_register h checked_read h write_register hh verify_long - read_ram hd write_ram hb verify - modify_register hhh set_op_mode d configure_osc dd configure_io dddd configure_bit_timing ddddddddd configure dddddddddddddddddddd configure_fifo dddtddddddd configure_fifo dddrddddd configure_filter do configure_filter ddmii request d push difdb transmit difdb has_next d peek d get d";
+        b"reset - get_op_mode - read_register h checked_read h write_register hh verify_long - read_ram hd write_ram hb verify - modify_register hhh set_op_mode d configure_osc dd configure_io dddd configure_bit_timing ddddddddd configure dddddddddddddddddddd configure_fifo dddtddddddd configure_fifo dddrddddd configure_filter do configure_filter ddmii request d push difdb transmit difdb has_next d peek d get d scrub we";
     row_of(text::rest(line, 1), table, numbers, lent)
 }
 
 // A result's line, `= RESULT`. What it says goes to the buffers.
 pub fn result(line: &[u8], numbers: &mut [u64], lent: &mut [u8]) -> Line {
     let table =
-        b"ok - none - yes - no - panic - refused d refused dh refused dd word h mode d bytes b message khfsb message khfsbd";
+        b"ok - none - yes - no - panic - refused d refused dh refused dd word h mode d bytes b message khfsb message khfsbd agree h differ hhh differ hhhah differ hhhud unread hd";
     row_of(text::rest(line, 1), table, numbers, lent)
 }

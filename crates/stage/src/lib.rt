@@ -252,6 +252,21 @@ fn done(
     turned(t, q, &tx, notes, n, rx, out)
 }
 
+// The chip after a call, and the place of the scrubber that the call gives back.
+struct After {
+    model: Model,
+    place: usize,
+}
+
+fn ended(t: Turn, call: Call) -> After {
+    let m = t.model;
+    let s = driver::scrubber(call);
+    After {
+        model: m,
+        place: s.place,
+    }
+}
+
 // A call, to its end. No call asks so often that the turns run out.
 fn through(
     m: Model,
@@ -261,7 +276,7 @@ fn through(
     notes: &[u8],
     rx: &mut [u8],
     out: &mut [u8],
-) -> Model {
+) -> After {
     let mut call = starts::start(row, numbers, lent);
     let read = read_of(row, numbers);
     let mut t = begun(m);
@@ -269,30 +284,49 @@ fn through(
     while 0 < turns {
         turns -= 1;
         if t.over {
-            return t.model;
+            return ended(t, call);
         }
         t = done(t, call, read, lent, notes, rx, out);
         let answer = t.answer;
         call = driver::answer(call, answer, text::front(rx, t.heard));
     }
-    t.model
+    ended(t, call)
 }
 
-fn ran(m: Model, row: usize, numbers: &[u64], lent: &[u8], notes: &[u8]) -> Model {
+// Only a scrub moves the place.
+fn ran(
+    m: Model,
+    row: usize,
+    numbers: &[u64],
+    lent: &[u8],
+    notes: &[u8],
+    place: &mut [u64; 1],
+) -> Model {
     let mut rx = [0u8; 32768];
     let mut out = io::large_buffer();
-    let next = through(m, row, numbers, lent, notes, &mut rx, &mut out);
+    let e = through(m, row, numbers, lent, notes, &mut rx, &mut out);
     output::write(b"\n");
-    next
+    if row == starts::SCRUB {
+        place[0] = e.place as u64;
+    }
+    e.model
 }
 
-// A call by its line, with its @ lines.
-pub fn run(m: Model, line: &[u8], notes: &[u8]) -> Model {
+// A call by its line, with its @ lines. A scrub starts at the place, which is afterwards the next one's.
+pub fn run(m: Model, line: &[u8], notes: &[u8], place: &mut [u64; 1]) -> Model {
     let mut numbers = [0u64; 24];
     let mut lent = [0u8; 32768];
+    numbers[starts::PLACE] = place[0];
     output::write_line(line);
     let Line::Row(s) = spoken::understood(line, &mut numbers, &mut lent) else {
         return m;
     };
-    ran(m, s.row, &numbers, text::front(&lent, s.count), notes)
+    ran(
+        m,
+        s.row,
+        &numbers,
+        text::front(&lent, s.count),
+        notes,
+        place,
+    )
 }

@@ -2,6 +2,7 @@
 // its parameter becomes the parameter's largest, which the call refuses by the same number.
 mod fifos;
 mod plans;
+mod scrubbing;
 mod setup;
 mod simple;
 
@@ -12,6 +13,12 @@ pub use simple::word;
 
 // The buffer that is lent to a RAM read, a peek and a get.
 pub const ROOM: usize = 2048;
+
+// The row of scrub.
+pub const SCRUB: usize = 25;
+
+// Which number of a call is the place that a scrub starts at. No row has so many arguments: it is 0 where nobody puts another there.
+pub const PLACE: usize = 23;
 
 // The call of a row, `lent` being the bytes of its last argument.
 pub fn start(row: usize, a: &[u64], lent: &[u8]) -> Call {
@@ -24,5 +31,8 @@ pub fn start(row: usize, a: &[u64], lent: &[u8]) -> Call {
     if row < 20 {
         return plans::plan(row, a);
     }
-    fifos::fifo_call(row, a, lent)
+    if row < SCRUB {
+        return fifos::fifo_call(row, a, lent);
+    }
+    scrubbing::scrub_call(a, lent)
 }

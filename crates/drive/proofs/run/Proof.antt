@@ -5,10 +5,10 @@ use Rattle.drive.proofs.run.Statement.{statement}
 use Rattle.drive.proofs.run.Tie as tie
 
 abbrev Inv-loop : tie.InvT-loop
-Inv-loop piece₀ buf₀ head₀ notes₀ lent₀ numbers₀ r₀ m₀ p₀ turns₀ piece buf head notes lent numbers r m p turns = Unit {0}
+Inv-loop piece₀ buf₀ head₀ notes₀ lent₀ numbers₀ scrubber₀ r₀ m₀ p₀ turns₀ piece buf head notes lent numbers scrubber r m p turns = Unit {0}
 
 abbrev μ-loop : tie.MeasureT-loop
-μ-loop piece₀ buf₀ head₀ notes₀ lent₀ numbers₀ r₀ m₀ p₀ turns₀ piece buf head notes lent numbers r m p turns = turns
+μ-loop piece₀ buf₀ head₀ notes₀ lent₀ numbers₀ scrubber₀ r₀ m₀ p₀ turns₀ piece buf head notes lent numbers scrubber r m p turns = turns
 
 pub run-spec : {M : Type 1} → statement M
 run-spec =

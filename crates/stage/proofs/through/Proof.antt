@@ -13,4 +13,9 @@ abbrev μ-loop : tie.MeasureT-loop
 μ-loop row numbers lent notes rx₀ out₀ call₀ read t₀ turns₀ rx out call t turns = turns
 
 pub through-spec : {M : Type 1} → statement M
-through-spec = tie.close (tie.spec Inv-loop μ-loop (λ c κs. search needs) (λ c κs. search needs) (λ c κs. search needs) (search needs) (search needs) (search needs) (search needs) (search needs) (λ c κs. search needs) (λ c κs. search needs) (λ c κs. search needs) (search needs) (λ c. (c .before .before .before .before .before .before .before .done .kept .1 .1 .1 .1 .1 .0 ∙ c .before .before .before .before .before .before .before .before .before .before .before .before .loop .inv .0, c .before .before .before .before .before .before .before .done .kept .1 .1 .1 .1 .1 .1 .0 ∙ c .before .before .before .before .before .before .before .before .before .before .before .before .loop .inv .1)) (search needs) (search needs) (search needs))
+through-spec =
+    tie.close
+    (tie.spec Inv-loop μ-loop (λ c κs. search needs) (λ c κs. search needs) (λ c κs. search needs) (search needs) (search needs) (λ c κs. search needs)
+    (search needs) (search needs) (search needs) (λ c κs. search needs) (λ c κs. search needs) (λ c κs. search needs) (search needs)
+    (λ c. (c .before .before .before .before .before .before .before .done .kept .1 .1 .1 .1 .1 .0 ∙ c .before .before .before .before .before .before .before .before .before .before .before .before .loop .inv .0, c .before .before .before .before .before .before .before .done .kept .1 .1 .1 .1 .1 .1 .0 ∙ c .before .before .before .before .before .before .before .before .before .before .before .before .loop .inv .1))
+    (λ c κs. search needs) (search needs) (search needs) (search needs))
