@@ -60,9 +60,22 @@ pub use proved::driver::Settings;
 pub use proved::driver::Header;
 /// A timestamp, or none.
 pub use proved::driver::Stamp;
-/// Document 01's number of a refusal.
+/// An entry of a list that [`Mcp::scrub`] goes through: the address of a register, the word that it is to have, and a 1 for each bit that
+/// is cared for. The registers are those of document 01: CiCON (0x000), CiNBTCFG (0x004), CiDBTCFG (0x008), CiTDC (0x00C), CiTSCON (0x014),
+/// CiINT (0x01C), of FIFOs and filters all (every fourth address from 0x05C to 0x2EC), OSC (0xE00) and IOCON (0xE04).
+pub use proved::driver::Watch;
+/// How far a scrubber is: the place in the list of the entry that it visits next. It begins with `Scrubber { place: 0 }`; any place may be
+/// given, and one beyond the list's end is the first.
+pub use proved::driver::Scrubber;
+/// What [`Mcp::scrub`] saw of the entry that it visited. `Agree`: the cared-for bits are the wanted ones. `Differ`: they are not, with the
+/// word read, the wanted one, and what came of the rewrite. `Unread`: the checked read was refused: 1, or 10.
+pub use proved::driver::Report;
+/// What came of a rewrite. `None`: none was told. `Back`: it was written, and this word was read back, as wanted or not. `Unread`: the
+/// write failed (1) and nothing was read back, or the read-back was refused (1, 10).
+pub use proved::driver::Rewrite;
+/// The number of a refusal in documents 01 and 02.
 pub use proved::driver::number;
-/// Why a call was refused, by document 01's table; 30 and 31 are document 02's. 3 carries the address, 4 and 5 the length.
+/// Why a call was refused, by document 01's table; 30 to 33 are document 02's. 3 carries the address, 4 and 5 the length.
 ///
 /// | number | | given exactly when |
 /// |---|---|---|
@@ -90,6 +103,8 @@ pub use proved::driver::number;
 /// | 28 | `BufferTooSmall` | the buffer for a payload has fewer than 64 bytes, or a RAM read is not for a part inside its buffer |
 /// | 30 | `NoMatch` | no filter of the modelled chip takes a frame that it was to sort: never of a call |
 /// | 31 | `DeviceNet` | DNCNT of the modelled chip is above 0 where it was to sort a frame: never of a call |
+/// | 32 | `EmptyList` | scrub: the list has no entry |
+/// | 33 | `NotCarried` | scrub: an entry's address is no register's that [`Watch`] names |
 pub use proved::driver::Refusal;
 
 /// The calls themselves, for a loop of your own, with interrupts or DMA perhaps. No function here has a precondition.
@@ -150,6 +165,9 @@ pub mod calls {
     pub use crate::proved::driver::turns;
     /// Whether the message of a push or a transmit is in the chip: also where the transmit's request was refused.
     pub use crate::proved::driver::accepted;
+    /// The scrubber of a scrub: moved on where that reported, as it was where it was refused or is not over. Of another call: at the first
+    /// entry. [`run`](crate::run) does not give it: a step is [`Mcp::scrub`](crate::Mcp::scrub) or a loop of your own.
+    pub use crate::proved::driver::scrubber;
 
     /// A call without its bytes.
     pub use crate::proved::driver::numbers_of;
@@ -165,6 +183,8 @@ pub mod calls {
     pub use crate::proved::driver::write_ram;
     /// As the method of [`Mcp`](crate::Mcp) of this name. `room` is the length of the buffer that will be lent to [`finish`].
     pub use crate::proved::driver::{get, peek};
+    /// As the method of [`Mcp`](crate::Mcp) of this name. The list is looked at here, and not later; [`scrubber`] gives the scrubber back.
+    pub use crate::proved::driver::scrub;
     /// As the method of [`Mcp`](crate::Mcp) of this name.
     pub use crate::proved::driver::{
         checked_read, configure, configure_bit_timing, configure_fifo, configure_filter, configure_io, configure_osc, disable_filter,

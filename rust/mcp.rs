@@ -2,8 +2,8 @@
 use crate::calls;
 use crate::calls::{answer_lent, body_of, finish_lent, next_lent, numbers_of, Answer, Call, Next, Outcome};
 use crate::{
-    BitTimeConfiguration, FifoConfiguration, FilterConfiguration, Header, IoConfiguration, OscillatorConfiguration, Refusal, Settings,
-    Stamp,
+    BitTimeConfiguration, FifoConfiguration, FilterConfiguration, Header, IoConfiguration, OscillatorConfiguration, Refusal, Report,
+    Scrubber, Settings, Stamp, Watch,
 };
 
 /// An exchange was not carried out. What went wrong is the line's to remember.
@@ -63,33 +63,38 @@ const WAIT: u32 = 500;
 /// write of n bytes (2 + n and 0) and a RAM read of n (2 and n).
 pub fn run<L: Line>(line: &mut L, call: Call, lent: &[u8], buf: &mut [u8], tx: &mut [u8], rx: &mut [u8]) -> Outcome {
     let (mut call, mut own) = (numbers_of(call), body_of(call));
-    let mut got = 0;
-    loop {
-        let answered;
-        (got, answered) = match next_lent(call, &own, lent, tx) {
-            Next::Transfer { n, want } => match rx.get_mut(..want) {
-                Some(rx) => (want, line.transfer(&tx[..n], rx).map_or(Answer::Failed, |()| Answer::Exchanged)),
-                None => (0, Answer::Failed),
-            },
-            Next::Wait => {
-                line.wait(WAIT);
-                (0, Answer::Waited)
-            }
-            Next::Short => (0, Answer::Failed),
-            Next::Over => return finish_lent(call, &own, &rx[..got], buf),
-        };
+    let mut last = 0;
+    while let Some((got, answered)) = served(line, next_lent(call, &own, lent, tx), tx, rx) {
+        last = got;
         call = answer_lent(call, answered, &rx[..got], &mut own);
     }
+    finish_lent(call, &own, &rx[..last], buf)
+}
+
+/// What a call asks for, done over the line: how many bytes came, and how it went. `None` where the call is over.
+fn served<L: Line>(line: &mut L, next: Next, tx: &[u8], rx: &mut [u8]) -> Option<(usize, Answer)> {
+    Some(match next {
+        Next::Transfer { n, want } => match rx.get_mut(..want) {
+            Some(rx) => (want, line.transfer(&tx[..n], rx).map_or(Answer::Failed, |()| Answer::Exchanged)),
+            None => (0, Answer::Failed),
+        },
+        Next::Wait => {
+            line.wait(WAIT);
+            (0, Answer::Waited)
+        }
+        Next::Short => (0, Answer::Failed),
+        Next::Over => return None,
+    })
 }
 
 /// The driver over a line.
 ///
 /// A method runs its call to the end: it is done, or refused for a reason of document 01's table, whose number [`crate::number`] gives.
 /// A refused call has asked for no exchange after the one that it was refused at, and has changed no byte of what was lent to it. What
-/// is wrong with a call's own numbers is found before its first exchange (20, 21, 22, 24, 28, and 3, 4, 5 of RAM calls): any number may
-/// be given, of a FIFO, a filter or a register too. A failed exchange is 1, of a RAM write or the reset 2, and 11 instead in
-/// `configure`, `configure_osc`, `configure_io`, `configure_bit_timing`, `set_op_mode` and the two echo tests. 26 and 27 are no
-/// method's: the loop gives every answer as it was asked for, and 27 is the modelled chip's.
+/// is wrong with a call's own numbers is found before its first exchange (20, 21, 22, 24, 28, 32, 33, and 3, 4, 5 of RAM calls): any
+/// number may be given, of a FIFO, a filter or a register too. A failed exchange is 1, of a RAM write or the reset 2, and 11 instead in
+/// `configure`, `configure_osc`, `configure_io`, `configure_bit_timing`, `set_op_mode` and the two echo tests; `scrub` reports it, and is
+/// not refused. 26 and 27 are no method's: the loop gives every answer as it was asked for, and 27 is the modelled chip's.
 ///
 /// Between two exchanges of a call nobody else may use the chip; nothing is kept here from one call to the next.
 #[derive(Debug)]
@@ -267,6 +272,44 @@ impl<L: Line> Mcp<L> {
     /// As `peek`, and the message is taken from the FIFO. Where it is refused, the FIFO still holds it.
     pub fn get(&mut self, fifo: u32, buf: &mut [u8]) -> Result<Option<Received>, Refusal> {
         self.message(calls::get(fifo, buf.len()), buf)
+    }
+
+    /// One step of a scrubber: reads the register of the entry that is due, its CRC tested in at most three tries, and reports whether
+    /// the cared-for bits are the wanted ones. Where they are not and `rewrite` is true, it writes the word that it read with these bits
+    /// as wanted, once, and reports what a checked read then gives: 7 exchanges at most. The write has the effects of any write to that
+    /// register. A read that fails, or mismatches three times, is reported too, and is that entry's visit.
+    ///
+    /// Refused: 32 for an empty list; 33 where the address of an entry, due or not, is not that of a register in the list of [`Watch`];
+    /// both before any exchange. Where the step reports, the scrubber moves on to the entry behind, where it is refused it stays; so n
+    /// steps over one list of n visit each entry once, whatever is called between.
+    ///
+    /// ```
+    /// # use masevuru::*;
+    /// # fn look<L: Line>(mcp: &mut Mcp<L>) -> Result<(), Refusal> {
+    /// // filter 0's control byte, of filters 0 to 3; all of its mask
+    /// let list = [Watch { address: 0x1D0, wanted: 0x82, care: 0xFF }, Watch { address: 0x1F4, wanted: 0x4000_0700, care: !0 }];
+    /// let mut scrubber = Scrubber { place: 0 };
+    /// for _ in &list {
+    ///     match mcp.scrub(&mut scrubber, &list, true)? {
+    ///         Report::Agree { .. } => {}
+    ///         Report::Differ { address, read, rewrite, .. } => { /* tell it; `rewrite` is what came of the rewrite */ }
+    ///         Report::Unread { address, why } => { /* not seen this time: it is due again after the others */ }
+    ///     }
+    /// }
+    /// # Ok(())
+    /// # }
+    /// ```
+    pub fn scrub(&mut self, scrubber: &mut Scrubber, list: &[Watch], rewrite: bool) -> Result<Report, Refusal> {
+        // by value, as the scrubber comes out of a whole call; a write sends 6 bytes, a checked read receives 6
+        let (mut call, mut tx, mut rx) = (calls::scrub(*scrubber, list, rewrite), [0; 6], [0; 6]);
+        while let Some((got, answered)) = served(&mut self.line, calls::next(call, &[], &mut tx), &tx, &mut rx) {
+            call = calls::answer(call, answered, &rx[..got]);
+        }
+        *scrubber = calls::scrubber(call);
+        match calls::finish(call, &[], &mut []) {
+            Outcome::Scrubbed(report) => Ok(report),
+            other => Err(refusal(other)),
+        }
     }
 }
 

@@ -72,6 +72,9 @@ void entry(void)
     static mcp_message message;
     static uint32_t word;
     static uint8_t next;
+    static const mcp_watch watch;
+    static mcp_scrubber scrubber;
+    static mcp_report report;
     const mcp_line line = { transfer, wait, 0, &word };
     answers += mcp_reset(&line) + mcp_read_register(&line, 0, &word) + mcp_write_register(&line, 0, 0);
     answers += mcp_modify_register(&line, 0, 0, 0) + mcp_checked_read(&line, 0, &word);
@@ -82,6 +85,7 @@ void entry(void)
     answers += mcp_configure_filter(&line, 0, &filter) + mcp_disable_filter(&line, 0);
     answers += mcp_push(&line, 1, &header, 0, buf, 8) + mcp_request(&line, 1) + mcp_transmit(&line, 1, &header, 0, buf, 8, &next);
     answers += mcp_has_next(&line, 2, &next) + mcp_peek(&line, 2, buf, 64, &message) + mcp_get(&line, 2, buf, 64, &message);
+    answers += mcp_scrub(&line, &scrubber, &watch, 1, 1, &report);
     for (;;)
         ;
 }

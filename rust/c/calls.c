@@ -1,6 +1,7 @@
 /* calls: what the header promises, call by call, on the modelled chip: exchanges that fail one after the other, NULLs, numbers too wide,
- * what refusals carry, every DLC, and that each field of each structure is where the library looks for it. What is expected was written
- * down from documents 01 and 02 and the data sheet's bits. Says how many things were looked at, or which line found another. */
+ * what refusals carry, every DLC, lists that are scrubbed, and that each field of each structure is where the library looks for it. What
+ * is expected was written down from documents 01 and 02 and the data sheet's bits. Says how many things were looked at, or which line
+ * found another. */
 #include "masevuru.h"
 #include <stdio.h>
 #include <stdlib.h>
@@ -9,9 +10,10 @@
 static unsigned long looked;
 #define IS(what) ((what) ? (void)looked++ : (printf("calls.c:%d: not so: %s\n", __LINE__, #what), exit(1)))
 
-/* The line: the chip, of which one exchange may fail, or be answered by another word. */
+/* The line: the chip, of which one exchange may fail, or be answered by another word; and checked reads, by a bit each of an exchange's
+ * number, with another CRC. */
 static mcp_chip chip;
-static unsigned exchanges, fail_at, twist_at;
+static unsigned exchanges, fail_at, twist_at, mismatches;
 static uint32_t twist;
 
 static int transfer(void *context, const uint8_t *tx, size_t tx_len, uint8_t *rx, size_t rx_len)
@@ -23,6 +25,8 @@ static int transfer(void *context, const uint8_t *tx, size_t tx_len, uint8_t *rx
     if (exchanges == twist_at)
         for (size_t i = 0; i < 4; i++)
             rx[i] = (uint8_t)(twist >> 8 * i);
+    if (exchanges < 32 && mismatches >> exchanges & 1 && rx_len == 6)
+        rx[5] ^= 1;
     return r;
 }
 
@@ -32,6 +36,8 @@ static struct {
     mcp_message message;
     mcp_frame frame;
     mcp_sorted sorted;
+    mcp_scrubber scrubber;
+    mcp_report report;
     uint32_t word, value;
     uint8_t next, accepted;
 } out, before;
@@ -48,7 +54,7 @@ static void fresh(void)
 {
     memset(&out, 0x5A, sizeof out);
     memset(&before, 0x5A, sizeof before);
-    exchanges = fail_at = twist_at = 0;
+    exchanges = fail_at = twist_at = mismatches = 0;
 }
 
 static int untouched(void) { return !memcmp(&out, &before, sizeof out); }
@@ -83,6 +89,17 @@ static uint32_t reg(uint32_t address)
     return word;
 }
 
+/* CiNBTCFG, with a bit that it does not have. A step over it alone: what it answers, or what its report tells. */
+static const mcp_watch differs = { 0x004, 0x003E0F0E, 0x000000FF };
+
+static int scrubbed(const mcp_line *l, int rewrite)
+{
+    mcp_scrubber s = { 0 };
+    mcp_report report;
+    int r = mcp_scrub(l, &s, &differs, 1, rewrite, &report);
+    return r ? r : (int)report.number;
+}
+
 /* Each exchange of each call fails once. */
 
 #define CALL(name, does) static int name(const mcp_line *l) { return does; }
@@ -114,13 +131,15 @@ CALL(a_peek_2, mcp_peek(l, 2, out.buf, 72, &out.message))
 CALL(a_peek_3, mcp_peek(l, 3, out.buf, 72, &out.message))
 CALL(a_get_2, mcp_get(l, 2, out.buf, 72, &out.message))
 CALL(a_get_3, mcp_get(l, 3, out.buf, 72, &out.message))
+CALL(a_scrub, scrubbed(l, 0))
+CALL(a_rewrite, scrubbed(l, 1))
 
 /* Document 01: 1 where a read or a register write failed; 2 where a RAM write or the reset failed; 11 in place of both in any
  * configuration, mode or echo call but configure_fifo and configure_filter (get_op_mode is a register read). The exchanges are those of
  * "Exchange by exchange"; a change is two, a read and a write. The chip takes a mode at once and shows PLLRDY with PLLEN: one poll.
  * configure: mode 2, poll 1, echo 64, OSC 2, PLL's poll 1 if on, IOCON 2, bit timing 6, STEF 2, TXQEN 2, TSCON 2 if the counter is on,
- * DNCNT 2 if not 0, RTXAT 2, CiINT 2. FIFO `fifo` holds `then` messages where an exchange up to `last` failed, `after` where a later one
- * or none did. */
+ * DNCNT 2 if not 0, RTXAT 2, CiINT 2. A scrub reports what failed. FIFO `fifo` holds `then` messages where an exchange up to `last` failed,
+ * `after` where a later one or none did. */
 static const struct {
     int (*call)(const mcp_line *);
     struct { unsigned times; int answer; } parts[3];
@@ -154,6 +173,8 @@ static const struct {
     { a_peek_3, { { 6, 1 } }, 3, 0, 1, 1 },
     { a_get_2, { { 9, 1 } }, 2, 9, 1, 0 },
     { a_get_3, { { 8, 1 } }, 3, 8, 1, 0 },
+    { a_scrub, { { 1, 1 } }, 0, 0, 0, 0 },
+    { a_rewrite, { { 3, 1 } }, 0, 0, 0, 0 },
 };
 
 static void failing(void)
@@ -260,6 +281,13 @@ static void nulls(void)
     NOTHING_DONE(mcp_get(&line, 2, NULL, 64, &out.message));
     NOTHING_DONE(mcp_get(&line, 2, out.buf, too_long, &out.message));
     NOTHING_DONE(mcp_get(&line, 2, out.buf, 72, NULL));
+    NOTHING_DONE(mcp_scrub(&line, NULL, &differs, 1, 1, &out.report));
+    NOTHING_DONE(mcp_scrub(&line, &out.scrubber, NULL, 1, 1, &out.report));
+    NOTHING_DONE(mcp_scrub(&line, &out.scrubber, &differs, too_long, 1, &out.report));
+    NOTHING_DONE(mcp_scrub(&line, &out.scrubber, &differs, too_long / 2 / sizeof differs + 1, 1, &out.report)); /* above PTRDIFF_MAX bytes */
+    NOTHING_DONE(mcp_scrub(&line, &out.scrubber, &differs, too_long / sizeof differs + 2, 1, &out.report)); /* few, if it wrapped */
+    NOTHING_DONE(mcp_scrub(&line, &out.scrubber, &differs, 1, 1, NULL));
+    NOTHING_DONE(mcp_scrub(&line, &out.scrubber, NULL, 0, 1, NULL)); /* before 32 */
     NOTHING_DONE(mcp_chip_new(NULL));
     NOTHING_DONE(mcp_chip_transfer(NULL, bytes, 2, out.buf, 4));
     NOTHING_DONE(mcp_chip_transfer(&chip, NULL, 2, out.buf, 4));
@@ -290,6 +318,7 @@ static void nulls(void)
     IS(mcp_write_ram(&line, 0x400, NULL, 0) == 0 && exchanges == 2);
     IS(mcp_push(&line, 1, &header, 5, NULL, 0) == 0 && held(1) == 1 && exchanges == 7);
     IS(mcp_peek(&line, 2, NULL, 0, &out.message) == 28 && mcp_get(&line, 2, NULL, 0, &out.message) == 28 && exchanges == 7);
+    IS(mcp_scrub(&line, &out.scrubber, NULL, 0, 1, &out.report) == 32 && exchanges == 7);
     IS(mcp_chip_transfer(&chip, NULL, 0, NULL, 0) == 1);
     IS(untouched());
     IS(mcp_chip_deliver(&chip, 3, &header, 0, 0, NULL, 0, &out.word) == 0 && out.word == MCP_DELIVERED && held(3) == 2);
@@ -693,6 +722,150 @@ static void classic_dlcs(void)
     }
 }
 
+/* Filter 0 as `filter` sets it up: control of filters 0 to 3, of which its byte is cared for; its object; its mask. */
+static const mcp_watch watched[3] = {
+    { 0x1D0, 0x00000082, 0x000000FF }, { 0x1F0, 0x00000100, 0xFFFFFFFF }, { 0x1F4, 0x40000700, 0xFFFFFFFF },
+};
+
+static void prepare_filter(void)
+{
+    prepare();
+    IS(mcp_configure_filter(&line, 0, &filter) == 0);
+    fresh();
+}
+
+/* One step from a place, which has to go on to another. */
+static mcp_report step(size_t place, const mcp_watch *list, size_t n, int rewrite, size_t after)
+{
+    fresh();
+    out.scrubber.place = place;
+    IS(mcp_scrub(&line, &out.scrubber, list, n, rewrite, &out.report) == 0 && out.scrubber.place == after);
+    mcp_report r = out.report;
+    out.scrubber = before.scrubber, out.report = before.report;
+    IS(untouched());
+    return r;
+}
+
+/* A step that is refused, and changes nothing. */
+static int turned_down(size_t place, const mcp_watch *list, size_t n)
+{
+    fresh();
+    out.scrubber.place = place;
+    int r = mcp_scrub(&line, &out.scrubber, list, n, 1, &out.report);
+    IS(out.scrubber.place == place && exchanges == 0);
+    out.scrubber = before.scrubber;
+    IS(untouched());
+    return r;
+}
+
+static int is_report(mcp_report r, mcp_report is)
+{
+    return r.seen == is.seen && r.address == is.address && r.read == is.read && r.wanted == is.wanted && r.rewrite == is.rewrite &&
+           r.back == is.back && r.number == is.number;
+}
+
+static int agrees(mcp_report r, uint32_t address) { return is_report(r, (mcp_report){ MCP_AGREE, address, 0, 0, 0, 0, 0 }); }
+
+/* Document 02: each entry in turn, whatever is called between; a place beyond the end starts again at the first. */
+static void scrubbed_in_turn(void)
+{
+    static const size_t starts[] = { 0, 1, 2, 3, 4, 255, (size_t)-1 };
+    for (size_t i = 0; i < sizeof starts / sizeof *starts; i++) {
+        size_t place = starts[i], due = place < 3 ? place : 0;
+        prepare_filter();
+        for (int k = 0; k < 6; k++, due = (due + 1) % 3) {
+            IS(agrees(step(place, watched, 3, 1, due + 1), watched[due].address));
+            place = due + 1;
+            IS(mcp_transmit(&line, 1, &header, 5, bytes, 8, NULL) == 0 && mcp_chip_send(&chip, 1, &out.frame) == 0);
+            IS(mcp_peek(&line, 2, out.buf, 72, &out.message) == 0 && turned_down(place, watched, 0) == MCP_EMPTY_LIST);
+        }
+    }
+    IS(agrees(step(1, watched, 1, 1, 1), 0x1D0) && agrees(step(1, watched, 2, 1, 2), 0x1F0));
+    IS(agrees(step(2, watched, 3, 1, 3), 0x1F4) && agrees(step(3, watched, 2, 1, 1), 0x1D0));
+}
+
+/* Each field of an entry and of a report; a flipped cared-for bit is reported and no other; exactly the cared-for bits are rewritten. */
+static void every_flipped_bit(void)
+{
+    static const uint32_t addresses[] = { 0x004, 0x00C, 0x01C, 0x1F0, 0x2EC, 0xE04 };
+    prepare_filter();
+    for (size_t i = 0; i < sizeof addresses / sizeof *addresses; i++) {
+        const uint32_t address = addresses[i], right = reg(address);
+        for (uint32_t bit = 1; bit; bit <<= 1) {
+            const uint32_t wrong = right ^ bit, cares[] = { 0, 1, bit, bit | 1, ~bit, 0xFFFF0000, 0x0000FFFF, 0xFFFFFFFF };
+            for (size_t k = 0; k < sizeof cares / sizeof *cares; k++) {
+                /* beside the cared-for bits nothing is wanted: there the word is another in every bit */
+                const mcp_watch w = { address, (right & cares[k]) | (~right & ~cares[k]), cares[k] };
+                IS(mcp_write_register(&line, address, wrong) == 0);
+                if (!(bit & cares[k])) {
+                    IS(agrees(step(0, &w, 1, 1, 1), address) && exchanges == 1 && reg(address) == wrong);
+                    continue;
+                }
+                const mcp_report seen = { MCP_DIFFER, address, wrong, w.wanted, MCP_NO_REWRITE, 0, 0 };
+                const mcp_report mended = { MCP_DIFFER, address, wrong, w.wanted, MCP_READ_BACK, right, 0 };
+                IS(is_report(step(0, &w, 1, 0, 1), seen) && exchanges == 1 && reg(address) == wrong);
+                IS(is_report(step(0, &w, 1, 256, 1), mended) && exchanges == 3 && reg(address) == right);
+            }
+            IS(mcp_write_register(&line, address, right) == 0);
+        }
+    }
+    /* A bit that can't be had: FIFO 2 holds a message, status bit 0. */
+    const mcp_watch status = { 0x06C, 0, 1 };
+    IS(is_report(step(0, &status, 1, 1, 1), (mcp_report){ MCP_DIFFER, 0x06C, 1, 0, MCP_READ_BACK, 1, 0 }));
+}
+
+/* What goes wrong on the line is the entry's visit: exchanges that mismatch, by a bit each, one that fails, and what is reported. */
+static void scrubbed_amiss(void)
+{
+    static const struct {
+        unsigned mismatches, fail_at;
+        mcp_report report;
+        unsigned exchanges;
+        uint32_t after;
+    } cases[] = {
+        { 0, 1, { MCP_UNREAD, 0x004, 0, 0, 0, 0, 1 }, 1, 0x003E0F0F },
+        { 0, 2, { MCP_DIFFER, 0x004, 0x003E0F0F, 0x003E0F0E, MCP_NOT_READ_BACK, 0, 1 }, 2, 0x003E0F0F },
+        { 0, 3, { MCP_DIFFER, 0x004, 0x003E0F0F, 0x003E0F0E, MCP_NOT_READ_BACK, 0, 1 }, 3, 0x003E0F0E },
+        { 0x0E, 0, { MCP_UNREAD, 0x004, 0, 0, 0, 0, 10 }, 3, 0x003E0F0F },
+        { 0x06, 3, { MCP_UNREAD, 0x004, 0, 0, 0, 0, 1 }, 3, 0x003E0F0F },
+        { 0x38, 0, { MCP_DIFFER, 0x004, 0x003E0F0F, 0x003E0F0E, MCP_NOT_READ_BACK, 0, 10 }, 5, 0x003E0F0E },
+        { 0x66, 0, { MCP_DIFFER, 0x004, 0x003E0F0F, 0x003E0F0E, MCP_READ_BACK, 0x003E0F0E, 0 }, 7, 0x003E0F0E },
+        { 0x66, 7, { MCP_DIFFER, 0x004, 0x003E0F0F, 0x003E0F0E, MCP_NOT_READ_BACK, 0, 1 }, 7, 0x003E0F0E },
+    };
+    for (size_t i = 0; i < sizeof cases / sizeof *cases; i++) {
+        prepare();
+        mismatches = cases[i].mismatches, fail_at = cases[i].fail_at;
+        out.scrubber.place = 0;
+        IS(mcp_scrub(&line, &out.scrubber, &differs, 1, 1, &out.report) == 0 && out.scrubber.place == 1);
+        IS(is_report(out.report, cases[i].report) && exchanges == cases[i].exchanges);
+        out.scrubber = before.scrubber, out.report = before.report;
+        IS(untouched());
+        mismatches = 0;
+        IS(reg(0x004) == cases[i].after);
+    }
+}
+
+/* 32, then 33, which any entry's address makes, the one that is due or another. */
+static void scrubs_refused(void)
+{
+    prepare_filter();
+    for (uint32_t a = 0; a < 0x2010; a++) {
+        const uint32_t far[] = { 0xFFFF, 0x10000, 0x101D0, 0xFFFFFFFF }, address = a < 0x2000 ? a : far[a % 4];
+        const int is_carried = address % 4 == 0 && (address <= 0x00C || address == 0x014 || address == 0x01C ||
+                                                    (address >= 0x05C && address <= 0x2EC) || address == 0xE00 || address == 0xE04);
+        for (size_t bad = 0; bad < 3; bad++) {
+            mcp_watch list[3] = { watched[0], watched[1], watched[2] };
+            list[bad] = (mcp_watch){ address, 0, 0 };
+            if (is_carried)
+                IS(agrees(step(2, list, 3, 1, 3), list[2].address));
+            else
+                for (size_t place = 0; place < 4; place++)
+                    IS(turned_down(place, list, 3) == MCP_NOT_CARRIED);
+        }
+    }
+    IS(turned_down(0, NULL, 0) == MCP_EMPTY_LIST && turned_down((size_t)-1, watched, 0) == MCP_EMPTY_LIST);
+}
+
 int main(void)
 {
     failing();
@@ -707,6 +880,10 @@ int main(void)
     sorting();
     every_dlc();
     classic_dlcs();
+    scrubbed_in_turn();
+    every_flipped_bit();
+    scrubbed_amiss();
+    scrubs_refused();
     printf("calls: %lu looked at, all as written down\n", looked);
     return 0;
 }

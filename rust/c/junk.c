@@ -1,8 +1,8 @@
 /* junk [CALLS [SEED]]: random calls with random numbers, NULLs and lengths over a line that fails, answers junk, fills only part of what
  * was wanted, and otherwise is the modelled chip. No call may panic (which ends the program), send what is no instruction, go on after
  * a failed exchange, change a byte where it is refused, write outside what it was lent, tell a message whose length is not what its DLC
- * means, or answer what documents 01 and 02 do not have for it. Prints how often each number was answered, and how many classic
- * messages with a DLC above 8 were found. */
+ * means, leave a scrubber where it does not belong, or answer what documents 01 and 02 do not have for it. Prints how often each number
+ * was answered, or reported, how many classic messages with a DLC above 8 were found, and how many entries were seen. */
 #include "masevuru.h"
 #include <stdio.h>
 #include <stdlib.h>
@@ -78,10 +78,11 @@ static void wait(void *context, uint32_t microseconds) { IS(context == &chip && 
 
 /* The calls, and how many exchanges each asks for at most, whatever is answered. */
 enum { RESET, READ, WRITE, MODIFY, CHECKED, READ_RAM, WRITE_RAM, VERIFY, VERIFY_LONG, SET_MODE, GET_MODE, CONFIGURE, OSC, IO, TIMING, FIFO,
-       FILTER, DISABLE, PUSH, REQUEST, TRANSMIT, HAS_NEXT, PEEK, GET, SEND, DELIVER, SORT, HELD, HELD_AT, KINDS };
-static const unsigned bound[KINDS] = { 1, 1, 1, 2, 3, 1, 1, 64, 2, 7, 1, 96, 5, 2, 6, 2, 8, 2, 5, 2, 7, 2, 7, 9, 0, 0, 0, 0, 0 };
+       FILTER, DISABLE, PUSH, REQUEST, TRANSMIT, HAS_NEXT, PEEK, GET, SCRUB, SEND, DELIVER, SORT, HELD, HELD_AT, KINDS };
+static const unsigned bound[KINDS] = { 1, 1, 1, 2, 3, 1, 1, 64, 2, 7, 1, 96, 5, 2, 6, 2, 8, 2, 5, 2, 7, 2, 7, 9, 7, 0, 0, 0, 0, 0 };
 
-/* Whether document 01 has a number for a call: what a failed exchange is; what is tested before the first; what comes later. */
+/* Whether the documents have a number for a call, or for its report: what a failed exchange is; what is tested before the first; what comes
+ * later. */
 static int is_answer(int call, int r)
 {
     static const struct { int failed[2], others[9]; } has[KINDS] = {
@@ -93,7 +94,7 @@ static int is_answer(int call, int r)
         [FIFO] = { { 1 }, { 20, 24 } }, [FILTER] = { { 1 }, { 20, 21, 24 } }, [DISABLE] = { { 1 }, { 20 } },
         [PUSH] = { { 1, 2 }, { 20, 21, 24, 22, 6, 7, 8, 25, 3 } }, [REQUEST] = { { 1 }, { 20 } },
         [TRANSMIT] = { { 1, 2 }, { 20, 21, 24, 22, 6, 7, 8, 25, 3 } }, [HAS_NEXT] = { { 1 }, { 20, 9 } },
-        [PEEK] = { { 1 }, { 20, 28, 9, 25, 3 } }, [GET] = { { 1 }, { 20, 28, 9, 25, 3 } },
+        [PEEK] = { { 1 }, { 20, 28, 9, 25, 3 } }, [GET] = { { 1 }, { 20, 28, 9, 25, 3 } }, [SCRUB] = { { 1 }, { 32, 33, 10 } },
         [SEND] = { { 0 }, { 20 } }, [DELIVER] = { { 0 }, { 20, 21, 22 } }, [SORT] = { { 0 }, { 21, 22, 31, 30 } },
         [HELD] = { { 0 }, { 20 } }, [HELD_AT] = { { 0 }, { 20 } },
     };
@@ -107,7 +108,8 @@ static int is_answer(int call, int r)
 /* Tested before the first exchange: of 3, 4 and 5 those of the RAM calls. */
 static int is_first(int call, int r)
 {
-    return r == 20 || r == 21 || r == 22 || r == 24 || r == 28 || r == 4 || r == 5 || (r == 3 && (call == READ_RAM || call == WRITE_RAM));
+    return r == 20 || r == 21 || r == 22 || r == 24 || r == 28 || r == 32 || r == 33 || r == 4 || r == 5 ||
+           (r == 3 && (call == READ_RAM || call == WRITE_RAM));
 }
 
 /* What DLC 0 to 15 mean in an FD frame; a classic one has 8 bytes at most. */
@@ -146,13 +148,28 @@ static struct {
     mcp_message message;
     mcp_frame frame;
     mcp_sorted sorted;
+    mcp_scrubber scrubber;
+    mcp_report report;
     uint32_t word, value;
     uint8_t flag, accepted;
 } out, before;
 
+/* Whether a step that visited an entry reports that one, has moved on behind it, and tells a rewrite only where it was told so. */
+static int is_visit(const mcp_watch *list, size_t n, size_t place, int rewrite, mcp_report r)
+{
+    size_t due = place < n ? place : 0;
+    if (out.scrubber.place != due + 1 || r.address != list[due].address || (r.number && r.number != 1 && r.number != 10))
+        return 0;
+    if (r.seen != MCP_DIFFER)
+        return !r.read && !r.wanted && !r.rewrite && !r.back && (r.seen == MCP_UNREAD ? r.number != 0 : r.seen == MCP_AGREE && !r.number);
+    return r.wanted == list[due].wanted && ((r.read ^ r.wanted) & list[due].care) && (r.rewrite != MCP_NO_REWRITE) == (rewrite != 0) &&
+           (r.rewrite == MCP_NOT_READ_BACK ? r.number && !r.back : r.rewrite <= MCP_READ_BACK && !r.number);
+}
+
 int main(int argc, char **argv)
 {
-    unsigned long calls = argc > 1 ? strtoul(argv[1], NULL, 0) : 100000, counts[33] = { 0 }, coded = 0;
+    unsigned long calls = argc > 1 ? strtoul(argv[1], NULL, 0) : 100000, counts[35] = { 0 }, coded = 0, seen[3] = { 0 };
+    size_t place = 0;
     static uint8_t from[4096];
     if (argc > 2)
         seed ^= strtoull(argv[2], NULL, 0);
@@ -165,6 +182,7 @@ int main(int argc, char **argv)
         mcp_settings settings;
         mcp_fifo fifo;
         mcp_filter filter;
+        mcp_watch list[4];
         uint32_t a = number(), b = number(), c = number(), dlc = number();
         size_t len = next() % 2 ? next() % 68 : next() % 4096;
         size_t lent = next() % 32 ? len : (size_t)-1 - next() % 3; /* longer than any object is told as NULL is */
@@ -177,6 +195,11 @@ int main(int argc, char **argv)
         mcp_sorted *s = next() % 32 ? &out.sorted : NULL;
         uint32_t *w = next() % 32 ? &out.word : NULL;
         uint8_t *x = next() % 4 ? &out.accepted : NULL;
+        mcp_scrubber *at = next() % 32 ? &out.scrubber : NULL;
+        mcp_report *seen_at = next() % 32 ? &out.report : NULL;
+        const mcp_watch *entries = next() % 32 ? list : NULL;
+        size_t n = next() % 5, listed = next() % 32 ? n : (size_t)-1 / sizeof *list + next() % 4; /* the same, of entries */
+        int rewrite = next() % 2 ? 0 : (int)next();
         int call = (int)(next() % KINDS), none, no_to, no_from, r;
         if (next() % 64 == 0) line.transfer = NULL;
         if (next() % 64 == 0) line.wait = NULL;
@@ -185,7 +208,11 @@ int main(int argc, char **argv)
         fill(&settings, sizeof settings);
         fill(&fifo, sizeof fifo);
         fill(&filter, sizeof filter);
+        for (size_t i = 0; i < 4; i++)
+            list[i] = (mcp_watch){ number(), number(), number() };
         if (next() % 4) { /* such as are taken */
+            for (size_t i = 0; i < 4; i++)
+                list[i].address = 0x1D0 + 4 * (next() % 20);
             header.id %= 0x800;
             settings.bittime = (mcp_bittime){ { a % 256, b % 256, c % 128, a % 128 }, { a % 256, b % 32, c % 16, a % 16, (int32_t)(b % 128) - 64 } };
             settings.dncnt %= 32;
@@ -209,7 +236,9 @@ int main(int argc, char **argv)
         none = call < SEND && (!l || !line.transfer || !line.wait); /* whether a pointer is NULL that must not be */
         if (calls_made % 64 == 0)
             settle();
+        if (next() % 64 == 0) place = (size_t)next();
         out = before;
+        if (call == SCRUB) out.scrubber.place = place;
         asked = 0, failed = 0, rough = 4u << 2 * (next() % 3);
         switch (call) {
         case RESET: r = mcp_reset(l); break;
@@ -236,13 +265,18 @@ int main(int argc, char **argv)
         case HAS_NEXT: r = mcp_has_next(l, a, &out.flag); break;
         case PEEK: r = mcp_peek(l, a, p, lent, m); none |= !m || no_to; break;
         case GET: r = mcp_get(l, a, p, lent, m); none |= !m || no_to; break;
+        case SCRUB:
+            r = mcp_scrub(l, at, entries, listed, rewrite, seen_at);
+            none |= !at || !seen_at || listed != n || (n && !entries);
+            break;
         case SEND: r = mcp_chip_send(&chip, a, f); none |= !f; break;
         case DELIVER: r = mcp_chip_deliver(&chip, a, h, dlc, c, q, lent, w); none |= !h || !w || no_from; break;
         case SORT: r = mcp_chip_sort(&chip, h, dlc, c, q, lent, s); none |= !h || !s || no_from; break;
         case HELD: r = mcp_chip_held(&chip, a, w); none |= !w; break;
         default: r = mcp_chip_held_at(&chip, a, b, f); none |= !f; break;
         }
-        IS(none ? r == MCP_NULL && asked == 0 : is_answer(call, r));
+        const int told = call == SCRUB && r == 0 ? (int)out.report.number : r;
+        IS(none ? r == MCP_NULL && asked == 0 : is_answer(call, told) && (call != SCRUB || r == 0 || r == 32 || r == 33));
         IS(asked <= bound[call]);
         IS(!is_first(call, r) || asked == 0);
         if (line.value && (r == 3 || r == 4 || r == 5)) {
@@ -254,9 +288,18 @@ int main(int argc, char **argv)
             IS(out.accepted == (asked > 5));
             out.accepted = before.accepted;
         }
+        if (call == SCRUB && r) { /* it stays */
+            IS(out.scrubber.place == place);
+            out.scrubber = before.scrubber;
+        }
         if (r) {
             IS(!memcmp(&out, &before, sizeof out));
         } else {
+            if (call == SCRUB) {
+                IS(is_visit(list, n, place, rewrite, out.report));
+                seen[out.report.seen]++;
+                place = out.scrubber.place;
+            }
             size_t filled = call == READ_RAM ? len : 0;
             if (call == PEEK || call == GET) {
                 IS(len >= 64 && out.message.found <= 1 && out.message.stamped <= out.message.found);
@@ -275,10 +318,11 @@ int main(int argc, char **argv)
             IS((call != DELIVER || out.word <= MCP_FULL) && (call != HELD || out.word <= 32) && (call != GET_MODE || out.word <= 7));
             IS(out.value == before.value);
         }
-        counts[r + 1]++;
+        counts[told + 1]++;
     }
-    for (int r = 0; r < 33; r++)
+    for (int r = 0; r < 35; r++)
         if (counts[r]) printf("%d: %lu\n", r - 1, counts[r]);
     printf("classic, DLC above 8: %lu\n", coded);
+    printf("entries that agreed, differed, were not read: %lu %lu %lu\n", seen[0], seen[1], seen[2]);
     return 0;
 }

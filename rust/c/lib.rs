@@ -5,7 +5,7 @@
 #![allow(clippy::missing_safety_doc)]
 
 use core::ffi::{c_int, c_void};
-use core::mem::{offset_of, size_of};
+use core::mem::{align_of, offset_of, size_of};
 use masevuru::*;
 
 #[cfg(feature = "chip")]
@@ -186,6 +186,55 @@ pub struct CFilter {
     mask: CIdentifier,
 }
 
+#[repr(C)]
+#[derive(Clone, Copy)]
+pub struct CWatch {
+    address: u32,
+    wanted: u32,
+    care: u32,
+}
+
+#[repr(C)]
+#[derive(Clone, Copy)]
+pub struct CScrubber {
+    place: usize,
+}
+
+/// What is not told is 0.
+#[repr(C)]
+#[derive(Clone, Copy, Default)]
+pub struct CReport {
+    seen: u32,
+    address: u32,
+    read: u32,
+    wanted: u32,
+    rewrite: u32,
+    back: u32,
+    number: u32,
+}
+
+impl CReport {
+    /// `seen` is MCP_AGREE, MCP_DIFFER or MCP_UNREAD.
+    fn of(report: Report) -> CReport {
+        match report {
+            Report::Agree { address } => CReport { address: address.into(), ..CReport::default() },
+            Report::Differ { address, read, wanted, rewrite } => {
+                CReport { seen: 1, address: address.into(), read, wanted, ..CReport::default() }.after(rewrite)
+            }
+            Report::Unread { address, why } => CReport { seen: 2, address: address.into(), number: number(why), ..CReport::default() },
+        }
+    }
+
+    /// `rewrite` is MCP_NO_REWRITE, MCP_READ_BACK or MCP_NOT_READ_BACK.
+    fn after(self, rewrite: Rewrite) -> CReport {
+        match rewrite {
+            Rewrite::None => self,
+            Rewrite::Back(back) => CReport { rewrite: 1, back, ..self },
+            Rewrite::Unread(why) => CReport { rewrite: 2, number: number(why), ..self },
+        }
+    }
+}
+
 /// The size of each structure and the place of each field, with the numbers of the header's MCP_LAYOUT.
 macro_rules! layout {
     ($($type:ident $size:expr, $($field:ident $at:expr),*;)*) => { $(
@@ -209,7 +258,12 @@ layout! {
         rxovie 23, rx_full 24, rx_half 25, rx_notempty 26;
     CIdentifier 8, id 0, extended 4;
     CFilter 24, fifo 0, mode 4, object 8, mask 16;
+    CWatch 12, address 0, wanted 4, care 8;
+    CScrubber size_of::<*const ()>(), place 0;
+    CReport 28, seen 0, address 4, read 8, wanted 12, rewrite 16, back 20, number 24;
+    Watch 12, address 0, wanted 4, care 8; // as CWatch, so that a list of C is one of Rust: no other memory is there to copy it to
 }
+const _: () = assert!(align_of::<Watch>() == align_of::<CWatch>());
 
 impl COscillator {
     fn settings(self) -> OscillatorConfiguration {
@@ -307,6 +361,12 @@ fn lent(p: *const u8, len: usize) -> Option<()> {
 unsafe fn bytes<'a>(p: *const u8, len: usize) -> Option<&'a [u8]> {
     lent(p, len)?;
     Some(if len == 0 { &[] } else { core::slice::from_raw_parts(p, len) })
+}
+
+/// The list that C lends.
+unsafe fn watches<'a>(p: *const CWatch, n: usize) -> Option<&'a [Watch]> {
+    lent(p.cast(), n.checked_mul(size_of::<CWatch>())?)?;
+    Some(if n == 0 { &[] } else { core::slice::from_raw_parts(p.cast(), n) })
 }
 
 /// The driver over a copy of the line: what is at the pointer is not looked at again.
@@ -436,5 +496,13 @@ exported! {
     };
     mcp_get(m, fifo: u32, buf: *mut u8, room: usize, message: *mut CMessage) = {
         fetch(buf, room, message, |own| m.get(fifo, own))?
+    };
+    mcp_scrub(m, scrubber: *mut CScrubber, list: *const CWatch, n: usize, rewrite: c_int, report: *mut CReport) = {
+        there(report)?;
+        let mut at = Scrubber { place: scrubber.as_ref()?.place };
+        m.scrub(&mut at, watches(list, n)?, rewrite != 0).map(|seen| {
+            scrubber.write(CScrubber { place: at.place });
+            report.write(CReport::of(seen));
+        })
     };
 }

@@ -1,10 +1,10 @@
 /* Masevuru: a proved driver for Microchip's CAN FD controller MCP2518FD, from C.
  *
- * A call runs to its end over the two functions of a line. It answers 0 where it is done; document 01's number where it is refused; or
- * MCP_NULL, which is none of these. A refused call has asked for no exchange after the one that it was refused at, and has changed no
+ * A call runs to its end over the two functions of a line. It answers 0 where it is done; document 01's or 02's number where it is refused;
+ * or MCP_NULL, which is none of these. A refused call has asked for no exchange after the one that it was refused at, and has changed no
  * byte that was lent to it; what a call writes elsewhere (*word, *message and so on) is written only where it answers 0, but for *accepted
- * of mcp_transmit. What a call writes to need not be initialised. Any number may be given, of a FIFO, a filter or a register too: what
- * there is not is refused before any exchange.
+ * of mcp_transmit. What a call writes to need not be initialised, but for *scrubber of mcp_scrub. Any number may be given, of a FIFO, a
+ * filter or a register too: what there is not is refused before any exchange.
  *
  * What the caller keeps to:
  * - A pointer is NULL or points to what its type says, as many as the length beside it, and aligned.
@@ -49,8 +49,10 @@ enum {
     MCP_BUFFER_TOO_SMALL = 28,           /* the buffer for a payload has fewer than 64 bytes */
     MCP_NO_MATCH = 30,                   /* mcp_chip_sort: no enabled filter matches the frame */
     MCP_DEVICE_NET = 31,                 /* mcp_chip_sort: DNCNT is above 0 */
-    /* A pointer is NULL that must not be, one of the line's functions too, or a length is above PTRDIFF_MAX, as no object has it. Nothing
-     * was done. This is told before any refusal. NULL with a length of 0 is an empty buffer. */
+    MCP_EMPTY_LIST = 32,                 /* mcp_scrub: the list has no entry */
+    MCP_NOT_CARRIED = 33,                /* mcp_scrub: an entry's address is no register's that mcp_watch names */
+    /* A pointer is NULL that must not be, one of the line's functions too, or more than PTRDIFF_MAX bytes are lent, as no object has.
+     * Nothing was done. This is told before any refusal. NULL with a length of 0 is an empty buffer, or an empty list. */
     MCP_NULL = -1
 };
 
@@ -124,6 +126,22 @@ typedef struct {
     mcp_identifier object, mask;
 } mcp_filter;
 
+/* An entry of a list that mcp_scrub goes through: the address of a register, the word that it is to have, and a 1 for each bit that is
+ * cared for. The registers are CiCON (0x000), CiNBTCFG (0x004), CiDBTCFG (0x008), CiTDC (0x00C), CiTSCON (0x014), CiINT (0x01C), of FIFOs
+ * and filters all (every fourth address from 0x05C to 0x2EC), OSC (0xE00) and IOCON (0xE04). */
+typedef struct { uint32_t address, wanted, care; } mcp_watch;
+
+/* How far a scrubber is: the place in the list of the entry that it visits next, at first 0. One beyond the list's end is the first. */
+typedef struct { size_t place; } mcp_scrubber;
+
+/* What a step saw of the entry that it visited. read and wanted are told where they differ; back where the rewrite was read back, as wanted
+ * or not; number where the entry was not read (1 or 10), or the write failed (1) or its read-back (1 or 10). What is not told is 0. */
+enum { MCP_AGREE = 0, MCP_DIFFER = 1, MCP_UNREAD = 2 };                /* seen: the cared-for bits are as wanted, or not; or not read */
+enum { MCP_NO_REWRITE = 0, MCP_READ_BACK = 1, MCP_NOT_READ_BACK = 2 }; /* rewrite: none; written and read back; one of the two failed */
+typedef struct {
+    uint32_t seen, address, read, wanted, rewrite, back, number;
+} mcp_report;
+
 /* Behind each call: its refusals, beside 1 for a failed exchange (2 of a RAM write and the reset; 11 where (11) stands). */
 
 int mcp_reset(const mcp_line *line);
@@ -172,6 +190,14 @@ int mcp_has_next(const mcp_line *line, uint32_t fifo, uint8_t *next);           
  * FIFO still holds the message. */
 int mcp_peek(const mcp_line *line, uint32_t fifo, uint8_t *buf, size_t room, mcp_message *message);     /* 20, 28; 9, 25, 3 */
 int mcp_get(const mcp_line *line, uint32_t fifo, uint8_t *buf, size_t room, mcp_message *message);      /* as peek */
+
+/* One step of a scrubber over a list of n entries: reads the register of the entry that is due, its CRC tested in at most three tries, and
+ * reports whether the cared-for bits are the wanted ones. Where they are not and rewrite is not 0, the word that was read is written, once,
+ * with these bits as wanted, and read back, checked: 7 exchanges at most. The write has the effects of any write to that register. A failed
+ * exchange is no refusal here: it answers 0, and the report tells it. Where it answers 0 the scrubber moves on to the entry behind, else it
+ * stays: n steps over one list of n visit each entry once, whatever is called between. */
+int mcp_scrub(const mcp_line *line, mcp_scrubber *scrubber, const mcp_watch *list, size_t n, int rewrite,
+              mcp_report *report);                                                                      /* 32, 33; no 1 */
 
 /* The modelled chip, to test your own code against: in a library built with the feature chip. A chip is plain memory of the caller's, and
  * has to be made by mcp_chip_new, as after a reset with RAM of zeros, before anything else is done with it. It may be copied. */
@@ -245,6 +271,10 @@ MCP_LAYOUT(mcp_fifo, 28, MCP_AT(mcp_fifo, size, 0) && MCP_AT(mcp_fifo, plsize, 4
 MCP_LAYOUT(mcp_identifier, 8, MCP_AT(mcp_identifier, id, 0) && MCP_AT(mcp_identifier, extended, 4));
 MCP_LAYOUT(mcp_filter, 24, MCP_AT(mcp_filter, fifo, 0) && MCP_AT(mcp_filter, mode, 4) && MCP_AT(mcp_filter, object, 8) &&
     MCP_AT(mcp_filter, mask, 16));
+MCP_LAYOUT(mcp_watch, 12, MCP_AT(mcp_watch, address, 0) && MCP_AT(mcp_watch, wanted, 4) && MCP_AT(mcp_watch, care, 8));
+MCP_LAYOUT(mcp_scrubber, sizeof(void *), MCP_AT(mcp_scrubber, place, 0));
+MCP_LAYOUT(mcp_report, 28, MCP_AT(mcp_report, seen, 0) && MCP_AT(mcp_report, address, 4) && MCP_AT(mcp_report, read, 8) &&
+    MCP_AT(mcp_report, wanted, 12) && MCP_AT(mcp_report, rewrite, 16) && MCP_AT(mcp_report, back, 20) && MCP_AT(mcp_report, number, 24));
 MCP_LAYOUT(mcp_chip, 2800, MCP_AT(mcp_chip, words, 0));
 MCP_LAYOUT(mcp_frame, 88, MCP_AT(mcp_frame, header, 0) && MCP_AT(mcp_frame, seq, 12) && MCP_AT(mcp_frame, time, 16) &&
     MCP_AT(mcp_frame, kind, 20) && MCP_AT(mcp_frame, stamped, 21) && MCP_AT(mcp_frame, len, 22) && MCP_AT(mcp_frame, dlc, 23) &&

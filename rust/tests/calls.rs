@@ -1,6 +1,6 @@
 //! Call by call on the modelled chip: exchanges that fail one after the other, answers that come late or wrong, numbers that there are
-//! not, what lent buffers hold afterwards, scratch that is too short, turns that are left, frames that the filters sort, every DLC. What
-//! is expected was written down from documents 01 and 02.
+//! not, what lent buffers hold afterwards, scratch that is too short, turns that are left, frames that the filters sort, every DLC, lists
+//! that are scrubbed. What is expected was written down from documents 01 and 02.
 use masevuru::calls::*;
 use masevuru::chip::{Chip, Delivery, Frame, Payload, Reading, Sending, Sorted};
 use masevuru::*;
@@ -99,9 +99,35 @@ fn told<T, R: Into<Refusal>>(answer: Result<T, R>) -> u32 {
     answer.map_or_else(|r| number(r.into()), |_| 0)
 }
 
+/// The number that a report tells, 0 where it tells none.
+fn reported(report: Report) -> u32 {
+    match report {
+        Report::Unread { why, .. } | Report::Differ { rewrite: Rewrite::Unread(why), .. } => number(why),
+        _ => 0,
+    }
+}
+
+/// The number that a call ended with, by a report too.
+fn ended(outcome: Outcome) -> u32 {
+    match outcome {
+        Outcome::Refused(r) => number(r),
+        Outcome::Scrubbed(report) => reported(report),
+        _ => 0,
+    }
+}
+
+/// OSC as after a reset, and CiNBTCFG with a bit that it does not have.
+const AGREES: [Watch; 1] = [Watch { address: 0xE00, wanted: 0x0000_0460, care: 0xFFFF_FFFF }];
+const DIFFERS: [Watch; 1] = [Watch { address: 0x004, wanted: 0x003E_0F0E, care: 0x0000_00FF }];
+const FIRST: Scrubber = Scrubber { place: 0 };
+
+fn scrubbed(m: &mut Driver, list: &[Watch], rewrite: bool) -> u32 {
+    m.scrub(&mut FIRST.clone(), list, rewrite).map_or_else(number, reported)
+}
+
 /// A call's name, what it does with the driver and 72 lent bytes, how the same is started for a loop of one's own, and by what number each
-/// of its exchanges is refused that fails: so many times a number. Behind that a FIFO, the last exchange whose failing leaves it as it
-/// was, and how many messages it holds then and later.
+/// of its exchanges is refused (of a scrub: reported) that fails: so many times a number. Behind that a FIFO, the last exchange whose
+/// failing leaves it as it was, and how many messages it holds then and later.
 type Row = (&'static str, fn(&mut Driver, &mut [u8; 72]) -> u32, fn() -> Call, &'static [(u32, u32)], (u32, u32, u8, u8));
 
 /// Document 01: 1 where a read or a register write failed; 2 where a RAM write or the reset failed; 11 in place of both in any
@@ -109,7 +135,7 @@ type Row = (&'static str, fn(&mut Driver, &mut [u8; 72]) -> u32, fn() -> Call, &
 /// those of "Exchange by exchange"; a change is two, a read and a write. The chip takes a mode at once and shows PLLRDY with PLLEN:
 /// one poll. `configure`: mode 2, poll 1, echo 64, OSC 2, PLL's poll 1 if on, IOCON 2, bit timing 6, STEF 2, TXQEN 2, TSCON 2 if
 /// the counter is on, DNCNT 2 if not 0, RTXAT 2, CiINT 2.
-const ROWS: [Row; 28] = [
+const ROWS: [Row; 31] = [
     ("reset", |m, _| told(m.reset()), || reset(), &[(1, 2)], (0, 0, 0, 0)),
     ("read_register", |m, _| told(m.read_register(0x000)), || read_register(0x000), &[(1, 1)], (0, 0, 0, 0)),
     ("write_register", |m, _| told(m.write_register(0x004, 7)), || write_register(0x004, 7), &[(1, 1)], (0, 0, 0, 0)),
@@ -156,6 +182,9 @@ const ROWS: [Row; 28] = [
     ("peek, without", |m, buf| told(m.peek(3, buf)), || peek(3, 72), &[(6, 1)], (3, 6, 1, 1)),
     ("get, with a timestamp", |m, buf| told(m.get(2, buf)), || get(2, 72), &[(9, 1)], (2, 9, 1, 0)),
     ("get, without", |m, buf| told(m.get(3, buf)), || get(3, 72), &[(8, 1)], (3, 8, 1, 0)),
+    ("scrub", |m, _| scrubbed(m, &DIFFERS, false), || scrub(FIRST, &DIFFERS, false), &[(1, 1)], (0, 0, 0, 0)),
+    ("scrub, rewriting", |m, _| scrubbed(m, &DIFFERS, true), || scrub(FIRST, &DIFFERS, true), &[(3, 1)], (0, 0, 0, 0)),
+    ("scrub, nothing to rewrite", |m, _| scrubbed(m, &AGREES, true), || scrub(FIRST, &AGREES, true), &[(1, 1)], (0, 0, 0, 0)),
 ];
 
 fn each_of(parts: &[(u32, u32)]) -> Vec<u32> {
@@ -223,7 +252,7 @@ fn a_loop_of_ones_own() {
             let answer = call(&mut mcp, &mut buf);
             let (end, received) = turned(&mut other, start(), &BYTES);
             let outcome = finish(end, &received, &mut own);
-            assert_eq!(matches!(outcome, Outcome::Refused(r) if number(r) == answer), answer != 0, "{name}, exchange {k}: {outcome:?}");
+            assert_eq!(ended(outcome), answer, "{name}, exchange {k}: {outcome:?}");
             assert!(outcome != Outcome::Running);
             assert_eq!((other.exchanges, own), (mcp.line.exchanges, buf), "{name}, exchange {k}");
             assert_eq!(other.chip, mcp.line.chip, "{name}, exchange {k}");
@@ -234,8 +263,9 @@ fn a_loop_of_ones_own() {
 }
 
 /// What the calls of the rows, in their order, ask for at most: a mode's poll is five reads and four waits, the PLL's three and two;
-/// has-next, peek and get say what a get with a timestamp does.
-const TURNS: [u32; 28] = [1, 1, 1, 2, 3, 1, 1, 64, 2, 11, 1, 93, 102, 2, 7, 2, 6, 2, 8, 2, 5, 2, 7, 9, 9, 9, 9, 9];
+/// has-next, peek and get say what a get with a timestamp does; a scrub reads three times, and that is told to rewrite writes and reads
+/// three times more.
+const TURNS: [u32; 31] = [1, 1, 1, 2, 3, 1, 1, 64, 2, 11, 1, 93, 102, 2, 7, 2, 6, 2, 8, 2, 5, 2, 7, 9, 9, 9, 9, 9, 3, 7, 7];
 
 #[test]
 fn turns_at_the_start() {
@@ -244,6 +274,8 @@ fn turns_at_the_start() {
     }
     let refused = [push(257, HEADER, 5, &BYTES), read_register(0x1000), set_op_mode(8), request(0), get(1, 63), write_ram(0x400, 7)];
     assert_eq!(refused.map(turns), [0; 6]);
+    let ram = Watch { address: 0x400, ..AGREES[0] };
+    assert_eq!([scrub(FIRST, &[], true), scrub(FIRST, &[AGREES[0], ram], true)].map(turns), [0; 2]);
 }
 
 /// What is copied at each exchange.
@@ -526,6 +558,251 @@ fn classic_dlcs() {
     }
 }
 
+/// Filter 0 as `filter()` sets it up: control of filters 0 to 3, of which its byte is cared for; its object; its mask.
+const FILTER: [Watch; 3] = [
+    Watch { address: 0x1D0, wanted: 0x0000_0082, care: 0x0000_00FF },
+    Watch { address: 0x1F0, wanted: 0x0000_0100, care: 0xFFFF_FFFF },
+    Watch { address: 0x1F4, wanted: 0x4000_0700, care: 0xFFFF_FFFF },
+];
+
+fn filtering() -> Driver {
+    let mut m = prepared();
+    m.configure_filter(0, filter()).unwrap();
+    m.line.exchanges = 0;
+    m
+}
+
+/// One step from a place, and the place after it.
+fn step(m: &mut Driver, place: usize, list: &[Watch], rewrite: bool) -> (Result<Report, Refusal>, usize) {
+    let mut s = Scrubber { place };
+    (m.scrub(&mut s, list, rewrite), s.place)
+}
+
+fn agree(address: u16) -> Result<Report, Refusal> {
+    Ok(Report::Agree { address })
+}
+
+fn differ(address: u16, read: u32, wanted: u32, rewrite: Rewrite) -> Result<Report, Refusal> {
+    Ok(Report::Differ { address, read, wanted, rewrite })
+}
+
+/// Document 02: n successive steps that are not refused visit each of n entries once, whatever is called between; with a shorter list a
+/// place beyond its end starts again at the first; a list that grew goes on with its new entries.
+#[test]
+fn scrubbed_in_turn() {
+    for start in [0, 1, 2, 3, 4, 255, 1 << 31, usize::MAX] {
+        let (mut m, mut s) = (filtering(), Scrubber { place: start });
+        let mut visits = [0; 3];
+        for k in 0..6 {
+            let due = (k + if start < 3 { start } else { 0 }) % 3;
+            // steps that are refused, which move nothing, and calls of other kinds; after the reset no entry agrees
+            let odd = [FILTER[0], Watch { address: 0x1F2, ..FILTER[1] }];
+            assert_eq!((told(m.scrub(&mut s, &[], true)), told(m.scrub(&mut s, &odd, true))), (32, 33));
+            assert_eq!((told(m.get(2, &mut [0; 64])), told(m.transmit(1, HEADER, 5, &BYTES)), told(m.checked_read(0))), (0, 0, 0));
+            assert_eq!((m.line.chip.send(1).0, m.reset()), (Sending::Frame, Ok(())));
+            m.line.exchanges = 0;
+            let Ok(Report::Differ { address, .. }) = m.scrub(&mut s, &FILTER, false) else { panic!("place {start}, step {k}") };
+            assert_eq!((u32::from(address), s.place, m.line.exchanges), (FILTER[due].address, due + 1, 1));
+            visits[due] += 1;
+            m = filtering();
+        }
+        assert_eq!(visits, [2; 3]);
+    }
+    let mut m = filtering();
+    for (list, place, address, after) in [
+        (&FILTER[..1], 0, 0x1D0, 1),
+        (&FILTER[..1], 1, 0x1D0, 1),
+        (&FILTER[..2], 1, 0x1F0, 2),
+        (&FILTER[..3], 2, 0x1F4, 3),
+        (&FILTER[..2], 3, 0x1D0, 1),
+        (&FILTER[1..], 1, 0x1F4, 2),
+        (&FILTER[1..], 2, 0x1F0, 1),
+    ] {
+        assert_eq!(step(&mut m, place, list, true), (agree(address), after), "{} entries, place {place}", list.len());
+    }
+}
+
+/// A flipped cared-for bit is always reported, and no other; told so, exactly the cared-for bits are rewritten, whatever the wanted word
+/// has beside them.
+#[test]
+fn every_flipped_bit() {
+    // FIFO 4's control, which no other call set up, and those that only hold what is written
+    for (address, kept) in [(0x004, !0), (0x00C, !0), (0x01C, !0), (0x1F0, !0), (0x2EC, !0), (0xE04, !0), (0x080, 0x1F00_0000)] {
+        let mut m = filtering();
+        m.set_op_mode(4).unwrap();
+        let right = m.read_register(address).unwrap();
+        for bit in (0..32).map(|b| 1 << b).filter(|bit| kept & bit != 0) {
+            for care in [0, 1, bit, bit | 1, !bit, 0xFFFF_0000, 0x0000_FFFF, !0] {
+                let wrong = right ^ bit;
+                // beside the cared-for bits nothing is wanted: there the word is another in every bit
+                let wanted = right & care | !right & !care;
+                let list = [Watch { address, wanted, care }];
+                m.write_register(address, wrong).unwrap();
+                m.line.exchanges = 0;
+                let is_seen = bit & care != 0;
+                let seen = |rewrite| if is_seen { differ(address as u16, wrong, wanted, rewrite) } else { agree(address as u16) };
+                assert_eq!(step(&mut m, 0, &list, false), (seen(Rewrite::None), 1));
+                assert_eq!((m.line.exchanges, m.read_register(address)), (1, Ok(wrong)));
+                m.line.exchanges = 0;
+                assert_eq!(step(&mut m, 0, &list, true), (seen(Rewrite::Back(right)), 1));
+                assert_eq!((m.line.exchanges, m.read_register(address)), if is_seen { (3, Ok(right)) } else { (1, Ok(wrong)) });
+            }
+        }
+    }
+    // a bit that can't be had: what is read back is told as it is. FIFO 2 holds a message: status bit 0
+    let status = [Watch { address: 0x06C, wanted: 0, care: 1 }];
+    assert_eq!(step(&mut prepared(), 0, &status, true), (differ(0x06C, 1, 0, Rewrite::Back(1)), 1));
+    // a rewrite is a write as any other: a mode asked for, a FIFO emptied by FRESET
+    let mut m = prepared();
+    let mode = [Watch { address: 0x000, wanted: 0x0400_0000, care: 0x0700_0000 }];
+    assert!(matches!(step(&mut m, 0, &mode, true).0, Ok(Report::Differ { rewrite: Rewrite::Back(w), .. }) if w >> 21 & 7 == 4));
+    assert_eq!((m.get_op_mode(), m.line.chip.held(2)), (Ok(4), Ok(0)));
+    let (mut m, empty) = (prepared(), [Watch { address: 0x068, wanted: 0x400, care: 0x400 }]);
+    assert!(matches!(step(&mut m, 0, &empty, true).0, Ok(Report::Differ { rewrite: Rewrite::Back(w), .. }) if w & 0x400 == 0));
+    assert_eq!(m.line.chip.held(2), Ok(0));
+}
+
+/// A filter's mask flips, and a frame goes to a FIFO where it does not belong; after a rewrite it does not.
+#[test]
+fn a_filter_mended() {
+    let (mut m, mut s) = (filtering(), FIRST);
+    let other = Header { id: 0x501, ..HEADER };
+    assert_eq!(m.line.chip.sort(other, 8, 0, &BYTES).delivery, Delivery::Refused(Refusal::NoMatch));
+    m.write_register(0x1F4, 0x4000_0300).unwrap();
+    assert_eq!(m.line.chip.sort(other, 8, 0, &BYTES).delivery, Delivery::Delivered);
+    let steps = [m.scrub(&mut s, &FILTER, true), m.scrub(&mut s, &FILTER, true), m.scrub(&mut s, &FILTER, true)];
+    assert_eq!(steps, [agree(0x1D0), agree(0x1F0), differ(0x1F4, 0x4000_0300, 0x4000_0700, Rewrite::Back(0x4000_0700))]);
+    assert_eq!(m.line.chip.sort(other, 8, 0, &BYTES).delivery, Delivery::Refused(Refusal::NoMatch));
+    let steps = [m.scrub(&mut s, &FILTER, true), m.scrub(&mut s, &FILTER, true), m.scrub(&mut s, &FILTER, true)];
+    assert_eq!((steps, s.place), ([agree(0x1D0), agree(0x1F0), agree(0x1F4)], 3));
+}
+
+/// What goes wrong on the line is the entry's visit, and is reported. READ_CRC's answer has its CRC in bytes 4 and 5: a checked read is
+/// tried three times, before the write and behind it.
+#[test]
+fn scrubbed_amiss() {
+    let (one, wanted) = (&DIFFERS, DIFFERS[0].wanted);
+    let (read, right) = (0x003E_0F0F, 0x003E_0F0E);
+    let unread = |why| Ok(Report::Unread { address: 0x004, why });
+    let differs = |rewrite| differ(0x004, read, wanted, rewrite);
+    let lost = |why| differs(Rewrite::Unread(why));
+    const TWISTS: [fn(u32, &mut [u8]); 4] = [
+        |_, rx| if rx.len() == 6 { rx[5] ^= 0x80 },
+        |k, rx| if k < 3 { rx[0] ^= 1 },
+        |k, rx| if k > 1 && rx.len() == 6 { rx[3] ^= 1 },
+        |k, rx| if k < 3 || k == 5 || k == 6 { rx[4] ^= 1 },
+    ];
+    let back = Rewrite::Back(right);
+    for (twist, fail_at, seen, exchanges, after) in [
+        (as_it_is as fn(u32, &mut [u8]), 1, unread(Refusal::SpiRead), 1, read),
+        (as_it_is, 2, lost(Refusal::SpiRead), 2, read),
+        (as_it_is, 3, lost(Refusal::SpiRead), 3, right),
+        (TWISTS[0], 0, unread(Refusal::CrcMismatch), 3, read),
+        (TWISTS[0], 3, unread(Refusal::SpiRead), 3, read),
+        (TWISTS[1], 0, differs(back), 5, right),
+        (TWISTS[2], 0, lost(Refusal::CrcMismatch), 5, right),
+        (TWISTS[2], 5, lost(Refusal::SpiRead), 5, right),
+        (TWISTS[3], 0, differs(back), 7, right),
+        (TWISTS[3], 4, lost(Refusal::SpiRead), 4, read),
+        (TWISTS[3], 7, lost(Refusal::SpiRead), 7, right),
+    ] {
+        let mut m = twisted(twist);
+        m.line.fail_at = fail_at;
+        assert_eq!(step(&mut m, 0, one, true), (seen, 1), "exchange {fail_at} fails");
+        assert_eq!((m.line.exchanges, m.line.waits), (exchanges, 0), "{seen:?}");
+        m.line.twist = as_it_is;
+        assert_eq!(m.read_register(0x004), Ok(after), "{seen:?}");
+    }
+    // not told to rewrite
+    for (twist, fail_at, seen, exchanges) in [
+        (TWISTS[0], 0, unread(Refusal::CrcMismatch), 3),
+        (TWISTS[0], 2, unread(Refusal::SpiRead), 2),
+        (TWISTS[1], 0, differs(Rewrite::None), 3),
+    ] {
+        let mut m = twisted(twist);
+        m.line.fail_at = fail_at;
+        assert_eq!((step(&mut m, 0, one, false), m.line.exchanges), ((seen, 1), exchanges), "{seen:?}");
+    }
+    // all entries, each read of which fails, are visited
+    let (mut m, mut s) = (filtering(), FIRST);
+    for watch in FILTER.iter().chain(&FILTER) {
+        m.line.fail_at = m.line.exchanges + 1;
+        assert_eq!(m.scrub(&mut s, &FILTER, true), Ok(Report::Unread { address: watch.address as u16, why: Refusal::SpiRead }));
+    }
+}
+
+/// The registers of document 01, by their addresses.
+fn is_carried(a: u32) -> bool {
+    a % 4 == 0 && matches!(a, 0x000..=0x00C | 0x014 | 0x01C | 0x05C..=0x2EC | 0xE00 | 0xE04)
+}
+
+/// 32, then 33, which any entry's address makes, the one that is due or another; nothing is exchanged, nothing is moved.
+#[test]
+fn scrubs_refused() {
+    let mut m = filtering();
+    for place in [0, 1, 2, 3, 7, usize::MAX] {
+        assert_eq!(step(&mut m, place, &[], true), (Err(Refusal::EmptyList), place));
+    }
+    // 0x105C is CiFIFOCON1 in 12 bits, 0x1_0000 CiCON in 16
+    for address in (0..0x2000).chain([0xFFFF, 0x1_0000, 0x1_01D0, 0x1000_0000, u32::MAX - 3, u32::MAX]) {
+        for bad in 0..3 {
+            for place in 0..4 {
+                let mut list = FILTER;
+                list[bad] = Watch { address, wanted: 0, care: 0 };
+                let due = if place < 3 { place } else { 0 };
+                let due_address = list[due].address as u16;
+                let refused = (Err(Refusal::NotCarried), place);
+                assert_eq!(step(&mut m, place, &list, true), if is_carried(address) { (agree(due_address), due + 1) } else { refused });
+            }
+        }
+        // and the chip has that register
+        if (0..0x400).contains(&address) || (0xC00..0x1000).contains(&address) {
+            let read = m.line.chip.transfer(&[0x30 | (address >> 8) as u8, address as u8], &mut [0; 4]);
+            assert_eq!(read.is_ok(), is_carried(address), "{address:#X}");
+        }
+    }
+    m.line.exchanges = 0;
+    assert_eq!(step(&mut m, 0, &[FILTER[0], FILTER[1], Watch { address: 0xE14, ..FILTER[2] }], true).0, Err(Refusal::NotCarried));
+    assert_eq!((m.line.exchanges, number(Refusal::EmptyList), number(Refusal::NotCarried)), (0, 32, 33));
+}
+
+/// In a loop of one's own the scrubber comes out of the call: as it was until the step reports, and where it is refused; and an answer
+/// after the end is wrong, and moves nothing more.
+#[test]
+fn a_scrubber_of_ones_own() {
+    let mut line = filtering().line;
+    let place = |call| scrubber(call).place;
+    let start = scrub(Scrubber { place: 1 }, &FILTER, true);
+    assert_eq!((place(start), finish(start, &[], &mut [])), (1, Outcome::Running));
+    let (end, received) = turned(&mut line, start, &[]);
+    assert_eq!((place(end), finish(end, &received, &mut [])), (2, Outcome::Scrubbed(Report::Agree { address: 0x1F0 })));
+    for answered in [Answer::Exchanged, Answer::Waited, Answer::Failed] {
+        let late = answer(end, answered, &[]);
+        assert_eq!((place(late), turns(late), finish(late, &[], &mut [])), (2, 0, Outcome::Refused(Refusal::WrongAnswer)));
+    }
+    // an answer of another length or kind is that entry's visit: 26, and nothing is asked for behind it
+    let short = answer(start, Answer::Exchanged, &[0; 5]);
+    let unread = Outcome::Scrubbed(Report::Unread { address: 0x1F0, why: Refusal::WrongAnswer });
+    assert_eq!((place(short), turns(short), finish(short, &[], &mut [])), (2, 0, unread));
+    let waited = answer(start, Answer::Waited, &[]);
+    assert_eq!((place(waited), turns(waited), finish(waited, &[], &mut [])), (2, 0, unread));
+    // what goes out; the scrubber stays between two exchanges
+    let (mut call, mut tx) = (scrub(Scrubber { place: 4 }, &DIFFERS, true), [0; 6]);
+    for (sent, want) in [(&[0xB0, 0x04, 4][..], 6), (&[0x20, 0x04, 0x0E, 0x0F, 0x3E, 0x00], 0), (&[0xB0, 0x04, 4], 6)] {
+        assert_eq!((place(call), next(call, &[], &mut tx)), (4, Next::Transfer { n: sent.len(), want }));
+        assert_eq!(&tx[..sent.len()], sent);
+        let mut rx = vec![0; want];
+        line.chip.transfer(sent, &mut rx).unwrap();
+        call = answer(call, Answer::Exchanged, &rx);
+    }
+    assert_eq!((place(call), turns(call)), (1, 0));
+    for list in [&[][..], &[FILTER[0], Watch { address: 0x050, ..FILTER[0] }]] {
+        let refused = scrub(Scrubber { place: 9 }, list, false);
+        assert_eq!((place(refused), turns(refused), place(answer(refused, Answer::Exchanged, &[]))), (9, 0, 9));
+    }
+    assert_eq!((place(reset()), place(get(2, 64)), place(push(1, HEADER, 5, &BYTES))), (0, 0, 0));
+}
+
 /// What a call that is done leaves in the lent buffer; an empty FIFO.
 #[test]
 fn lent_bytes() {
@@ -555,11 +832,12 @@ fn lent_bytes() {
 
 /// A call, how many bytes of `tx` and of `rx` it needs, and what it is refused by where `tx` is too short for its longest exchange.
 type Scratch = (fn() -> Call, [usize; 2], u32);
-const SCRATCH: [Scratch; 4] = [
+const SCRATCH: [Scratch; 5] = [
     (|| push(1, HEADER, 5, &BYTES), [18, 4], 2), // the command's 2 and the object's 16
     (|| get(3, 64), [6, 8], 1),
     (|| write_ram(0x400, 8), [10, 0], 2),
     (|| read_ram(0x400, 64, 3, 60), [2, 60], 1),
+    (|| scrub(FIRST, &DIFFERS, true), [6, 6], 1),
 ];
 
 /// Scratch of every length: a call for which it is too short is refused as if the exchange had failed, with nothing sent.
@@ -573,7 +851,7 @@ fn short_scratch() {
                 let end = run(&mut m.line, start(), &BYTES, &mut buf, tx, rx);
                 (end, buf == [0x5A; 64], m.line.exchanges)
             };
-            let refused = |(end, kept, _)| matches!(end, Outcome::Refused(r) if number(r) == failed || number(r) == 1) && kept;
+            let refused = |(end, kept, _)| (ended(end) == failed || ended(end) == 1) && kept;
             assert_eq!(refused(run(room, 80)), room < tx, "tx of {room}");
             assert_eq!(refused(run(80, room)), room < rx, "rx of {room}");
             assert_eq!(run(room.min(1), 80).2, 0);

@@ -1,6 +1,6 @@
 //! Random calls with random numbers over a line that answers junk, fails and otherwise is the modelled chip. None may panic, send what is
-//! no instruction, go on after a failed exchange, change a byte where it is refused, be refused for what document 01 does not have for it,
-//! find a message whose length is not what its DLC means, or take more turns than it said.
+//! no instruction, go on after a failed exchange, change a byte where it is refused, be refused for what the documents do not have for it,
+//! find a message whose length is not what its DLC means, leave a scrubber where it does not belong, or take more turns than it said.
 use masevuru::calls::*;
 use masevuru::chip::{Chip, Decoded, Delivery, Reading, Sorted};
 use masevuru::*;
@@ -87,9 +87,10 @@ impl Line for Junk {
     }
 }
 
-/// For each call: how many exchanges at most, whatever is answered; what a failed one is refused by; what else it is refused by.
+/// For each call: how many exchanges at most, whatever is answered; what a failed one is refused by; what else it is refused by. Of a scrub
+/// also what its report tells.
 type Row = (&'static str, u32, &'static [u32], &'static [u32]);
-const ROWS: [Row; 24] = [
+const ROWS: [Row; 25] = [
     ("reset", 1, &[2], &[]),
     ("read_register", 1, &[1], &[24]),
     ("write_register", 1, &[1], &[24]),
@@ -114,11 +115,12 @@ const ROWS: [Row; 24] = [
     ("has_next", 2, &[1], &[20, 9]),
     ("peek", 7, &[1], &[20, 28, 9, 25, 3]),
     ("get", 9, &[1], &[20, 28, 9, 25, 3]),
+    ("scrub", 7, &[1], &[32, 33, 10]),
 ];
 
 /// Tested before the first exchange: of 3, 4 and 5 those of the RAM calls.
 fn is_first(call: usize, n: u32) -> bool {
-    matches!(n, 20 | 21 | 22 | 24 | 28 | 4 | 5) || (n == 3 && (call == 5 || call == 6))
+    matches!(n, 20 | 21 | 22 | 24 | 28 | 32 | 33 | 4 | 5) || (n == 3 && (call == 5 || call == 6))
 }
 
 fn judge(call: usize, answer: Result<(), Refusal>, line: &Junk) {
@@ -146,6 +148,32 @@ fn is_as_meant(end: Outcome) -> bool {
     }
 }
 
+/// What a report tells, as an answer.
+fn reported(report: Report) -> Result<(), Refusal> {
+    match report {
+        Report::Unread { why, .. } | Report::Differ { rewrite: Rewrite::Unread(why), .. } => Err(why),
+        _ => Ok(()),
+    }
+}
+
+/// The entry that is due at a place, of a list that has some, and the place behind it.
+fn due(place: usize, list: &[Watch]) -> (Watch, usize) {
+    let at = if place < list.len() { place } else { 0 };
+    (list[at], at + 1)
+}
+
+/// Whether a report is of this entry, with a rewrite only where one was told, and tells of a difference only where there is one.
+fn is_of(report: Report, entry: Watch, rewriting: bool) -> bool {
+    match report {
+        Report::Agree { address } | Report::Unread { address, .. } => u32::from(address) == entry.address,
+        Report::Differ { address, read, wanted, rewrite } => {
+            (u32::from(address), wanted) == (entry.address, entry.wanted)
+                && (read ^ wanted) & entry.care != 0
+                && (rewrite != Rewrite::None) == rewriting
+        }
+    }
+}
+
 /// Arguments of a call, and a frame's DLC and length: random, three times of four such as are taken.
 struct Given {
     fifo: u32,
@@ -159,6 +187,15 @@ struct Given {
     settings: Settings,
     area: FifoConfiguration,
     filter: FilterConfiguration,
+    list: Vec<Watch>,
+    rewrite: bool,
+}
+
+/// Up to four entries: filters' words, where a step is to be taken, or any register's.
+fn watched(l: &mut Junk, fits: bool) -> Vec<Watch> {
+    let n = l.below(5);
+    let address = |l: &mut Junk| if fits { 0x1D0 + 4 * l.below(20) as u32 } else { l.number() };
+    (0..n).map(|_| Watch { address: address(l), wanted: l.number(), care: l.number() }).collect()
 }
 
 fn given(l: &mut Junk) -> Given {
@@ -200,6 +237,8 @@ fn given(l: &mut Junk) -> Given {
             mode: if flags[6] { FifoMode::Transmit(tx) } else { FifoMode::Receive(rx) },
         },
         filter: FilterConfiguration { fifo: to(c, 32), mode: kind, object, mask },
+        list: watched(l, fits),
+        rewrite: l.flag(),
     }
 }
 
@@ -223,13 +262,14 @@ fn a_hundred_thousand() {
     let mut mcp = Mcp::new(Junk::new(0x9E37_79B9_7F4A_7C15));
     let bytes: Vec<u8> = (0..4096).map(|i| i as u8).collect();
     let (mut buf, before) = (vec![0x5Au8; 4096], vec![0x5Au8; 4096]);
-    let (mut counts, mut sorted, mut coded) = ([0u32; 29], [0u32; 37], [0u32; 16]);
+    let (mut counts, mut sorted, mut coded) = ([0u32; 34], [0u32; 37], [0u32; 16]);
+    let (mut scrubber, mut seen) = (Scrubber { place: 0 }, [0u32; 4]);
     for i in 0..100_000 {
         if i % 64 == 0 {
             settle(&mut mcp);
         }
         let g = given(&mut mcp.line);
-        let (call, room) = (mcp.line.below(24), g.len * 4 % 4096);
+        let (call, room) = (mcp.line.below(25), g.len * 4 % 4096);
         mcp.line.rough = [4, 16, 64][mcp.line.below(3)];
         (mcp.line.asked, mcp.line.failed) = (0, false);
         // how many bytes at the front of `buf` a call that is done has filled
@@ -260,6 +300,19 @@ fn a_hundred_thousand() {
                 refused.refusal
             }),
             21 => mcp.has_next(g.fifo).map(|_| ()),
+            24 => {
+                let place = scrubber.place;
+                let answer = mcp.scrub(&mut scrubber, &g.list, g.rewrite);
+                match answer {
+                    Ok(report) => {
+                        let (entry, next) = due(place, &g.list);
+                        assert!(is_of(report, entry, g.rewrite) && scrubber.place == next, "{report:?} of {entry:?}");
+                        seen[report_number(report)] += 1;
+                    }
+                    Err(r) => assert!(matches!(r, Refusal::EmptyList | Refusal::NotCarried) && scrubber.place == place),
+                }
+                answer.and_then(reported)
+            }
             _ => {
                 let lent = &mut buf[..room];
                 let found = if call == 22 { mcp.peek(g.fifo, lent) } else { mcp.get(g.fifo, lent) };
@@ -272,7 +325,7 @@ fn a_hundred_thousand() {
         };
         judge(call, answer, &mcp.line);
         assert!(filled <= if call > 21 { 64 } else { g.len });
-        assert!(call < 22 || answer.is_err() || room >= 64, "done with a buffer of {room}");
+        assert!(!matches!(call, 22 | 23) || answer.is_err() || room >= 64, "done with a buffer of {room}");
         assert_eq!(buf[filled..], before[filled..], "{} changed what it was not to fill", ROWS[call].0);
         buf[..filled].fill(0x5A);
         counts[answer.map_or_else(number, |()| 0) as usize] += 1;
@@ -291,8 +344,9 @@ fn a_hundred_thousand() {
         assert_eq!(*count == 0, !matches!(n, 21 | 22 | 30..=36), "a sorted frame was answered {n} {count} times: {sorted:?}");
     }
     assert!(!coded.contains(&0), "classic messages with each DLC: {coded:?}");
+    assert!(!seen.contains(&0), "entries that agree, differ, were rewritten, were not read: {seen:?}");
     for (n, count) in counts.iter().enumerate() {
-        let is_never = matches!(n, 15..=19 | 23 | 26 | 27);
+        let is_never = matches!(n, 15..=19 | 23 | 26 | 27 | 29..=31);
         assert_eq!(*count == 0, is_never, "{n} was answered {count} times: {counts:?}");
     }
 }
@@ -306,6 +360,15 @@ fn newest(chip: &Chip, fifo: u32) -> Decoded {
 fn is_brought(slot: Decoded, g: &Given, frame: &[u8]) -> bool {
     let f = slot.frame;
     slot.reading == Reading::Whole && f.header == g.header && u32::from(f.dlc) == g.dlc && &f.payload.bytes[..f.payload.len] == frame
+}
+
+fn report_number(report: Report) -> usize {
+    match report {
+        Report::Agree { .. } => 0,
+        Report::Differ { rewrite: Rewrite::None, .. } => 1,
+        Report::Differ { .. } => 2,
+        Report::Unread { .. } => 3,
+    }
 }
 
 /// A refusal's number, and 32 and more for what else a frame that is sorted may come to.
@@ -351,6 +414,7 @@ fn started(call: usize, g: &Given, bytes: &[u8]) -> Call {
         21 => has_next(g.fifo),
         22 => peek(g.fifo, g.len),
         23 => get(g.fifo, 64),
+        24 => scrub(Scrubber { place: g.dlc as usize }, &g.list, g.rewrite),
         _ => read_ram(g.a, g.b as usize, g.c as usize, g.len),
     }
 }
@@ -393,7 +457,7 @@ fn any_buffers() {
         }
         let l = &mut mcp.line;
         l.rough = [4, 16, 64][l.below(3)];
-        let (g, number) = (given(l), l.below(25));
+        let (g, number) = (given(l), l.below(26));
         let call = started(number, &g, &bytes);
         let [lent, room, tx, rx] = core::array::from_fn(|_| if l.flag() { l.below(140) } else { l.below(4096) });
         let (mut buf, mut own, before) = (vec![0x5Au8; room], vec![0x5Au8; room], vec![0x5Au8; room]);
@@ -414,7 +478,7 @@ fn any_answers() {
     let mut l = Junk::new(0x0FED_CBA9_8765_4321);
     let bytes: Vec<u8> = (0..4096).map(|i| i as u8).collect();
     for _ in 0..20_000 {
-        let (g, number, wild) = (given(&mut l), l.below(25), l.flag());
+        let (g, number, wild) = (given(&mut l), l.below(26), l.flag());
         let mut call = started(number, &g, &bytes);
         let (mut tx, mut rx, mut left) = ([0; 2050], [0; 140], turns(call));
         loop {
@@ -440,5 +504,8 @@ fn any_answers() {
         assert!(matches!(end, Outcome::Message(_) | Outcome::Done) || buf == vec![0x5Au8; room], "{end:?} changed what was lent");
         assert!(is_as_meant(end), "{end:?}");
         assert!(!accepted(call) || matches!(number, 18 | 20));
+        let place = if number == 24 { g.dlc as usize } else { 0 };
+        let expected = if let Outcome::Scrubbed(_) = end { due(place, &g.list).1 } else { place };
+        assert!(scrubber(call).place == expected && (number == 24 || !matches!(end, Outcome::Scrubbed(_))));
     }
 }
