@@ -63,7 +63,7 @@ use Rattle.watch.specs.declared.Watch.{Watch}
 use Rattle.watch.specs.Watch.{allCarried, entryIn}
 use Rattle.watch.proofs.Lists.{due-short}
 use Rattle.scrub.specs.Step.{agrees}
-use Rattle.scrub.specs.Talk.{checkedBy, backTalk, rewriteTalk, seenTalk, visitTalk, scrubCall}
+use Rattle.scrub.specs.Talk.{checkedBy, rewriteTalk, seenTalk, visitTalk, scrubCall}
 use Rattle.driver.specs.Step.{askOf, stepOf}
 use Rattle.driver.specs.Talk.{told}
 use Rattle.driver.specs.Calls.{Plans, Modify, Verify, SetOpMode, Osc, Io, BitTiming, Fifo, Filter, FilterOff, Configure, Start, Reset, OpMode, VerifyLong, Read, Checked, Write, ReadRam, WriteRam, Planned, Push, Transmit, Request, HasNext, Peek, Get, Scrub, prepared, started, wholeTalk}

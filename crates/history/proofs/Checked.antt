@@ -3,24 +3,21 @@
 use Prim.Native.Nat.{ℕ, zero, suc, _*_, _/_, _%_, _^_, _<_}
 use native.Mathlib.Nat.{mod-lt}
 use native.Mathlib.Omega.{arith}
-use mathlib.Core.Path.{_≡_, refl, sym, ap, _∙_}
-use mathlib.Core.Bool.{true}
+use mathlib.Core.Path.{_≡_, sym}
 use mathlib.Core.List.{List, [], _∷_, _++_}
 use lib.Bits.{bitXor, xor-lt}
-use lib.ListN.{length}
 use lib.Pow.{pow-pos}
 use borrow.Author.Tests.{eq-eqb}
 use Rattle.field.proofs.Laws.{field-lt}
-use Rattle.words.specs.Words.{byteOf, leBytes, beBytes, leAt, beAt}
+use Rattle.words.specs.Words.{leBytes, beBytes, leAt, beAt}
 use Rattle.words.proofs.Laws.{be-back}
 use Rattle.crc.specs.Crc.{polynomial, start, shift1, shifts, crcByte, crcFrom, crcOf}
-use Rattle.spi.specs.declared.instruction.OpCode.{OpCode}
 use Rattle.spi.specs.declared.refusal.Refusal.{Refusal}
 use Rattle.spi.specs.declared.ask.Ask.{Ask}
 use Rattle.spi.specs.declared.ask.Answer.{Answer}
 use Rattle.spi.specs.declared.reply.CheckedWord.{CheckedWord}
 use Rattle.spi.specs.Ask.{headOf}
-use Rattle.spi.specs.Instruction.{codeOf, commandOf}
+use Rattle.spi.specs.Instruction.{commandOf}
 use Rattle.spi.specs.Reply.{crcGood, crcReply}
 use Rattle.model.specs.Exchange.{checkedBytes}
 use Rattle.history.proofs.Replies.{le-said}

@@ -65,6 +65,7 @@ atWrite (ScrubAt.Back word more) = false
 atWrite (ScrubAt.Told r) = false
 atWrite (ScrubAt.Refused r) = false
 
+-- a call stands at the WRITE of a scrub step; no other call has one
 abbrev pub asksRewrite : CallAt → Bool
 asksRewrite (CallAt.Register r) = false
 asksRewrite (CallAt.Ram r) = false
@@ -74,6 +75,7 @@ asksRewrite CallAt.Transmit = false
 asksRewrite CallAt.Fetch = false
 asksRewrite (CallAt.Scrub s) = atWrite (s .at)
 
+-- the call under way does
 abbrev pub rewriting : Doing → Bool
 rewriting idle = false
 rewriting (busy k s) = asksRewrite (s .at)

@@ -15,7 +15,7 @@ use Rattle.call.specs.declared.Outcome.{Outcome}
 use Rattle.scrub.specs.declared.ScrubStage.{ScrubStage}
 use Rattle.scrub.specs.declared.ScrubNumbers.{ScrubNumbers}
 use Rattle.scrub.specs.Scrub.{Scrub, ScrubAt}
-use Rattle.scrub.specs.Numbers.{atStage, entryIn, standing, telling, scrubOf}
+use Rattle.scrub.specs.Numbers.{atStage, entryHeld, standing, telling, scrubOf}
 use Rattle.scrub.specs.Step.{to, unread, unwritten, again, stepAt, askAt, outcomeAt}
 use Rattle.scrub.proofs.ScrubStage.{the-type}
 
@@ -53,7 +53,7 @@ module _ (c : ScrubNumbers) (a : Answer) (rx : List ℕ) where
 
   pub others : (s : ScrubStage)
       → (OneOf over (tagOf the-type s) → late ≡ stepAt (atStage s c) (scrubOf c) a rx)
-      × (OneOf over (tagOf the-type s) → Ask.Nothing ≡ askAt (atStage s c) (entryIn c))
+      × (OneOf over (tagOf the-type s) → Ask.Nothing ≡ askAt (atStage s c) (entryHeld c))
       × (OneOf asking (tagOf the-type s) → Outcome.Running ≡ outcomeAt (atStage s c))
   others ScrubStage.Visit = (λ o. absurd (miss over 0 tt o), λ o. absurd (miss over 0 tt o), λ o. refl)
   others ScrubStage.Write = (λ o. absurd (miss over 1 tt o), λ o. absurd (miss over 1 tt o), λ o. refl)

@@ -1,7 +1,7 @@
 -- Every law of scrub steps is proved.
 -- Assumes nothing.
-use Prim.Native.Nat.{ℕ, zero, suc}
-use mathlib.Core.Path.{_≡_, refl, ap}
+use Prim.Native.Nat.{zero, suc}
+use mathlib.Core.Path.{refl, ap}
 use Rattle.spi.specs.declared.refusal.Refusal.{Refusal}
 use Rattle.spi.specs.declared.ask.Ask.{Ask}
 use Rattle.spi.specs.Reply.{crcReply}

@@ -12,7 +12,7 @@ use Rattle.spi.specs.declared.refusal.Refusal.{Refusal}
 use Rattle.spi.specs.declared.ask.Ask.{Ask}
 use Rattle.spi.specs.declared.ask.Answer.{Answer}
 use Rattle.spi.specs.Reply.{doneReply, crcReply}
-use Rattle.spi.specs.Talk.{Talk, done, refused, ask, asks, answered, run, Within, Follows, onChecked}
+use Rattle.spi.specs.Talk.{Talk, refused, asks, answered, run, Within, Follows, onChecked}
 use Rattle.spi.proofs.Talks.{if-ap, on-done, on-checked, by-done, by-checked, runs, more, ask-within, if-within}
 use Rattle.call.specs.declared.Rewrite.{Rewrite}
 use Rattle.call.specs.declared.Report.{Report}

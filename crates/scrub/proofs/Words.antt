@@ -2,13 +2,12 @@
 -- Assumes nothing.
 use Prim.Native.Nat.{ℕ, zero, suc, _-_, _^_, _<_, min, max}
 use mathlib.Core.Path.{_≡_, refl, sym, ap, ap₂, _∙_}
-use mathlib.Core.Bool.{true}
 use native.Mathlib.Omega.{arith}
-use lib.Bits.{bitAnd, bitOr}
+use lib.Bits.{bitAnd}
 use lib.Dec.{eqb}
 use borrow.Author.Tests.{eqb-true, eq-eqb}
 use Rattle.laws.specs.If.{if_then_else_}
-use Rattle.field.specs.Field.{bit, read, flag}
+use Rattle.field.specs.Field.{bit, read}
 use Rattle.field.proofs.Laws.{field-lt}
 use Rattle.bits.proofs.Bits.{same-bits, and-bit, or-bit, not-bit}
 use Rattle.scrub.specs.Step.{agrees, rewritten}

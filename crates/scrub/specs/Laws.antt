@@ -4,7 +4,7 @@ use Prim.Native.Nat.{ℕ, _+_, _^_, _<_}
 use mathlib.Core.Path.{_≡_}
 use mathlib.Core.Logic.{_↔_}
 use mathlib.Core.Bool.{Bool, true}
-use mathlib.Core.List.{List, [], _∷_, _++_, map}
+use mathlib.Core.List.{List, [], _∷_, _++_}
 use lib.ListN.{length, take, drop}
 use Rattle.laws.specs.If.{if_then_else_}
 use Rattle.field.specs.Field.{bit, read, flag}
@@ -49,6 +49,7 @@ Seven = (p : ℕ) (ws : List Watch) (rewrite : Bool) → Within 7 (scrubCall p w
 abbrev pub stepped : (place : ℕ) → List Watch → (rewrite : Bool) → List (Answer × List ℕ) → Scrub
 stepped p ws rewrite xs = run stepOf (scrubStart p ws rewrite) xs
 
+-- the address that a report is of
 abbrev pub addressOf : Report → ℕ
 addressOf (Report.Agree address) = address
 addressOf (Report.Differ address word wanted x) = address
@@ -59,7 +60,8 @@ abbrev pub Moves : Type 0
 Moves =
     (p : ℕ) (ws : List Watch) (rewrite : Bool) (xs : List (Answer × List ℕ)) (r : Report)
     → outcomeOf (stepped p ws rewrite xs) ≡ Outcome.Scrubbed r
-    → (stepped p ws rewrite xs .place ≡ placeIn p (length ws) + 1) × (addressOf r ≡ entryIn p ws .address)
+    → (stepped p ws rewrite xs .place ≡ placeIn p (length ws) + 1) × (stepped p ws rewrite xs .entry ≡ entryIn p ws)
+    × (addressOf r ≡ entryIn p ws .address)
 
 -- one that is not over has not moved
 abbrev pub Waits : Type 0
@@ -77,18 +79,19 @@ Stays =
 abbrev pub NeverRefused : Type 0
 NeverRefused = (s : Scrub) (a : Answer) (rx : List ℕ) (r : Refusal) → outcomeOf s ≡ Outcome.Running → outcomeOf (stepOf s a rx) ≡ Outcome.Refused r → ⊥
 
--- successive steps over one list, none refused, each from where the one before left the scrubber: what they reported
-pub data Steps (ws : List Watch) : ℕ → List Report → Type 0 where
+-- successive steps over one list, each of which reports, from where the one before left the scrubber: the entries that they visited
+pub data Steps (ws : List Watch) : ℕ → List Watch → Type 0 where
   none : (p : ℕ) → Steps ws p []
   step :
-      (p : ℕ) (rewrite : Bool) (xs : List (Answer × List ℕ)) (r : Report) (rs : List Report)
-      → outcomeOf (stepped p ws rewrite xs) ≡ Outcome.Scrubbed r → Steps ws (stepped p ws rewrite xs .place) rs → Steps ws p (r ∷ rs)
+      (p : ℕ) (rewrite : Bool) (xs : List (Answer × List ℕ)) (r : Report) (vs : List Watch)
+      → outcomeOf (stepped p ws rewrite xs) ≡ Outcome.Scrubbed r → Steps ws (stepped p ws rewrite xs .place) vs
+      → Steps ws p (stepped p ws rewrite xs .entry ∷ vs)
 
 -- after n steps over a list of n each entry has been visited once: those from the place on, then those before it
 abbrev pub Visits : Type 0
 Visits =
-    (ws : List Watch) (p : ℕ) (rs : List Report) → Steps ws p rs → length rs ≡ length ws
-    → (let q = placeIn p (length ws) in map addressOf rs ≡ map (λ w. w .address) (drop q ws ++ take q ws))
+    (ws : List Watch) (p : ℕ) (vs : List Watch) → Steps ws p vs → length vs ≡ length ws
+    → (let q = placeIn p (length ws) in vs ≡ drop q ws ++ take q ws)
 
 pub record Laws : Type 0 where
   pub agreesBits : AgreesBits

@@ -10,9 +10,9 @@ use Rattle.scrub.specs.Step.{differs}
 use Rattle.scrub.specs.declared.ScrubStage.{ScrubStage}
 use Rattle.scrub.specs.declared.ScrubNumbers.{ScrubNumbers}
 
--- the entry that is due
-abbrev pub entryIn : ScrubNumbers → Watch
-entryIn c = record { address = c .m; wanted = c .a; care = c .b }
+-- the entry that the numbers hold
+abbrev pub entryHeld : ScrubNumbers → Watch
+entryHeld c = record { address = c .m; wanted = c .a; care = c .b }
 
 -- what the numbers stand for at a stage: `w` is the word that was read, `t` the one that was read back
 abbrev pub atStage : ScrubStage → ScrubNumbers → ScrubAt
@@ -20,14 +20,14 @@ atStage ScrubStage.Visit c = ScrubAt.Visit (c .more)
 atStage ScrubStage.Write c = ScrubAt.Write (c .w)
 atStage ScrubStage.Back c = ScrubAt.Back (c .w) (c .more)
 atStage ScrubStage.Agree c = ScrubAt.Told (Report.Agree (c .m))
-atStage ScrubStage.Differ c = ScrubAt.Told (differs (entryIn c) (c .w) Rewrite.None)
-atStage ScrubStage.Rewritten c = ScrubAt.Told (differs (entryIn c) (c .w) (Rewrite.Back (c .t)))
-atStage ScrubStage.Unwritten c = ScrubAt.Told (differs (entryIn c) (c .w) (Rewrite.Unread (c .why)))
+atStage ScrubStage.Differ c = ScrubAt.Told (differs (entryHeld c) (c .w) Rewrite.None)
+atStage ScrubStage.Rewritten c = ScrubAt.Told (differs (entryHeld c) (c .w) (Rewrite.Back (c .t)))
+atStage ScrubStage.Unwritten c = ScrubAt.Told (differs (entryHeld c) (c .w) (Rewrite.Unread (c .why)))
 atStage ScrubStage.Unread c = ScrubAt.Told (Report.Unread (c .m) (c .why))
 atStage ScrubStage.Refused c = ScrubAt.Refused (c .why)
 
 abbrev pub scrubOf : ScrubNumbers → Scrub
-scrubOf c = record { place = c .place; next = c .next; entry = entryIn c; rewrite = c .rewrite; at = atStage (c .stage) c }
+scrubOf c = record { place = c .place; next = c .next; entry = entryHeld c; rewrite = c .rewrite; at = atStage (c .stage) c }
 
 -- ---- numbers after an answer
 

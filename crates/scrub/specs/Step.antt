@@ -38,9 +38,11 @@ abbrev pub dueAt : Due → ScrubAt
 dueAt Due.Visit = ScrubAt.Visit 2
 dueAt (Due.Refused r) = ScrubAt.Refused r
 
+-- the entry that a step begins with
 abbrev pub entryOf : Begun → Watch
 entryOf b = record { address = b .address; wanted = b .wanted; care = b .care }
 
+-- the step that the list began, told to rewrite or not
 unfoldable pub begins : Begun → (rewrite : Bool) → Scrub
 begins b rewrite = record { place = b .place; next = b .next; entry = entryOf b; rewrite = rewrite; at = dueAt (b .due) }
 
@@ -58,6 +60,7 @@ to s at = record { place = s .place; next = s .next; entry = s .entry; rewrite =
 abbrev pub reports : Scrub → Report → Scrub
 reports s r = record { place = s .next; next = s .next; entry = s .entry; rewrite = s .rewrite; at = ScrubAt.Told r }
 
+-- the address with both words, and what came of the rewrite
 abbrev pub differs : Watch → (read : ℕ) → Rewrite → Report
 differs w read x = Report.Differ (w .address) read (w .wanted) x
 

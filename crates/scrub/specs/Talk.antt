@@ -24,6 +24,7 @@ unfoldable pub checkedBy : {A : Type 0} → (address left : ℕ) → (Refusal �
 checkedBy address zero bad k = ask (Ask.Checked address) (λ a rx. onChecked bad (crcReply Refusal.SpiRead address a rx) (bad Refusal.CrcMismatch) k)
 checkedBy address (suc left) bad k = ask (Ask.Checked address) (λ a rx. onChecked bad (crcReply Refusal.SpiRead address a rx) (checkedBy address left bad k) k)
 
+-- done, with a report
 abbrev pub told : Report → Talk Outcome
 told r = done (Outcome.Scrubbed r)
 
@@ -37,6 +38,7 @@ rewriteTalk w read =
     ask (Ask.Word (w .address) (rewritten read (w .wanted) (w .care)))
     (λ a rx. onDone (λ r. told (differs w read (Rewrite.Unread r))) (doneReply Refusal.SpiRead a (length rx) 0) (backTalk w read 2))
 
+-- the visit's word: agreement, both words, or the rewrite where it was told
 abbrev pub seenTalk : Watch → (rewrite : Bool) → (read : ℕ) → Talk Outcome
 seenTalk w rewrite read =
     if agrees read (w .wanted) (w .care) then told (Report.Agree (w .address))

@@ -4,12 +4,9 @@ use Prim.Native.Nat.{ℕ}
 use native.Mathlib.Omega.{arith}
 use mathlib.Core.Path.{_≡_, refl}
 use mathlib.Core.Bool.{Bool, true, false}
-use mathlib.Core.List.{List}
 use lib.Dec.{eqb}
 use lib.ListN.{length}
 use Rattle.place.specs.Place.{isCarried}
-use Rattle.watch.specs.declared.Watch.{Watch}
-use Rattle.watch.specs.declared.Due.{Due}
 use Rattle.watch.specs.Watch.{allCarried, startOf}
 use Rattle.watch.specs.Laws.{DueCarried, Laws}
 use Rattle.watch.proofs.Lists.{due-carried}

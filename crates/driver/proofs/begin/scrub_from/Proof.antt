@@ -1,6 +1,6 @@
 -- `driver::begin::scrub_from` meets its contract.
 -- Assumes nothing.
-use mathlib.Core.Path.{ap, _∙_}
+use mathlib.Core.Path.{ap}
 use borrow.Author.Needs.{needs}
 use Rattle.driver.specs.Start.{ofScrub}
 use Rattle.driver.specs.Numbers.{modelOf, callOf}
