@@ -11,24 +11,26 @@ pub struct Found {
     pub len: u8,
 }
 
-// What came of a scrub step's rewrite: none was told; the word of the checked read-back; what the write or else the read-back was
-// refused with.
+// What came of a scrub step's rewrite: none was told; the word of the checked read-back and how many of its exchanges mismatched before
+// it; what the write or else the read-back was refused with.
 pub enum Rewrite {
     None,
-    Back(u32),
+    Back(u32, u8),
     Unread(Refusal),
 }
 
 // What a scrub step reports of the entry that it visited: the cared-for bits agree; they do not, with the word read and the wanted
-// one; the checked read was refused.
+// one; the checked read was refused. `mismatches`: how many of its exchanges mismatched before the word was read.
 pub enum Report {
     Agree {
         address: u16,
+        mismatches: u8,
     },
     Differ {
         address: u16,
         read: u32,
         wanted: u32,
+        mismatches: u8,
         rewrite: Rewrite,
     },
     Unread {
@@ -41,8 +43,9 @@ pub enum Outcome {
     // The call still asks for something.
     Running,
     Done,
-    // The word of a register, and the mode that CiCON shows.
+    // The word of a register; that of a checked read, with how many exchanges mismatched before it; the mode that CiCON shows.
     Word(u32),
+    Checked(u32, u8),
     Mode(u32),
     // Whether there is a next message.
     Yes,

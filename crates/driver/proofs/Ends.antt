@@ -8,7 +8,7 @@ use mathlib.Core.Logic.{_↔_}
 use mathlib.Core.List.{List, [], _∷_}
 use lib.ListN.{length}
 use lib.Dec.{eqb, ltb}
-use borrow.Author.Tests.{eqb-false}
+use borrow.Author.Tests.{eqb-false, ltb-true}
 use Rattle.laws.proofs.Choice.{by-if}
 use Rattle.field.specs.Field.{flag}
 use Rattle.fifo.specs.Control.{TXEN, RXTSEN, payloadOf}
@@ -56,13 +56,14 @@ register-falls RegisterCall.Reset a rx = by-done (Falls registerLeft 1) (λ r. o
 register-falls (RegisterCall.Read address) a rx = by-word (Falls registerLeft 1) (λ r. omega arith) (wordReply Refusal.SpiRead a rx) (λ w. omega arith)
 register-falls (RegisterCall.Write address word) a rx =
     by-done (Falls registerLeft 1) (λ r. omega arith) (doneReply Refusal.SpiRead a (length rx) 0) (omega arith)
-register-falls (RegisterCall.Checked address left) a rx =
-    let P = Falls registerLeft (registerLeft (RegisterCall.Checked address left)) in
+register-falls (RegisterCall.Checked address seen) a rx =
+    let P = Falls registerLeft (registerLeft (RegisterCall.Checked address seen)) in
     by-checked P (λ r. omega arith) (crcReply Refusal.SpiRead address a rx)
-    (by-if P (eqb left 0) (λ e. omega arith) (λ e. omega (arith, eqb-false left 0 e))) (λ w. omega arith)
+    (by-if P (ltb seen 2) (λ e. omega (arith, ltb-true seen 2 e)) (λ e. omega arith)) (λ w. omega arith)
 register-falls RegisterCall.Mode a rx = by-word (Falls registerLeft 1) (λ r. omega arith) (wordReply Refusal.SpiRead a rx) (λ w. omega arith)
 register-falls RegisterCall.Done a rx = omega arith
 register-falls (RegisterCall.Word w) a rx = omega arith
+register-falls (RegisterCall.Matched w seen) a rx = omega arith
 register-falls (RegisterCall.OpMode m) a rx = omega arith
 register-falls (RegisterCall.Refused r) a rx = omega arith
 
@@ -71,10 +72,11 @@ unfolding register.askOf
 register-over RegisterCall.Reset = still-asks (omega arith) refl
 register-over (RegisterCall.Read address) = still-asks (omega arith) refl
 register-over (RegisterCall.Write address word) = still-asks (omega arith) refl
-register-over (RegisterCall.Checked address left) = still-asks (omega arith) refl
+register-over (RegisterCall.Checked address seen) = still-asks (omega arith) refl
 register-over RegisterCall.Mode = still-asks (omega arith) refl
 register-over RegisterCall.Done = (λ e. refl, λ e. refl)
 register-over (RegisterCall.Word w) = (λ e. refl, λ e. refl)
+register-over (RegisterCall.Matched w seen) = (λ e. refl, λ e. refl)
 register-over (RegisterCall.OpMode m) = (λ e. refl, λ e. refl)
 register-over (RegisterCall.Refused r) = (λ e. refl, λ e. refl)
 
@@ -233,23 +235,23 @@ fetch-over fifo (FetchAt.Refused r) = (λ e. refl, λ e. refl)
 -- ---- scrub
 
 scrub-falls : (at : ScrubAt) (s : Scrub) (a : Answer) (rx : List ℕ) → Falls scrubLeft (scrubLeftAt at (s .rewrite)) (scrub.stepAt at s a rx)
-scrub-falls (ScrubAt.Visit left) s a rx =
-    let P = Falls scrubLeft (scrubLeftAt (ScrubAt.Visit left) (s .rewrite)) in
+scrub-falls (ScrubAt.Visit count) s a rx =
+    let P = Falls scrubLeft (scrubLeftAt (ScrubAt.Visit count) (s .rewrite)) in
     by-checked P (λ r. omega arith) (crcReply Refusal.SpiRead (s .entry .address) a rx)
-    (by-if P (eqb left 0) (λ e. omega arith) (λ e. omega (arith, eqb-false left 0 e)))
+    (by-if P (ltb count 2) (λ e. omega (arith, ltb-true count 2 e)) (λ e. omega arith))
     (λ w. by-if P (scrub.agrees w (s .entry .wanted) (s .entry .care)) (λ e. omega arith) (λ e. by-if P (s .rewrite) (λ f. rw f (omega arith)) (λ f. omega arith)))
-scrub-falls (ScrubAt.Write read) s a rx = by-done (Falls scrubLeft 4) (λ r. omega arith) (doneReply Refusal.SpiRead a (length rx) 0) (omega arith)
-scrub-falls (ScrubAt.Back read left) s a rx =
-    let P = Falls scrubLeft (scrubLeftAt (ScrubAt.Back read left) (s .rewrite)) in
+scrub-falls (ScrubAt.Write read first) s a rx = by-done (Falls scrubLeft 4) (λ r. omega arith) (doneReply Refusal.SpiRead a (length rx) 0) (omega arith)
+scrub-falls (ScrubAt.Back read first count) s a rx =
+    let P = Falls scrubLeft (scrubLeftAt (ScrubAt.Back read first count) (s .rewrite)) in
     by-checked P (λ r. omega arith) (crcReply Refusal.SpiRead (s .entry .address) a rx)
-    (by-if P (eqb left 0) (λ e. omega arith) (λ e. omega (arith, eqb-false left 0 e))) (λ w. omega arith)
+    (by-if P (ltb count 2) (λ e. omega (arith, ltb-true count 2 e)) (λ e. omega arith)) (λ w. omega arith)
 scrub-falls (ScrubAt.Told r) s a rx = omega arith
 scrub-falls (ScrubAt.Refused r) s a rx = omega arith
 
 scrub-over : (at : ScrubAt) (s : Scrub) → (scrubLeftAt at (s .rewrite) ≡ 0) ↔ (scrub.askAt at (s .entry) ≡ Ask.Nothing)
-scrub-over (ScrubAt.Visit left) s = still-asks (omega arith) refl
-scrub-over (ScrubAt.Write read) s = still-asks (omega arith) refl
-scrub-over (ScrubAt.Back read left) s = still-asks (omega arith) refl
+scrub-over (ScrubAt.Visit count) s = still-asks (omega arith) refl
+scrub-over (ScrubAt.Write read first) s = still-asks (omega arith) refl
+scrub-over (ScrubAt.Back read first count) s = still-asks (omega arith) refl
 scrub-over (ScrubAt.Told r) s = (λ e. refl, λ e. refl)
 scrub-over (ScrubAt.Refused r) s = (λ e. refl, λ e. refl)
 

@@ -147,10 +147,10 @@ module _ (P : Ask → Type 0) where
   at-address : (address : ℕ) (t : Talk Outcome) → (Narrow address → Always P t) → Always P (atAddress address t)
   at-address address t h = choice P (ltb address (2 ^ 12)) t (refused Refusal.BadSetting) (λ e. h (ltb-true address (2 ^ 12) e)) (λ e. tt)
 
-  tries : (address left : ℕ) → P (Ask.Checked address) → Always P (checkedTalk address left)
+  tries : (address seen left : ℕ) → P (Ask.Checked address) → Always P (checkedTalk address seen left)
   unfolding checkedTalk
-  tries address zero l = checks P Refusal.SpiRead address _ _ l tt (λ w. tt)
-  tries address (suc left) l = checks P Refusal.SpiRead address _ _ l (tries address left l) (λ w. tt)
+  tries address seen zero l = checks P Refusal.SpiRead address _ _ l tt (λ w. tt)
+  tries address seen (suc left) l = checks P Refusal.SpiRead address _ _ l (tries address (seen + 1) left l) (λ w. tt)
 
   accessed : (address count : ℕ) (r : Refusal) (t : Talk Outcome) → (Narrow address → Always P t) → Always P (onDone refused (accessOf address count r) t)
   unfolding accessOf
@@ -334,24 +334,27 @@ lent-always P may-get want n room e last =
 -- ---- scrub
 
 module _ (P : Ask → Type 0) where
-  checked-always : (address left : ℕ) (bad : Refusal → Talk Outcome) (k : ℕ → Talk Outcome) → P (Ask.Checked address) → ((r : Refusal) → Always P (bad r))
-      → ((w : ℕ) → Always P (k w)) → Always P (checkedBy address left bad k)
+  checked-always : (address count left : ℕ) (bad : Refusal → Talk Outcome) (k : ℕ → ℕ → Talk Outcome) → P (Ask.Checked address)
+      → ((r : Refusal) → Always P (bad r)) → ((w n : ℕ) → Always P (k w n)) → Always P (checkedBy address count left bad k)
   unfolding checkedBy
-  checked-always address zero bad k l b h =
-      (l, λ a rx. by-checked (λ (t : Talk Outcome). Always P t) b (crcReply Refusal.SpiRead address a rx) (b Refusal.CrcMismatch) h)
-  checked-always address (suc left) bad k l b h =
-      (l, λ a rx. by-checked (λ (t : Talk Outcome). Always P t) b (crcReply Refusal.SpiRead address a rx) (checked-always address left bad k l b h) h)
+  checked-always address count zero bad k l b h =
+      (l, λ a rx. by-checked (λ (t : Talk Outcome). Always P t) b (crcReply Refusal.SpiRead address a rx) (b Refusal.CrcMismatch) (λ w. h w count))
+  checked-always address count (suc left) bad k l b h = (
+    l,
+    λ a rx. by-checked (λ (t : Talk Outcome). Always P t) b (crcReply Refusal.SpiRead address a rx)
+        (checked-always address (count + 1) left bad k l b h) (λ w. h w count),
+  )
 
-  visit-always : (w : Watch) (rewrite : Bool) → P (Ask.Checked (w .address)) → ((word : ℕ) → P (Ask.Word (w .address) word)) → Always P (visitTalk w rewrite 2)
+  visit-always : (w : Watch) (rewrite : Bool) → P (Ask.Checked (w .address)) → ((word : ℕ) → P (Ask.Word (w .address) word)) → Always P (visitTalk w rewrite 0 2)
   visit-always w rewrite l may-write =
-      checked-always (w .address) 2 _ (seenTalk w rewrite) l (λ r. tt)
-      (λ read.
+      checked-always (w .address) 0 2 _ (seenTalk w rewrite) l (λ r. tt)
+      (λ read first.
       choice P (agrees read (w .wanted) (w .care)) _ _ (λ e. tt)
-      (λ e. choice P rewrite (rewriteTalk w read) _
+      (λ e. choice P rewrite (rewriteTalk w read first) _
       (λ f. (
         may-write _,
         λ a rx. by-done (λ (t : Talk Outcome). Always P t) (λ r. tt) (doneReply Refusal.SpiRead a (length rx) 0)
-            (checked-always (w .address) 2 _ _ l (λ r. tt) (λ x. tt)),
+            (checked-always (w .address) 0 2 _ _ l (λ r. tt) (λ x n. tt)),
       ))
       (λ f. tt)))
 
@@ -407,7 +410,7 @@ whole-always (Read address) =
     at-address (Small m) address _ (λ l. reads (Small m) Refusal.SpiRead address _ (read-small m 4 (omega arith) (omega arith) address l) (λ w. tt))
 whole-always (Checked address) =
     let m = most (Checked address) in
-    at-address (Small m) address _ (λ l. tries (Small m) address 2 (checked-small m (omega arith) (omega arith) address l))
+    at-address (Small m) address _ (λ l. tries (Small m) address 0 2 (checked-small m (omega arith) (omega arith) address l))
 whole-always (Write address word) =
     let m = most (Write address word) in
     at-address (Small m) address _ (λ l. puts (Small m) Refusal.SpiRead (Ask.Word address word) (done Outcome.Done) (word-small m (omega arith) address word l) tt)

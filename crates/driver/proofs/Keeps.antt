@@ -84,6 +84,7 @@ module _ (r : Refusal) (rx buf : List ℕ) where
   own-end n Outcome.Running l = refl
   own-end n Outcome.Done l = refl
   own-end n (Outcome.Word w) l = refl
+  own-end n (Outcome.Checked w mismatches) l = refl
   own-end n (Outcome.Mode m) l = refl
   own-end n Outcome.Yes l = refl
   own-end n Outcome.No l = refl

@@ -1,6 +1,6 @@
 -- Wherever a call stands: it asks for something or is over, and an answer of another length or kind than asked, or after the end, is 26.
 -- Assumes nothing.
-use Prim.Native.Nat.{ℕ, zero, suc}
+use Prim.Native.Nat.{ℕ, zero, suc, _+_, _-_}
 use mathlib.Core.Path.{_≡_, refl, ap, _∙_, sym}
 use mathlib.Core.Bool.{Bool, true, false, false≢true, true≢false}
 use mathlib.Core.List.{List, [], _∷_}
@@ -43,6 +43,7 @@ abbrev isRunning : Outcome → Bool
 isRunning Outcome.Running = true
 isRunning Outcome.Done = false
 isRunning (Outcome.Word w) = false
+isRunning (Outcome.Checked w mismatches) = false
 isRunning (Outcome.Mode m) = false
 isRunning Outcome.Yes = false
 isRunning Outcome.No = false
@@ -102,16 +103,20 @@ module _ {A B : Type 0} (P : A → Type 0) (Q : B → Type 0) where
 abbrev Over : Outcome → Type 0
 Over o = isRunning o ≡ false
 
-register-stands : (r : RegisterCall) → Stands Over (register-talks.talkOf r)
+checked-stands : (address seen left : ℕ) → Stands Over (register-talks.checkedTalk address seen left)
 unfolding register-talks.checkedTalk
+checked-stands address seen zero = by-checked Refusal.SpiRead address _ _
+checked-stands address seen (suc left) = by-checked Refusal.SpiRead address _ _
+
+register-stands : (r : RegisterCall) → Stands Over (register-talks.talkOf r)
 register-stands RegisterCall.Reset = by-done Refusal.SpiWrite 0 _
 register-stands (RegisterCall.Read address) = by-word Refusal.SpiRead _
 register-stands (RegisterCall.Write address word) = by-done Refusal.SpiRead 0 _
-register-stands (RegisterCall.Checked address zero) = by-checked Refusal.SpiRead address _ _
-register-stands (RegisterCall.Checked address (suc left)) = by-checked Refusal.SpiRead address _ _
+register-stands (RegisterCall.Checked address seen) = checked-stands address seen (2 - seen)
 register-stands RegisterCall.Mode = by-word Refusal.SpiRead _
 register-stands RegisterCall.Done = refl
 register-stands (RegisterCall.Word w) = refl
+register-stands (RegisterCall.Matched w seen) = refl
 register-stands (RegisterCall.OpMode m) = refl
 register-stands (RegisterCall.Refused r) = tt
 
@@ -192,10 +197,10 @@ module _ (bad : Refusal → Talk Outcome) (says : (r : Refusal) → tells (ended
   checked-wrong address o k Answer.Failed rx e = absurd (true≢false e)
   checked-wrong address o k Answer.Waited rx e = says Refusal.WrongAnswer
 
-  checked-sound : (address left : ℕ) (k : ℕ → Talk Outcome) → Sound (scrub-talks.checkedBy address left bad k)
+  checked-sound : (address count left : ℕ) (k : ℕ → ℕ → Talk Outcome) → Sound (scrub-talks.checkedBy address count left bad k)
   unfolding scrub-talks.checkedBy
-  checked-sound address zero k = (refl, checked-wrong address (bad Refusal.CrcMismatch) k)
-  checked-sound address (suc left) k = (refl, checked-wrong address (scrub-talks.checkedBy address left bad k) k)
+  checked-sound address count zero k = (refl, checked-wrong address (bad Refusal.CrcMismatch) (λ w. k w count))
+  checked-sound address count (suc left) k = (refl, checked-wrong address (scrub-talks.checkedBy address (count + 1) left bad k) (λ w. k w count))
 
   written-sound : (address word : ℕ) (t : Talk Outcome) → Sound (ask (Ask.Word address word) (λ a rx. onDone bad (doneReply Refusal.SpiRead a (length rx) 0) t))
   written-sound address word t = (refl, go)
@@ -206,9 +211,9 @@ module _ (bad : Refusal → Talk Outcome) (says : (r : Refusal) → tells (ended
       go Answer.Waited rx e = says Refusal.WrongAnswer
 
 scrub-sound : (at : ScrubAt) (w : Watch) (rewrite : Bool) → Sound (scrub-talks.talkAt at w rewrite)
-scrub-sound (ScrubAt.Visit left) w rewrite = checked-sound _ (λ r. refl) (w .address) left _
-scrub-sound (ScrubAt.Write read) w rewrite = written-sound _ (λ r. refl) (w .address) (rewritten read (w .wanted) (w .care)) _
-scrub-sound (ScrubAt.Back read left) w rewrite = checked-sound _ (λ r. refl) (w .address) left _
+scrub-sound (ScrubAt.Visit count) w rewrite = checked-sound _ (λ r. refl) (w .address) count (2 - count) _
+scrub-sound (ScrubAt.Write read first) w rewrite = written-sound _ (λ r. refl) (w .address) (rewritten read (w .wanted) (w .care)) _
+scrub-sound (ScrubAt.Back read first count) w rewrite = checked-sound _ (λ r. refl) (w .address) count (2 - count) _
 scrub-sound (ScrubAt.Told r) w rewrite = refl
 scrub-sound (ScrubAt.Refused r) w rewrite = tt
 

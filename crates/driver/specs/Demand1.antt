@@ -1,7 +1,7 @@
 -- Demand 1: every call takes any bytes, numbers and SPI answers, and ends; bad input gets the refusal number in the table, in the order
 -- given there, and changes no lent byte.
 -- Assumes nothing.
-use Prim.Native.Nat.{ℕ, suc, _+_, _^_, _≤_, _<_}
+use Prim.Native.Nat.{ℕ, _+_, _-_, _^_, _≤_, _<_}
 use mathlib.Core.Path.{_≡_}
 use mathlib.Core.Bool.{Bool, true, false}
 use mathlib.Core.Logic.{_↔_}
@@ -36,15 +36,20 @@ after = run stepOf
 
 -- ---- every call ends
 
--- a call on a register: a checked read asks once more than it may mismatch
+-- a checked read of which so many exchanges mismatched: three tries, and while it asks at least one
+abbrev pub triesLeft : (seen : ℕ) → ℕ
+triesLeft seen = 2 - seen + 1
+
+-- a call on a register
 abbrev pub registerLeft : RegisterCall → ℕ
 registerLeft RegisterCall.Reset = 1
 registerLeft (RegisterCall.Read address) = 1
 registerLeft (RegisterCall.Write address word) = 1
-registerLeft (RegisterCall.Checked address left) = suc left
+registerLeft (RegisterCall.Checked address seen) = triesLeft seen
 registerLeft RegisterCall.Mode = 1
 registerLeft RegisterCall.Done = 0
 registerLeft (RegisterCall.Word w) = 0
+registerLeft (RegisterCall.Matched w seen) = 0
 registerLeft (RegisterCall.OpMode m) = 0
 registerLeft (RegisterCall.Refused r) = 0
 
@@ -86,9 +91,9 @@ fetchLeft (FetchAt.Refused r) = 0
 
 -- a scrub step: behind the visit's read, where it was told so, a write and a checked read-back
 abbrev pub scrubLeftAt : ScrubAt → (rewrite : Bool) → ℕ
-scrubLeftAt (ScrubAt.Visit left) rewrite = left + 1 + (if rewrite then 4 else 0)
-scrubLeftAt (ScrubAt.Write read) rewrite = 4
-scrubLeftAt (ScrubAt.Back read left) rewrite = left + 1
+scrubLeftAt (ScrubAt.Visit count) rewrite = triesLeft count + (if rewrite then 4 else 0)
+scrubLeftAt (ScrubAt.Write read first) rewrite = 4
+scrubLeftAt (ScrubAt.Back read first count) rewrite = triesLeft count
 scrubLeftAt (ScrubAt.Told r) rewrite = 0
 scrubLeftAt (ScrubAt.Refused r) rewrite = 0
 

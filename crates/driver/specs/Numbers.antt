@@ -35,10 +35,10 @@ use Rattle.driver.specs.Start.{ofRegister, ofRam, ofPlan, ofPush, ofTran
 -- ---- the numbers of each family among those that they share, and those with the family's own in them
 
 abbrev pub registerPart : Numbers → RegisterStage → RegisterNumbers
-registerPart c stage = record { stage = stage; m = c .m; w = c .w; more = c .more; why = c .why }
+registerPart c stage = record { stage = stage; m = c .m; w = c .w; seen = c .more; why = c .why }
 
 abbrev pub registerIn : Numbers → RegisterNumbers → Numbers
-registerIn c p = record { at = At.Register (p .stage); stamped = c .stamped; fifo = c .fifo; more = p .more; next = c .next; m = p .m; w = p .w; a = c .a; b = c .b; t = c .t; size = c .size; len = c .len; why = p .why }
+registerIn c p = record { at = At.Register (p .stage); stamped = c .stamped; fifo = c .fifo; more = p .seen; next = c .next; m = p .m; w = p .w; a = c .a; b = c .b; t = c .t; size = c .size; len = c .len; why = p .why }
 
 abbrev pub ramPart : Numbers → RamStage → RamNumbers
 ramPart c stage = record { stage = stage; m = c .m; place = c .size; count = c .len; why = c .why }
@@ -71,10 +71,10 @@ abbrev pub fetchIn : Numbers → FetchNumbers → Numbers
 fetchIn c p = record { at = At.Fetch (p .want) (p .stage); stamped = p .stamped; fifo = p .fifo; more = p .len; next = c .next; m = p .m; w = p .w; a = p .a; b = p .b; t = p .t; size = c .size; len = c .len; why = p .why }
 
 abbrev pub scrubPart : Numbers → ScrubStage → ScrubNumbers
-scrubPart c stage = record { stage = stage; rewrite = c .stamped; more = c .more; m = c .m; w = c .w; a = c .a; b = c .b; t = c .t; place = c .size; next = c .len; why = c .why }
+scrubPart c stage = record { stage = stage; rewrite = c .stamped; first = c .fifo; count = c .more; m = c .m; w = c .w; a = c .a; b = c .b; t = c .t; place = c .size; next = c .len; why = c .why }
 
 abbrev pub scrubIn : Numbers → ScrubNumbers → Numbers
-scrubIn c p = record { at = At.Scrub (p .stage); stamped = p .rewrite; fifo = c .fifo; more = p .more; next = c .next; m = p .m; w = p .w; a = p .a; b = p .b; t = p .t; size = p .place; len = p .next; why = p .why }
+scrubIn c p = record { at = At.Scrub (p .stage); stamped = p .rewrite; fifo = p .first; more = p .count; next = c .next; m = p .m; w = p .w; a = p .a; b = p .b; t = p .t; size = p .place; len = p .next; why = p .why }
 
 -- ---- the call
 

@@ -10,7 +10,7 @@ ghost use Rattle.fetch.specs.Numbers.{fetchAt};
 ghost use Rattle.scrub.specs.Numbers.{scrubOf};
 ghost use Rattle.plan.specs.Talk.{planLeft};
 ghost use mathlib.Core.List.{[]};
-ghost use Rattle.driver.specs.Demand1.{registerLeft, ramLeft, pushLeft, fetchLeft, scrubLeft, left};
+ghost use Rattle.driver.specs.Demand1.{triesLeft, registerLeft, ramLeft, pushLeft, fetchLeft, scrubLeft, left};
 ghost use Rattle.driver.specs.Numbers.{modelOf};
 use crate::At;
 use crate::Numbers;
@@ -35,6 +35,13 @@ use transmit::TransmitNumbers;
 use tx_fifo::PushNumbers;
 use tx_fifo::PushStage;
 
+// Three tries, of which so many mismatched; one is left while it asks, whatever the number.
+fn tries_left(seen: u8) -> u32
+    ensures { λ r. ⌜ (r ≡ triesLeft seen) × (r < 1000) ⌝ }
+{
+    if seen < 2 { 3 - seen as u32 } else { 1 }
+}
+
 fn register_turns(c: RegisterNumbers) -> u32
     ensures { λ r. ⌜ r ≡ registerLeft (registerOf c) ⌝ }
 {
@@ -43,10 +50,11 @@ fn register_turns(c: RegisterNumbers) -> u32
         RegisterStage::Reset => 1,
         RegisterStage::Read => 1,
         RegisterStage::Write => 1,
-        RegisterStage::Checked => c.more as u32 + 1,
+        RegisterStage::Checked => tries_left(c.seen),
         RegisterStage::Mode => 1,
         RegisterStage::Done => 0,
         RegisterStage::Word => 0,
+        RegisterStage::Matched => 0,
         RegisterStage::OpMode => 0,
         RegisterStage::Refused => 0,
     }
@@ -151,9 +159,9 @@ fn scrub_turns(c: ScrubNumbers) -> u32
 {
     let stage = c.stage;
     match stage {
-        ScrubStage::Visit => c.more as u32 + 1 + behind_visit(c.rewrite),
+        ScrubStage::Visit => tries_left(c.count) + behind_visit(c.rewrite),
         ScrubStage::Write => 4,
-        ScrubStage::Back => c.more as u32 + 1,
+        ScrubStage::Back => tries_left(c.count),
         ScrubStage::Agree => 0,
         ScrubStage::Differ => 0,
         ScrubStage::Rewritten => 0,

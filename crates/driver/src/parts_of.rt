@@ -49,7 +49,7 @@ pub fn register_part(c: Numbers, stage: RegisterStage) -> RegisterNumbers
         stage: stage,
         m: c.m,
         w: c.w,
-        more: c.more,
+        seen: c.more,
         why: why,
     }
 }
@@ -63,7 +63,7 @@ pub fn with_register(c: Numbers, p: RegisterNumbers) -> Numbers
         at: At::Register(stage),
         stamped: c.stamped,
         fifo: c.fifo,
-        more: p.more,
+        more: p.seen,
         next: c.next,
         m: p.m,
         w: p.w,
@@ -271,7 +271,8 @@ pub fn scrub_part(c: Numbers, stage: ScrubStage) -> ScrubNumbers
     ScrubNumbers {
         stage: stage,
         rewrite: c.stamped,
-        more: c.more,
+        first: c.fifo,
+        count: c.more,
         m: c.m,
         w: c.w,
         a: c.a,
@@ -291,8 +292,8 @@ pub fn with_scrub(c: Numbers, p: ScrubNumbers) -> Numbers
     Numbers {
         at: At::Scrub(stage),
         stamped: p.rewrite,
-        fifo: c.fifo,
-        more: p.more,
+        fifo: p.first,
+        more: p.count,
         next: c.next,
         m: p.m,
         w: p.w,

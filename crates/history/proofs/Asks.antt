@@ -1,6 +1,6 @@
 -- What the modelled chip answers to what the driver asks.
 -- Assumes nothing.
-use mathlib.Core.Path.{_≡_, refl, ap, _∙_}
+use mathlib.Core.Path.{_≡_, refl, sym, ap, subst, _∙_}
 use mathlib.Core.Bool.{true, false}
 use mathlib.Core.List.{List, [], _∷_, _++_, append-nil}
 use Prim.Native.Nat.{ℕ, _+_, _-_, _*_, _%_, _^_, _≤_, _<_}
@@ -187,3 +187,21 @@ module _ (b : List ℕ) (c : Model) (a : ℕ) where
       spoken-keeps (Ask.Checked a) b c (at (registerAt x) Operation.Checked) refl
       (ap (λ (s : List ℕ). asked (s ++ (4 ∷ [])) 6) (low-address OpCode.ReadCrc a) ∙ asks-checked x (mod-lt a (pow-pos 12)))
       (checked-keeps (sent (Ask.Checked a) b) x c)
+
+  -- a checked read is answered with a word and its CRC, or not at all
+  pub check-heard : (P : Heard → Type 0) → ((w : ℕ) → P (hears Answer.Exchanged (checkedBytes (headOf (Ask.Checked a)) w) c)) → P (hears Answer.Failed [] c)
+      → P (spoken (Ask.Checked a) b c)
+  unfolding performed
+  check-heard P good bad =
+      let x : ℕ = a % 2 ^ 12 in
+      let head : sent (Ask.Checked a) b ≡ headOf (Ask.Checked a) = sent-head (Ask.Checked a) b refl in
+      let is : asked (sent (Ask.Checked a) b) 6 ≡ at (registerAt x) Operation.Checked =
+      ap (λ (s : List ℕ). asked s 6) head ∙ ap (λ (s : List ℕ). asked (s ++ (4 ∷ [])) 6) (low-address OpCode.ReadCrc a) ∙ asks-checked x (mod-lt a (pow-pos 12)) in
+      subst P (sym (does (Ask.Checked a) b c (at (registerAt x) Operation.Checked) is ∙ ap (λ (s : List ℕ). said s (registerAt x)) head)) (go (registerAt x))
+    where
+      said : List ℕ → Place → Heard
+      said s p = hearing (performed (at p Operation.Checked) s 6 c)
+
+      go : (p : Place) → P (said (headOf (Ask.Checked a)) p)
+      go (Place.Is r) = good (wordOf c r)
+      go Place.None = bad

@@ -13,6 +13,7 @@ use Rattle.history.proofs.PushFails.{push-fails, transmit-fails}
 use Rattle.history.proofs.Theorem.{holds-always, fits}
 use Rattle.history.proofs.GoesOut.{oldest-goes, request-sends, transmit-sends}
 use Rattle.history.proofs.Scrubs.{flip-reported, rewrite-leaves}
+use Rattle.history.proofs.Counts.{never-mismatches, none-mismatched}
 use Rattle.history.proofs.Example as example
 
 pub demand3 : Demand3
@@ -40,6 +41,8 @@ demand3 = record {
   answeredWhole = answered-whole;
   flipReported = flip-reported;
   rewriteLeaves = rewrite-leaves;
+  neverMismatches = never-mismatches;
+  noneMismatched = none-mismatched;
   begins = example.begins;
   sends = example.computed .0;
   sendsNot = example.computed .1;

@@ -36,5 +36,6 @@ pub mod Theorem
 pub mod GoesOut
 pub mod Checked
 pub mod Scrubs
+pub mod Counts
 pub mod Example
 pub mod Demand3

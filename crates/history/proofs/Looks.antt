@@ -4,7 +4,7 @@ use Prim.Native.Nat.{ℕ, _^_}
 use mathlib.Core.Path.{_≡_}
 use mathlib.Core.Bool.{false, true≢false}
 use mathlib.Core.List.{List}
-use lib.Dec.{eqb, ltb}
+use lib.Dec.{ltb}
 use lib.ListN.{length}
 use Rattle.laws.proofs.Choice.{by-if}
 use Rattle.configuration.specs.CanControl.{CiCON}
@@ -39,10 +39,11 @@ abbrev pub Looks : RegisterCall → Type 0
 Looks RegisterCall.Reset = ⊥
 Looks (RegisterCall.Read a) = Unit {0}
 Looks (RegisterCall.Write a w) = ⊥
-Looks (RegisterCall.Checked a left) = Unit {0}
+Looks (RegisterCall.Checked a seen) = Unit {0}
 Looks RegisterCall.Mode = Unit {0}
 Looks RegisterCall.Done = Unit {0}
 Looks (RegisterCall.Word w) = Unit {0}
+Looks (RegisterCall.Matched w seen) = Unit {0}
 Looks (RegisterCall.OpMode m) = Unit {0}
 Looks (RegisterCall.Refused r) = Unit {0}
 
@@ -55,31 +56,32 @@ pub read-looks : (a : ℕ) → Looks (register.readStart a)
 read-looks a = addressed-looks a (RegisterCall.Read a) tt
 
 pub checked-looks : (a : ℕ) → Looks (register.checkedStart a)
-checked-looks a = addressed-looks a (RegisterCall.Checked a 2) tt
+checked-looks a = addressed-looks a (RegisterCall.Checked a 0) tt
 
 -- steps
 word-looks : (x : OneWord) (k : ℕ → RegisterCall) → ((w : ℕ) → Looks (k w)) → Looks (onWord RegisterCall.Refused x k)
 word-looks (OneWord.Word w) k h = h w
 word-looks (OneWord.Bad r) k h = tt
 
-again-looks : (x : CheckedWord) (s : RegisterCall) → Looks s → Looks (onChecked RegisterCall.Refused x s RegisterCall.Word)
-again-looks (CheckedWord.Word w) s h = tt
-again-looks CheckedWord.Mismatch s h = h
-again-looks (CheckedWord.Bad r) s h = tt
+again-looks : (x : CheckedWord) (s : RegisterCall) (seen : ℕ) → Looks s → Looks (onChecked RegisterCall.Refused x s (λ w. RegisterCall.Matched w seen))
+again-looks (CheckedWord.Word w) s seen h = tt
+again-looks CheckedWord.Mismatch s seen h = h
+again-looks (CheckedWord.Bad r) s seen h = tt
 
-mismatch-looks : (a left : ℕ) → Looks (register.afterMismatch a left)
+mismatch-looks : (a seen : ℕ) → Looks (register.afterMismatch a seen)
 unfolding register.afterMismatch
-mismatch-looks a left = by-if Looks (eqb left 0) (λ e. tt) (λ e. tt)
+mismatch-looks a seen = by-if Looks (ltb seen 2) (λ e. tt) (λ e. tt)
 
 pub step-looks : (s : RegisterCall) (a : Answer) (rx : List ℕ) → Looks s → Looks (register.stepOf s a rx)
 unfolding register.stepOf
 step-looks RegisterCall.Reset a rx h = absurd h
 step-looks (RegisterCall.Read x) a rx h = word-looks (wordReply Refusal.SpiRead a rx) RegisterCall.Word (λ w. tt)
 step-looks (RegisterCall.Write x w) a rx h = absurd h
-step-looks (RegisterCall.Checked x left) a rx h = again-looks (crcReply Refusal.SpiRead x a rx) (register.afterMismatch x left) (mismatch-looks x left)
+step-looks (RegisterCall.Checked x seen) a rx h = again-looks (crcReply Refusal.SpiRead x a rx) (register.afterMismatch x seen) seen (mismatch-looks x seen)
 step-looks RegisterCall.Mode a rx h = word-looks (wordReply Refusal.SpiRead a rx) register.afterMode (λ w. tt)
 step-looks RegisterCall.Done a rx h = tt
 step-looks (RegisterCall.Word w) a rx h = tt
+step-looks (RegisterCall.Matched w seen) a rx h = tt
 step-looks (RegisterCall.OpMode m) a rx h = tt
 step-looks (RegisterCall.Refused r) a rx h = tt
 
@@ -89,10 +91,11 @@ unfolding register.askOf
 looks-keeps RegisterCall.Reset b c h = absurd h
 looks-keeps (RegisterCall.Read a) b c h = hear-keeps b c a 4
 looks-keeps (RegisterCall.Write a w) b c h = absurd h
-looks-keeps (RegisterCall.Checked a left) b c h = check-keeps b c a
+looks-keeps (RegisterCall.Checked a seen) b c h = check-keeps b c a
 looks-keeps RegisterCall.Mode b c h = hear-keeps b c (CiCON .address 0) 4
 looks-keeps RegisterCall.Done b c h = nothing-keeps b c
 looks-keeps (RegisterCall.Word w) b c h = nothing-keeps b c
+looks-keeps (RegisterCall.Matched w seen) b c h = nothing-keeps b c
 looks-keeps (RegisterCall.OpMode m) b c h = nothing-keeps b c
 looks-keeps (RegisterCall.Refused r) b c h = nothing-keeps b c
 
@@ -140,9 +143,9 @@ looks-keeps-ram (RamCall.Refused r) b c h = nothing-keeps b c
 -- ---- a scrub step that has not asked for its WRITE
 
 scrub-keeps : (at : ScrubAt) (s : Scrub) (b : List ℕ) (c : Model) → atWrite at ≡ false → spoken (scrub.askAt at (s .entry)) b c .chip ≡ c
-scrub-keeps (ScrubAt.Visit left) s b c n = check-keeps b c (s .entry .address)
-scrub-keeps (ScrubAt.Write read) s b c n = absurd (true≢false n)
-scrub-keeps (ScrubAt.Back read left) s b c n = check-keeps b c (s .entry .address)
+scrub-keeps (ScrubAt.Visit count) s b c n = check-keeps b c (s .entry .address)
+scrub-keeps (ScrubAt.Write read first) s b c n = absurd (true≢false n)
+scrub-keeps (ScrubAt.Back read first count) s b c n = check-keeps b c (s .entry .address)
 scrub-keeps (ScrubAt.Told r) s b c n = nothing-keeps b c
 scrub-keeps (ScrubAt.Refused r) s b c n = nothing-keeps b c
 

@@ -134,31 +134,33 @@ told-run s r [] o e h = let k : Outcome.Scrubbed r ≡ Outcome.Scrubbed o = sym 
 told-run s r (x ∷ xs) o e h = absurd (late-run o (to s (ScrubAt.Refused Refusal.WrongAnswer)) Refusal.WrongAnswer xs refl (rw e at h))
 
 -- from the WRITE on both words are told
-module _ (w : Watch) (word : ℕ) where
+module _ (w : Watch) (word n : ℕ) where
   abbrev Telling : ScrubAt → Type 0
-  Telling (ScrubAt.Visit left) = ⊥
-  Telling (ScrubAt.Write read) = read ≡ word
-  Telling (ScrubAt.Back read left) = read ≡ word
-  Telling (ScrubAt.Told r) = (x : Rewrite) × (r ≡ differs w word x)
+  Telling (ScrubAt.Visit count) = ⊥
+  Telling (ScrubAt.Write read first) = (read ≡ word) × (first ≡ n)
+  Telling (ScrubAt.Back read first count) = (read ≡ word) × (first ≡ n)
+  Telling (ScrubAt.Told r) = (x : Rewrite) × (r ≡ differs w word n x)
   Telling (ScrubAt.Refused r) = Unit {0}
 
   record Rewrites (s : Scrub) : Type 0 where
     pub entry : s .entry ≡ w
     pub at : Telling (s .at)
 
-  module _ (s : Scrub) (e : s .entry ≡ w) (read : ℕ) (h : read ≡ word) where
-    tells : (x : Rewrite) → Rewrites (reports s (differs (s .entry) read x))
-    tells x = record { entry = e; at = (x, rw (e, h)) }
+  module _ (s : Scrub) (e : s .entry ≡ w) (read first : ℕ) (h : (read ≡ word) × (first ≡ n)) where
+    tells : (x : Rewrite) → Rewrites (reports s (differs (s .entry) read first x))
+    tells x = record { entry = e; at = (x, rw (e, h .0, h .1)) }
 
     on : (at : ScrubAt) → Telling at → Rewrites (to s at)
     on at t = record { entry = e; at = t }
 
   step-tells : (at : ScrubAt) (s : Scrub) (a : Answer) (rx : List ℕ) → s .entry ≡ w → Telling at → Rewrites (stepAt at s a rx)
-  step-tells (ScrubAt.Visit left) s a rx e t = absurd t
-  step-tells (ScrubAt.Write read) s a rx e t = by-done Rewrites (λ r. tells s e read t (Rewrite.Unread r)) (doneReply Refusal.SpiRead a (length rx) 0) (on s e read t _ t)
-  step-tells (ScrubAt.Back read left) s a rx e t =
-      by-checked Rewrites (λ r. tells s e read t (Rewrite.Unread r)) (crcReply Refusal.SpiRead (s .entry .address) a rx)
-      (by-if Rewrites (eqb left 0) (λ z. tells s e read t (Rewrite.Unread Refusal.CrcMismatch)) (λ z. on s e read t _ t)) (λ x. tells s e read t (Rewrite.Back x))
+  step-tells (ScrubAt.Visit count) s a rx e t = absurd t
+  step-tells (ScrubAt.Write read first) s a rx e t =
+      by-done Rewrites (λ r. tells s e read first t (Rewrite.Unread r)) (doneReply Refusal.SpiRead a (length rx) 0) (on s e read first t _ t)
+  step-tells (ScrubAt.Back read first count) s a rx e t =
+      by-checked Rewrites (λ r. tells s e read first t (Rewrite.Unread r)) (crcReply Refusal.SpiRead (s .entry .address) a rx)
+      (by-if Rewrites (ltb count 2) (λ z. on s e read first t _ t) (λ z. tells s e read first t (Rewrite.Unread Refusal.CrcMismatch)))
+      (λ x. tells s e read first t (Rewrite.Back x count))
   step-tells (ScrubAt.Told r) s a rx e t = record { entry = e; at = tt }
   step-tells (ScrubAt.Refused r) s a rx e t = record { entry = e; at = tt }
 
@@ -167,43 +169,43 @@ module _ (w : Watch) (word : ℕ) where
   run-tells s [] g = g
   run-tells s (x ∷ xs) g = run-tells (stepAt (s .at) s (x .0) (x .1)) xs (step-tells (s .at) s (x .0) (x .1) (g .entry) (g .at))
 
-  tells-at : (at : ScrubAt) (o : Report) → Telling at → outcomeAt at ≡ Outcome.Scrubbed o → (x : Rewrite) × (o ≡ differs w word x)
-  tells-at (ScrubAt.Visit left) o t h = absurd t
-  tells-at (ScrubAt.Write read) o t h = no cc
-  tells-at (ScrubAt.Back read left) o t h = no cc
+  tells-at : (at : ScrubAt) (o : Report) → Telling at → outcomeAt at ≡ Outcome.Scrubbed o → (x : Rewrite) × (o ≡ differs w word n x)
+  tells-at (ScrubAt.Visit count) o t h = absurd t
+  tells-at (ScrubAt.Write read first) o t h = no cc
+  tells-at (ScrubAt.Back read first count) o t h = no cc
   tells-at (ScrubAt.Told r) o t h = let k : r ≡ o = cc in (t .0, sym k ∙ t .1)
   tells-at (ScrubAt.Refused r) o t h = no cc
 
-module _ (s : Scrub) (word : ℕ) (xs : List (Answer × List ℕ)) (o : Report) where
+module _ (s : Scrub) (word n : ℕ) (xs : List (Answer × List ℕ)) (o : Report) where
   abbrev same : Bool
   same = agrees word (s .entry .wanted) (s .entry .care)
 
-  agreed : same ≡ true → outcomeOf (run stepOf (seen s word) xs) ≡ Outcome.Scrubbed o → o ≡ Report.Agree (s .entry .address)
-  agreed e h = told-run (reports s (Report.Agree (s .entry .address))) _ xs o refl (rw e at h)
+  agreed : same ≡ true → outcomeOf (run stepOf (seen s word n) xs) ≡ Outcome.Scrubbed o → o ≡ Report.Agree (s .entry .address) n
+  agreed e h = told-run (reports s (Report.Agree (s .entry .address) n)) _ xs o refl (rw e at h)
 
   -- the two ways on from a difference
   abbrev asks : Scrub
-  asks = to s (ScrubAt.Write word)
+  asks = to s (ScrubAt.Write word n)
 
   abbrev says : Scrub
-  says = reports s (differs (s .entry) word Rewrite.None)
+  says = reports s (differs (s .entry) word n Rewrite.None)
 
-  goes : same ≡ false → (b : Bool) → s .rewrite ≡ b → seen s word ≡ (if b then asks else says)
+  goes : same ≡ false → (b : Bool) → s .rewrite ≡ b → seen s word n ≡ (if b then asks else says)
   goes e b f =
-      ap (λ (x : Bool). if x then reports s (Report.Agree (s .entry .address)) else if s .rewrite then asks else says) e
+      ap (λ (x : Bool). if x then reports s (Report.Agree (s .entry .address) n) else if s .rewrite then asks else says) e
       ∙ ap (λ (x : Bool). if x then asks else says) f
 
-  differed : same ≡ false → outcomeOf (run stepOf (seen s word) xs) ≡ Outcome.Scrubbed o → (x : Rewrite) × (o ≡ differs (s .entry) word x)
+  differed : same ≡ false → outcomeOf (run stepOf (seen s word n) xs) ≡ Outcome.Scrubbed o → (x : Rewrite) × (o ≡ differs (s .entry) word n x)
   unfolding outcomeOf
   differed e h = go (s .rewrite) refl
     where
-      at : (z : Scrub) → seen s word ≡ z → outcomeOf (run stepOf z xs) ≡ Outcome.Scrubbed o
+      at : (z : Scrub) → seen s word n ≡ z → outcomeOf (run stepOf z xs) ≡ Outcome.Scrubbed o
       at z q = ap (λ (y : Scrub). outcomeOf (run stepOf y xs)) (sym q) ∙ h
 
-      go : (b : Bool) → s .rewrite ≡ b → (x : Rewrite) × (o ≡ differs (s .entry) word x)
+      go : (b : Bool) → s .rewrite ≡ b → (x : Rewrite) × (o ≡ differs (s .entry) word n x)
       go true f =
-          let g : Rewrites (s .entry) word (run stepOf asks xs) = run-tells (s .entry) word asks xs (record { entry = refl; at = refl }) in
-          tells-at (s .entry) word (run stepOf asks xs .at) o (g .at) (at asks (goes e true f))
+          let g : Rewrites (s .entry) word n (run stepOf asks xs) = run-tells (s .entry) word n asks xs (record { entry = refl; at = (refl, refl) }) in
+          tells-at (s .entry) word n (run stepOf asks xs .at) o (g .at) (at asks (goes e true f))
       go false f = (Rewrite.None, told-run says _ xs o refl (at says (goes e false f)))
 
 -- ---- the visit
@@ -232,20 +234,20 @@ module _ (c : Model) (s : Scrub) where
   answered-as at e = ap (λ (x : ScrubAt). spoken (askAt x (s .entry)) body c) e
 
   -- a step that stands at its visit reads the register's word
-  visit-heard : (left : ℕ) (r : Register) → s .at ≡ ScrubAt.Visit left → registerAt (s .entry .address) ≡ Place.Is r → heardBy c s ≡ seen s (wordOf c r % 2 ^ 32)
+  visit-heard : (count : ℕ) (r : Register) → s .at ≡ ScrubAt.Visit count → registerAt (s .entry .address) ≡ Place.Is r → heardBy c s ≡ seen s (wordOf c r % 2 ^ 32) count
   unfolding heardBy stepOf
-  visit-heard left r e is =
+  visit-heard count r e is =
       let a : ℕ = s .entry .address in
       let bytes : List ℕ = checkedBytes (headOf (Ask.Checked a)) (wordOf c r) in
-      ap (λ (h : Heard). stepOf s (h .answer) (h .rx)) (answered-as (ScrubAt.Visit left) e ∙ hear-checked body c a r is (small a r is))
+      ap (λ (h : Heard). stepOf s (h .answer) (h .rx)) (answered-as (ScrubAt.Visit count) e ∙ hear-checked body c a r is (small a r is))
       ∙ ap (λ (x : ScrubAt). stepAt x s Answer.Exchanged bytes) e
-      ∙ ap (λ (x : CheckedWord). onChecked (unread s) x (again left (unread s) (λ k. to s (ScrubAt.Visit k))) (seen s)) (checked-back a (wordOf c r))
+      ∙ ap (λ (x : CheckedWord). onChecked (unread s) x (again count (unread s) (λ k. to s (ScrubAt.Visit k))) (λ w. seen s w count)) (checked-back a (wordOf c r))
 
 pub flip-reported : FlipReported
-flip-reported c s left r e is xs o h =
+flip-reported c s count r e is xs o h =
     let word : ℕ = wordOf c r % 2 ^ 32 in
-    let k : outcomeOf (run stepOf (seen s word) xs) ≡ Outcome.Scrubbed o = ap (λ (z : Scrub). outcomeOf (run stepOf z xs)) (sym (visit-heard c s left r e is)) ∙ h in
-    (λ f. differed s word xs o (flipped-differs (s .entry) word f) k, λ f. agreed s word xs o (whole-agrees (s .entry) word f) k)
+    let k : outcomeOf (run stepOf (seen s word count) xs) ≡ Outcome.Scrubbed o = ap (λ (z : Scrub). outcomeOf (run stepOf z xs)) (sym (visit-heard c s count r e is)) ∙ h in
+    (λ f. differed s word count xs o (flipped-differs (s .entry) word f) k, λ f. agreed s word count xs o (whole-agrees (s .entry) word f) k)
 
 -- ---- the rewrite
 
@@ -267,7 +269,7 @@ takes-bit c g (Register.Control k) n w i t = absurd t
 takes-bit c g (Register.Status k) n w i t = absurd t
 takes-bit c g (Register.Address k) n w i t = absurd t
 
-module _ (c : Model) (s : Scrub) (word : ℕ) (r : Register) (e : s .at ≡ ScrubAt.Write word) (is : registerAt (s .entry .address) ≡ Place.Is r)
+module _ (c : Model) (s : Scrub) (word first : ℕ) (r : Register) (e : s .at ≡ ScrubAt.Write word first) (is : registerAt (s .entry .address) ≡ Place.Is r)
     (h : s .entry .care < 2 ^ 32) where
   abbrev new : ℕ
   new = rewritten word (s .entry .wanted) (s .entry .care)
@@ -277,12 +279,12 @@ module _ (c : Model) (s : Scrub) (word : ℕ) (r : Register) (e : s .at ≡ Scru
   write-heard =
       let a : ℕ = s .entry .address in
       ap (λ (x : Heard). x .chip)
-      (answered-as c s (ScrubAt.Write word) e
+      (answered-as c s (ScrubAt.Write word first) e
       ∙ tell-register (body c s) c a r is (outside a r is) (small a r is) new (rewritten-small word (s .entry .wanted) (s .entry .care) h))
       ∙ heard-chip (doneWriting (registerWritten c r new) .reply) _
 
 pub rewrite-leaves : RewriteLeaves
-rewrite-leaves c g s word r e is h i l t =
+rewrite-leaves c g s word first r e is h i l t =
     let n : Numbered r = subst Known is (known (s .entry .address)) in
-    ap (λ (d : Model). read (bit i) (wordOf d r)) (write-heard c s word r e is h)
+    ap (λ (d : Model). read (bit i) (wordOf d r)) (write-heard c s word first r e is h)
     ∙ takes-bit c g r n _ i t ∙ rewritten-bits word (s .entry .wanted) (s .entry .care) h i l

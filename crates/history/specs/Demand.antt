@@ -59,9 +59,9 @@ world c w es = after es (start c w)
 
 -- a scrub step stands at its WRITE
 abbrev pub atWrite : ScrubAt → Bool
-atWrite (ScrubAt.Visit more) = false
-atWrite (ScrubAt.Write word) = true
-atWrite (ScrubAt.Back word more) = false
+atWrite (ScrubAt.Visit count) = false
+atWrite (ScrubAt.Write read first) = true
+atWrite (ScrubAt.Back read first count) = false
 atWrite (ScrubAt.Told r) = false
 atWrite (ScrubAt.Refused r) = false
 
@@ -362,6 +362,7 @@ abbrev pub Ordinary : Outcome → Type 0
 Ordinary Outcome.Running = ⊥
 Ordinary Outcome.Done = Unit {0}
 Ordinary (Outcome.Word w) = Unit {0}
+Ordinary (Outcome.Checked w mismatches) = Unit {0}
 Ordinary (Outcome.Mode m) = Unit {0}
 Ordinary Outcome.Yes = Unit {0}
 Ordinary Outcome.No = Unit {0}

@@ -5,6 +5,7 @@ use Rattle.history.specs.Demand.{HasNextExactly, PushFails, TransmitFail
 use Rattle.history.specs.Demand.{RequestFails, OldestGoes, RequestSends, TransmitSends, NeverCaused, AnsweredWhole}
 use Rattle.history.specs.Door.{StartsAtDoor}
 use Rattle.history.specs.Scrub.{FlipReported, RewriteLeaves}
+use Rattle.history.specs.Counts.{NeverMismatches, NoneMismatched}
 use Rattle.history.specs.Example.{Begins, Sends, SendsNot}
 
 pub record Demand3 : Type 0 where
@@ -31,6 +32,8 @@ pub record Demand3 : Type 0 where
   pub answeredWhole : AnsweredWhole
   pub flipReported : FlipReported
   pub rewriteLeaves : RewriteLeaves
+  pub neverMismatches : NeverMismatches
+  pub noneMismatched : NoneMismatched
   pub begins : Begins
   pub sends : Sends
   pub sendsNot : SendsNot

@@ -84,6 +84,7 @@ abbrev pub isOver : Outcome → Bool
 isOver Outcome.Running = false
 isOver Outcome.Done = true
 isOver (Outcome.Word w) = true
+isOver (Outcome.Checked w mismatches) = true
 isOver (Outcome.Mode m) = true
 isOver Outcome.Yes = true
 isOver Outcome.No = true

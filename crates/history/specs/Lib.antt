@@ -4,5 +4,6 @@ pub mod History
 pub mod Lists
 pub mod Demand
 pub mod Scrub
+pub mod Counts
 pub mod Example
 pub mod Demand3

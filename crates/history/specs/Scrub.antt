@@ -34,15 +34,15 @@ Flipped w word = (i : ℕ) × (read (bit i) (w .care) ≡ 1) × (read (bit i) wo
 unfoldable pub heardBy : Model → Scrub → Scrub
 heardBy c s = let h : Heard = answered (ofScrub s) c in stepOf s (h .answer) (h .rx)
 
--- the visit's read of register r is answered by the chip, whatever mismatched before; then whatever the step reports in the end is both
--- words if a cared-for bit is flipped, and agreement if none is
+-- the visit's read of register r is answered by the chip, however many mismatched before; then whatever the step reports in the end is
+-- both words if a cared-for bit is flipped, and agreement if none is, with that count
 abbrev pub FlipReported : Type 0
 FlipReported =
-    (c : Model) (s : Scrub) (left : ℕ) (r : Register) → s .at ≡ ScrubAt.Visit left → registerAt (s .entry .address) ≡ Place.Is r
+    (c : Model) (s : Scrub) (count : ℕ) (r : Register) → s .at ≡ ScrubAt.Visit count → registerAt (s .entry .address) ≡ Place.Is r
     → let word : ℕ = wordOf c r % 2 ^ 32 in
     (xs : List (Answer × List ℕ)) (o : Report) → outcomeOf (run stepOf (heardBy c s) xs) ≡ Outcome.Scrubbed o
-    → (Flipped (s .entry) word → (x : Rewrite) × (o ≡ differs (s .entry) word x))
-    × ((Flipped (s .entry) word → ⊥) → o ≡ Report.Agree (s .entry .address))
+    → (Flipped (s .entry) word → (x : Rewrite) × (o ≡ differs (s .entry) word count x))
+    × ((Flipped (s .entry) word → ⊥) → o ≡ Report.Agree (s .entry .address) count)
 
 -- ---- the rewrite
 
@@ -61,6 +61,6 @@ Takes (Register.Address n) i = ⊥
 -- the WRITE is answered by the chip: a cared-for bit that the register takes as written is the wanted one, any other as it was read
 abbrev pub RewriteLeaves : Type 0
 RewriteLeaves =
-    (c : Model) → Reached c → (s : Scrub) (word : ℕ) (r : Register) → s .at ≡ ScrubAt.Write word → registerAt (s .entry .address) ≡ Place.Is r
+    (c : Model) → Reached c → (s : Scrub) (word first : ℕ) (r : Register) → s .at ≡ ScrubAt.Write word first → registerAt (s .entry .address) ≡ Place.Is r
     → s .entry .care < 2 ^ 32 → (i : ℕ) → i < 32 → Takes r i
     → read (bit i) (wordOf (answered (ofScrub s) c .chip) r) ≡ (if flag (bit i) (s .entry .care) then read (bit i) (s .entry .wanted) else read (bit i) word)

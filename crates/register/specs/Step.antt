@@ -1,9 +1,9 @@
 -- The calls on a register as a whole, step by step: where each starts, what it asks, where an answer takes it.
 -- Assumes nothing.
-use Prim.Native.Nat.{ℕ, _-_, _^_}
+use Prim.Native.Nat.{ℕ, _+_, _^_}
 use mathlib.Core.List.{List}
 use lib.ListN.{length}
-use lib.Dec.{eqb, ltb}
+use lib.Dec.{ltb}
 use Rattle.laws.specs.If.{if_then_else_}
 use Rattle.field.specs.Field.{read}
 use Rattle.configuration.specs.CanControl.{CiCON, OPMOD}
@@ -27,16 +27,16 @@ readStart address = addressed address (RegisterCall.Read address)
 abbrev pub writeStart : (address word : ℕ) → RegisterCall
 writeStart address word = addressed address (RegisterCall.Write address word)
 
--- checked read: two mismatches are followed by another try
+-- checked read: none has mismatched yet
 abbrev pub checkedStart : ℕ → RegisterCall
-checkedStart address = addressed address (RegisterCall.Checked address 2)
+checkedStart address = addressed address (RegisterCall.Checked address 0)
 
 -- ---- steps
 
--- a mismatch that so many tries may follow; the last is refused 10
-unfoldable pub afterMismatch : (address left : ℕ) → RegisterCall
-afterMismatch address left =
-    if eqb left 0 then RegisterCall.Refused Refusal.CrcMismatch else RegisterCall.Checked address (left - 1)
+-- a mismatch after so many: the first two are followed by another try, the third is refused 10
+unfoldable pub afterMismatch : (address seen : ℕ) → RegisterCall
+afterMismatch address seen =
+    if ltb seen 2 then RegisterCall.Checked address (seen + 1) else RegisterCall.Refused Refusal.CrcMismatch
 
 -- the mode is OPMOD of CiCON
 abbrev pub afterMode : ℕ → RegisterCall
@@ -47,11 +47,12 @@ unfoldable pub stepOf : RegisterCall → Answer → List ℕ → RegisterCall
 stepOf RegisterCall.Reset a rx = onDone RegisterCall.Refused (doneReply Refusal.SpiWrite a (length rx) 0) RegisterCall.Done
 stepOf (RegisterCall.Read address) a rx = onWord RegisterCall.Refused (wordReply Refusal.SpiRead a rx) RegisterCall.Word
 stepOf (RegisterCall.Write address word) a rx = onDone RegisterCall.Refused (doneReply Refusal.SpiRead a (length rx) 0) RegisterCall.Done
-stepOf (RegisterCall.Checked address left) a rx =
-    onChecked RegisterCall.Refused (crcReply Refusal.SpiRead address a rx) (afterMismatch address left) RegisterCall.Word
+stepOf (RegisterCall.Checked address seen) a rx =
+    onChecked RegisterCall.Refused (crcReply Refusal.SpiRead address a rx) (afterMismatch address seen) (λ w. RegisterCall.Matched w seen)
 stepOf RegisterCall.Mode a rx = onWord RegisterCall.Refused (wordReply Refusal.SpiRead a rx) afterMode
 stepOf RegisterCall.Done a rx = RegisterCall.Refused Refusal.WrongAnswer
 stepOf (RegisterCall.Word w) a rx = RegisterCall.Refused Refusal.WrongAnswer
+stepOf (RegisterCall.Matched w seen) a rx = RegisterCall.Refused Refusal.WrongAnswer
 stepOf (RegisterCall.OpMode m) a rx = RegisterCall.Refused Refusal.WrongAnswer
 stepOf (RegisterCall.Refused r) a rx = RegisterCall.Refused Refusal.WrongAnswer
 
@@ -60,10 +61,11 @@ unfoldable pub askOf : RegisterCall → Ask
 askOf RegisterCall.Reset = Ask.Reset
 askOf (RegisterCall.Read address) = Ask.Read address 4
 askOf (RegisterCall.Write address word) = Ask.Word address word
-askOf (RegisterCall.Checked address left) = Ask.Checked address
+askOf (RegisterCall.Checked address seen) = Ask.Checked address
 askOf RegisterCall.Mode = Ask.Read (CiCON .address 0) 4
 askOf RegisterCall.Done = Ask.Nothing
 askOf (RegisterCall.Word w) = Ask.Nothing
+askOf (RegisterCall.Matched w seen) = Ask.Nothing
 askOf (RegisterCall.OpMode m) = Ask.Nothing
 askOf (RegisterCall.Refused r) = Ask.Nothing
 
@@ -72,9 +74,10 @@ unfoldable pub outcomeOf : RegisterCall → Outcome
 outcomeOf RegisterCall.Reset = Outcome.Running
 outcomeOf (RegisterCall.Read address) = Outcome.Running
 outcomeOf (RegisterCall.Write address word) = Outcome.Running
-outcomeOf (RegisterCall.Checked address left) = Outcome.Running
+outcomeOf (RegisterCall.Checked address seen) = Outcome.Running
 outcomeOf RegisterCall.Mode = Outcome.Running
 outcomeOf RegisterCall.Done = Outcome.Done
 outcomeOf (RegisterCall.Word w) = Outcome.Word w
+outcomeOf (RegisterCall.Matched w seen) = Outcome.Checked w seen
 outcomeOf (RegisterCall.OpMode m) = Outcome.Mode m
 outcomeOf (RegisterCall.Refused r) = Outcome.Refused r

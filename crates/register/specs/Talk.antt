@@ -1,6 +1,6 @@
 -- The calls on a register as the line sees them.
 -- Assumes nothing.
-use Prim.Native.Nat.{ℕ, zero, suc, _^_}
+use Prim.Native.Nat.{ℕ, zero, suc, _+_, _-_, _^_}
 use lib.Dec.{ltb}
 use Rattle.laws.specs.If.{if_then_else_}
 use Rattle.field.specs.Field.{read}
@@ -22,10 +22,11 @@ readTalk address = readWord Refusal.SpiRead address (λ w. done (Outcome.Word w)
 abbrev pub writeTalk : (address word : ℕ) → Talk Outcome
 writeTalk address word = writeWord Refusal.SpiRead address word (done Outcome.Done)
 
--- a checked read; a mismatch is followed by another try while any is left, the last answers 10
-unfoldable pub checkedTalk : (address left : ℕ) → Talk Outcome
-checkedTalk address zero = readChecked Refusal.SpiRead address (refused Refusal.CrcMismatch) (λ w. done (Outcome.Word w))
-checkedTalk address (suc left) = readChecked Refusal.SpiRead address (checkedTalk address left) (λ w. done (Outcome.Word w))
+-- a checked read of which so many exchanges mismatched; another mismatch is followed by another try while any is left, the last answers
+-- 10; the word, with the mismatches before it
+unfoldable pub checkedTalk : (address seen left : ℕ) → Talk Outcome
+checkedTalk address seen zero = readChecked Refusal.SpiRead address (refused Refusal.CrcMismatch) (λ w. done (Outcome.Checked w seen))
+checkedTalk address seen (suc left) = readChecked Refusal.SpiRead address (checkedTalk address (seen + 1) left) (λ w. done (Outcome.Checked w seen))
 
 -- get_op_mode: CiCON is read, and its OPMOD told
 abbrev pub opModeTalk : Talk Outcome
@@ -45,7 +46,7 @@ writeCall address word = atAddress address (writeTalk address word)
 
 -- checked read: three tries
 unfoldable pub checkedCall : ℕ → Talk Outcome
-checkedCall address = atAddress address (checkedTalk address 2)
+checkedCall address = atAddress address (checkedTalk address 0 2)
 
 -- ---- the rest of a call, from where it stands
 
@@ -53,9 +54,10 @@ abbrev pub talkOf : RegisterCall → Talk Outcome
 talkOf RegisterCall.Reset = resetTalk
 talkOf (RegisterCall.Read address) = readTalk address
 talkOf (RegisterCall.Write address word) = writeTalk address word
-talkOf (RegisterCall.Checked address left) = checkedTalk address left
+talkOf (RegisterCall.Checked address seen) = checkedTalk address seen (2 - seen)
 talkOf RegisterCall.Mode = opModeTalk
 talkOf RegisterCall.Done = done Outcome.Done
 talkOf (RegisterCall.Word w) = done (Outcome.Word w)
+talkOf (RegisterCall.Matched w seen) = done (Outcome.Checked w seen)
 talkOf (RegisterCall.OpMode m) = done (Outcome.Mode m)
 talkOf (RegisterCall.Refused r) = refused r

@@ -22,17 +22,18 @@ pub enum RegisterStage {
     Mode,
     Done,
     Word,
+    Matched,
     OpMode,
     Refused,
 }
 
-// Where a call stands, in plain numbers. `m`: the address; `w`: the word to write, or that was read, or the mode; `more`: how many
-// mismatches more are followed by another try. A stage looks only at those that it needs.
+// Where a call stands, in plain numbers. `m`: the address; `w`: the word to write, or that was read, or the mode; `seen`: how many
+// exchanges of a checked read mismatched. A stage looks only at those that it needs.
 pub struct RegisterNumbers {
     pub stage: RegisterStage,
     pub m: u16,
     pub w: u32,
-    pub more: u8,
+    pub seen: u8,
     pub why: Refusal,
 }
 
@@ -43,30 +44,30 @@ fn refused(why: Refusal) -> RegisterNumbers
         stage: RegisterStage::Refused,
         m: 0,
         w: 0,
-        more: 0,
+        seen: 0,
         why,
     }
 }
 
 // A call that is not refused: what `why` is says nothing.
-fn at_stage(stage: RegisterStage, m: u16, w: u32, more: u8) -> RegisterNumbers
-    ensures { λ r. ⌜ registerOf r ≡ atStage stage m w more Refusal.WrongAnswer ⌝ }
+fn at_stage(stage: RegisterStage, m: u16, w: u32, seen: u8) -> RegisterNumbers
+    ensures { λ r. ⌜ registerOf r ≡ atStage stage m w seen Refusal.WrongAnswer ⌝ }
 {
     RegisterNumbers {
         stage,
         m,
         w,
-        more,
+        seen,
         why: Refusal::WrongAnswer,
     }
 }
 
 // An address has 12 bits in a command, and one that is wider is refused before any exchange.
-fn at_address(address: u32, stage: RegisterStage, w: u32, more: u8) -> RegisterNumbers
-    ensures { λ r. ⌜ registerOf r ≡ addressed address (atStage stage address w more Refusal.WrongAnswer) ⌝ }
+fn at_address(address: u32, stage: RegisterStage, w: u32) -> RegisterNumbers
+    ensures { λ r. ⌜ registerOf r ≡ addressed address (atStage stage address w 0 Refusal.WrongAnswer) ⌝ }
 {
     if address < 0x1000 {
-        at_stage(stage, address as u16, w, more)
+        at_stage(stage, address as u16, w, 0)
     } else {
         refused(Refusal::BadSetting)
     }
@@ -81,20 +82,20 @@ pub fn reset_start() -> RegisterNumbers
 pub fn read_start(address: u32) -> RegisterNumbers
     ensures { λ r. ⌜ registerOf r ≡ readStart address ⌝ }
 {
-    at_address(address, RegisterStage::Read, 0, 0)
+    at_address(address, RegisterStage::Read, 0)
 }
 
 pub fn write_start(address: u32, word: u32) -> RegisterNumbers
     ensures { λ r. ⌜ registerOf r ≡ writeStart address word ⌝ }
 {
-    at_address(address, RegisterStage::Write, word, 0)
+    at_address(address, RegisterStage::Write, word)
 }
 
-// Three tries: two mismatches are followed by another.
+// No exchange has mismatched yet.
 pub fn checked_start(address: u32) -> RegisterNumbers
     ensures { λ r. ⌜ registerOf r ≡ checkedStart address ⌝ }
 {
-    at_address(address, RegisterStage::Checked, 0, 2)
+    at_address(address, RegisterStage::Checked, 0)
 }
 
 pub fn get_op_mode_start() -> RegisterNumbers
@@ -126,13 +127,14 @@ pub fn register_ask(c: RegisterNumbers) -> Ask
     }
 }
 
-fn after_mismatch(m: u16, more: u8) -> RegisterNumbers
-    ensures { λ r. ⌜ registerOf r ≡ afterMismatch m more ⌝ }
+// Three tries: two mismatches are followed by another.
+fn after_mismatch(m: u16, seen: u8) -> RegisterNumbers
+    ensures { λ r. ⌜ registerOf r ≡ afterMismatch m seen ⌝ }
 {
-    if more == 0 {
-        refused(Refusal::CrcMismatch)
+    if seen < 2 {
+        at_stage(RegisterStage::Checked, m, 0, seen + 1)
     } else {
-        at_stage(RegisterStage::Checked, m, 0, more - 1)
+        refused(Refusal::CrcMismatch)
     }
 }
 
@@ -163,12 +165,12 @@ fn when_mode_read(reply: OneWord) -> RegisterNumbers
     }
 }
 
-fn when_checked(m: u16, more: u8, reply: CheckedWord) -> RegisterNumbers
-    ensures { λ r. ⌜ registerOf r ≡ onChecked RegisterCall.Refused reply (afterMismatch m more) RegisterCall.Word ⌝ }
+fn when_checked(m: u16, seen: u8, reply: CheckedWord) -> RegisterNumbers
+    ensures { λ r. ⌜ registerOf r ≡ onChecked RegisterCall.Refused reply (afterMismatch m seen) (λ w. RegisterCall.Matched w seen) ⌝ }
 {
     match reply {
-        CheckedWord::Word(w) => at_stage(RegisterStage::Word, 0, w, 0),
-        CheckedWord::Mismatch => after_mismatch(m, more),
+        CheckedWord::Word(w) => at_stage(RegisterStage::Matched, 0, w, seen),
+        CheckedWord::Mismatch => after_mismatch(m, seen),
         CheckedWord::Bad(r) => refused(r),
     }
 }
@@ -184,7 +186,7 @@ pub fn register_step(c: RegisterNumbers, answer: Answer, rx: &[u8]) -> RegisterN
         RegisterStage::Write => ended(spi::done_reply(Refusal::SpiRead, answer, rx.len(), 0)),
         RegisterStage::Checked => when_checked(
             c.m,
-            c.more,
+            c.seen,
             spi::crc_reply(Refusal::SpiRead, c.m, answer, rx),
         ),
         RegisterStage::Mode => when_mode_read(spi::word_reply(Refusal::SpiRead, answer, rx)),
@@ -200,6 +202,7 @@ pub fn register_outcome(c: RegisterNumbers) -> Outcome
     match stage {
         RegisterStage::Done => Outcome::Done,
         RegisterStage::Word => Outcome::Word(c.w),
+        RegisterStage::Matched => Outcome::Checked(c.w, c.seen),
         RegisterStage::OpMode => Outcome::Mode(c.w),
         RegisterStage::Refused => Outcome::Refused(why),
         _ => Outcome::Running,

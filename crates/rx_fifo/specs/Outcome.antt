@@ -74,6 +74,7 @@ abbrev pub roomFor : ℕ → Outcome → Outcome
 roomFor n Outcome.Running = Outcome.Running
 roomFor n Outcome.Done = Outcome.Done
 roomFor n (Outcome.Word w) = Outcome.Word w
+roomFor n (Outcome.Checked w mismatches) = Outcome.Checked w mismatches
 roomFor n (Outcome.Mode m) = Outcome.Mode m
 roomFor n Outcome.Yes = Outcome.Yes
 roomFor n Outcome.No = Outcome.No

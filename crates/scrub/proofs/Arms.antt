@@ -1,9 +1,9 @@
 -- A mismatch under a map; what the stages that a `match` does not name have in common. A stage's tag is its place in the enum.
 -- Assumes nothing.
-use Prim.Native.Nat.{ℕ, _-_}
+use Prim.Native.Nat.{ℕ, _+_}
 use mathlib.Core.Path.{_≡_, refl, ap₂, _∙_}
 use mathlib.Core.List.{List, [], _∷_}
-use lib.Dec.{eqb}
+use lib.Dec.{ltb}
 use Rattle.laws.specs.If.{if_then_else_}
 use types.Run.{OneOf, miss}
 use denote.Enum.Declared.{tagOf}
@@ -24,20 +24,26 @@ use Rattle.scrub.proofs.ScrubStage.{the-type}
 module _ (c : ScrubNumbers) where
   -- another try at the stage, or the end at the other
   again-at : (stage lost : ScrubStage) (bad : Refusal → Scrub) (next : ℕ → Scrub)
-      → ((r : Refusal) → scrubOf (telling c lost (c .w) 0 r) ≡ bad r) → ((k : ℕ) → scrubOf (standing c stage k (c .w) Refusal.WrongAnswer) ≡ next k)
-      → scrubOf (again (c .more) (λ r. telling c lost (c .w) 0 r) (λ k. standing c stage k (c .w) Refusal.WrongAnswer)) ≡ again (c .more) bad next
+      → ((r : Refusal) → scrubOf (telling c lost (c .first) (c .w) 0 r) ≡ bad r)
+      → ((k : ℕ) → scrubOf (standing c stage (c .first) k (c .w) Refusal.WrongAnswer) ≡ next k)
+      → scrubOf (again (c .count) (λ r. telling c lost (c .first) (c .w) 0 r) (λ k. standing c stage (c .first) k (c .w) Refusal.WrongAnswer))
+      ≡ again (c .count) bad next
   again-at stage lost bad next b n =
-      if-ap scrubOf (eqb (c .more) 0) (telling c lost (c .w) 0 Refusal.CrcMismatch) (standing c stage (c .more - 1) (c .w) Refusal.WrongAnswer)
-      ∙ ap₂ (λ (x y : Scrub). if eqb (c .more) 0 then x else y) (b Refusal.CrcMismatch) (n (c .more - 1))
+      if-ap scrubOf (ltb (c .count) 2) (standing c stage (c .first) (c .count + 1) (c .w) Refusal.WrongAnswer)
+      (telling c lost (c .first) (c .w) 0 Refusal.CrcMismatch)
+      ∙ ap₂ (λ (x y : Scrub). if ltb (c .count) 2 then x else y) (n (c .count + 1)) (b Refusal.CrcMismatch)
 
-  pub visit-again : scrubOf (again (c .more) (λ r. telling c ScrubStage.Unread (c .w) 0 r) (λ k. standing c ScrubStage.Visit k (c .w) Refusal.WrongAnswer))
-      ≡ again (c .more) (unread (scrubOf c)) (λ k. to (scrubOf c) (ScrubAt.Visit k))
+  pub visit-again :
+      scrubOf (again (c .count) (λ r. telling c ScrubStage.Unread (c .first) (c .w) 0 r) (λ k. standing c ScrubStage.Visit (c .first) k (c .w) Refusal.WrongAnswer))
+      ≡ again (c .count) (unread (scrubOf c)) (λ k. to (scrubOf c) (ScrubAt.Visit k))
   visit-again = again-at ScrubStage.Visit ScrubStage.Unread (unread (scrubOf c)) (λ k. to (scrubOf c) (ScrubAt.Visit k)) (λ r. refl) (λ k. refl)
 
-  pub back-again : scrubOf (again (c .more) (λ r. telling c ScrubStage.Unwritten (c .w) 0 r) (λ k. standing c ScrubStage.Back k (c .w) Refusal.WrongAnswer))
-      ≡ again (c .more) (unwritten (scrubOf c) (c .w)) (λ k. to (scrubOf c) (ScrubAt.Back (c .w) k))
+  pub back-again :
+      scrubOf (again (c .count) (λ r. telling c ScrubStage.Unwritten (c .first) (c .w) 0 r) (λ k. standing c ScrubStage.Back (c .first) k (c .w) Refusal.WrongAnswer))
+      ≡ again (c .count) (unwritten (scrubOf c) (c .w) (c .first)) (λ k. to (scrubOf c) (ScrubAt.Back (c .w) (c .first) k))
   back-again =
-      again-at ScrubStage.Back ScrubStage.Unwritten (unwritten (scrubOf c) (c .w)) (λ k. to (scrubOf c) (ScrubAt.Back (c .w) k)) (λ r. refl) (λ k. refl)
+      again-at ScrubStage.Back ScrubStage.Unwritten (unwritten (scrubOf c) (c .w) (c .first)) (λ k. to (scrubOf c) (ScrubAt.Back (c .w) (c .first) k)) (λ r. refl)
+      (λ k. refl)
 
 -- ---- the other stages
 
@@ -49,7 +55,7 @@ over = 3 ∷ 4 ∷ 5 ∷ 6 ∷ 7 ∷ 8 ∷ []
 
 module _ (c : ScrubNumbers) (a : Answer) (rx : List ℕ) where
   abbrev late : Scrub
-  late = scrubOf (standing c ScrubStage.Refused 0 0 Refusal.WrongAnswer)
+  late = scrubOf (standing c ScrubStage.Refused 0 0 0 Refusal.WrongAnswer)
 
   pub others : (s : ScrubStage)
       → (OneOf over (tagOf the-type s) → late ≡ stepAt (atStage s c) (scrubOf c) a rx)

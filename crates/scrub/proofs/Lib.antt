@@ -2,4 +2,5 @@ mod Arms
 pub mod Runs
 pub mod Words
 pub mod Visits
+mod Counts
 pub mod Laws

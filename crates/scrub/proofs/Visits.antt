@@ -34,12 +34,12 @@ no e = absurd (omega (arith, e))
 -- an answer to a step that runs: it reports of its entry, or runs on
 by-step : (P : Scrub → Type 0) (at : ScrubAt) (s : Scrub) (a : Answer) (rx : List ℕ) → outcomeAt at ≡ Outcome.Running
     → ((r : Report) → addressOf r ≡ s .entry .address → P (reports s r)) → ((k : ScrubAt) → outcomeAt k ≡ Outcome.Running → P (to s k)) → P (stepAt at s a rx)
-by-step P (ScrubAt.Visit left) s a rx e f g =
-    by-checked P (λ r. f _ refl) (crcReply Refusal.SpiRead (s .entry .address) a rx) (by-if P (eqb left 0) (λ z. f _ refl) (λ z. g _ refl))
+by-step P (ScrubAt.Visit count) s a rx e f g =
+    by-checked P (λ r. f _ refl) (crcReply Refusal.SpiRead (s .entry .address) a rx) (by-if P (ltb count 2) (λ z. g _ refl) (λ z. f _ refl))
     (λ w. by-if P (agrees w (s .entry .wanted) (s .entry .care)) (λ z. f _ refl) (λ z. by-if P (s .rewrite) (λ y. g _ refl) (λ y. f _ refl)))
-by-step P (ScrubAt.Write read) s a rx e f g = by-done P (λ r. f _ refl) (doneReply Refusal.SpiRead a (length rx) 0) (g _ refl)
-by-step P (ScrubAt.Back read left) s a rx e f g =
-    by-checked P (λ r. f _ refl) (crcReply Refusal.SpiRead (s .entry .address) a rx) (by-if P (eqb left 0) (λ z. f _ refl) (λ z. g _ refl)) (λ w. f _ refl)
+by-step P (ScrubAt.Write read first) s a rx e f g = by-done P (λ r. f _ refl) (doneReply Refusal.SpiRead a (length rx) 0) (g _ refl)
+by-step P (ScrubAt.Back read first count) s a rx e f g =
+    by-checked P (λ r. f _ refl) (crcReply Refusal.SpiRead (s .entry .address) a rx) (by-if P (ltb count 2) (λ z. g _ refl) (λ z. f _ refl)) (λ w. f _ refl)
 by-step P (ScrubAt.Told r) s a rx e f g = no cc
 by-step P (ScrubAt.Refused r) s a rx e f g = no cc
 
@@ -75,9 +75,9 @@ module _ (p q : ℕ) (w : Watch) where
   goes-at : (at : ScrubAt) (s : Scrub) (a : Answer) (rx : List ℕ) → s .at ≡ at → Going p q w s → Going p q w (stepAt at s a rx)
   goes-at (ScrubAt.Told r) s a rx is g = ended s g
   goes-at (ScrubAt.Refused r) s a rx is g = ended s g
-  goes-at (ScrubAt.Visit left) s a rx is g = runs (ScrubAt.Visit left) s a rx refl (g .waits (ap outcomeAt is)) g
-  goes-at (ScrubAt.Write read) s a rx is g = runs (ScrubAt.Write read) s a rx refl (g .waits (ap outcomeAt is)) g
-  goes-at (ScrubAt.Back read left) s a rx is g = runs (ScrubAt.Back read left) s a rx refl (g .waits (ap outcomeAt is)) g
+  goes-at (ScrubAt.Visit count) s a rx is g = runs (ScrubAt.Visit count) s a rx refl (g .waits (ap outcomeAt is)) g
+  goes-at (ScrubAt.Write read first) s a rx is g = runs (ScrubAt.Write read first) s a rx refl (g .waits (ap outcomeAt is)) g
+  goes-at (ScrubAt.Back read first count) s a rx is g = runs (ScrubAt.Back read first count) s a rx refl (g .waits (ap outcomeAt is)) g
 
   goes : (s : Scrub) (xs : List (Answer × List ℕ)) → Going p q w s → Going p q w (run stepOf s xs)
   unfolding run stepOf
@@ -90,7 +90,7 @@ pub record Late (p : ℕ) (s : Scrub) : Type 0 where
   pub why : Refusal
   pub at : s .at ≡ ScrubAt.Refused why
 
-late : (p : ℕ) (s : Scrub) → Late p s → (xs : List (Answer × List ℕ)) → Late p (run stepOf s xs)
+pub late : (p : ℕ) (s : Scrub) → Late p s → (xs : List (Answer × List ℕ)) → Late p (run stepOf s xs)
 unfolding run stepOf
 late p s g [] = g
 late p s g (x ∷ xs) = rw (g .at) (late p (to s (ScrubAt.Refused Refusal.WrongAnswer)) (record { place = g .place; why = Refusal.WrongAnswer; at = refl }) xs)
@@ -102,7 +102,7 @@ module _ (p : ℕ) (ws : List Watch) (rewrite : Bool) where
   q = placeIn p (length ws) + 1
 
   -- it is refused, or visits the entry that is due
-  by-start : (Q : Scrub → Type 0) → ((s : Scrub) → Late p s → Q s) → ((s : Scrub) → Going p q (entryIn p ws) s → s .at ≡ ScrubAt.Visit 2 → Q s) → Q (scrubStart p ws rewrite)
+  by-start : (Q : Scrub → Type 0) → ((s : Scrub) → Late p s → Q s) → ((s : Scrub) → Going p q (entryIn p ws) s → s .at ≡ ScrubAt.Visit 0 → Q s) → Q (scrubStart p ws rewrite)
   unfolding startOf begins
   by-start Q f g =
       by-if (λ (b : Begun). Q (begins b rewrite)) (eqb (length ws) 0) (λ e. f _ (record { place = refl; why = Refusal.EmptyList; at = refl }))
@@ -114,7 +114,7 @@ module _ (p : ℕ) (ws : List Watch) (rewrite : Bool) where
   by-run : (xs : List (Answer × List ℕ)) (Q : Scrub → Type 0) → ((s : Scrub) → Late p s → Q s) → ((s : Scrub) → Going p q (entryIn p ws) s → Q s) → Q (stepped p ws rewrite xs)
   by-run xs Q f g = by-start (λ s. Q (run stepOf s xs)) (λ s l. f _ (late p s l xs)) (λ s l e. g _ (goes p q (entryIn p ws) s xs l))
 
-late-told : (s : Scrub) (r : Report) (w : Refusal) → s .at ≡ ScrubAt.Refused w → outcomeOf s ≡ Outcome.Scrubbed r → _≡_ {A = ℕ} 0 1
+pub late-told : (s : Scrub) (r : Report) (w : Refusal) → s .at ≡ ScrubAt.Refused w → outcomeOf s ≡ Outcome.Scrubbed r → _≡_ {A = ℕ} 0 1
 unfolding outcomeOf
 late-told s r w e h = let k : Outcome.Refused w ≡ Outcome.Scrubbed r = ap outcomeAt (sym e) ∙ h in cc
 

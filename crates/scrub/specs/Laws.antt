@@ -11,9 +11,11 @@ use Rattle.field.specs.Field.{bit, read, flag}
 use Rattle.spi.specs.declared.refusal.Refusal.{Refusal}
 use Rattle.spi.specs.declared.ask.Answer.{Answer}
 use Rattle.spi.specs.Talk.{refused, done, run, Within}
+use Rattle.call.specs.declared.Rewrite.{Rewrite}
 use Rattle.call.specs.declared.Report.{Report}
 use Rattle.call.specs.declared.Outcome.{Outcome}
 use Rattle.register.specs.Talk.{checkedTalk}
+use Rattle.register.specs.Laws.{checkedAfter}
 use Rattle.watch.specs.declared.Watch.{Watch}
 use Rattle.watch.specs.Watch.{placeIn, entryIn}
 use Rattle.scrub.specs.Scrub.{Scrub}
@@ -33,11 +35,33 @@ RewrittenBits =
     (word wanted care : ℕ) → care < 2 ^ 32 → (i : ℕ) → i < 32
     → read (bit i) (rewritten word wanted care) ≡ (if flag (bit i) care then read (bit i) wanted else read (bit i) word)
 
--- ---- the checked read
+-- a step over a list, from a place on, after these answers
+abbrev pub stepped : (place : ℕ) → List Watch → (rewrite : Bool) → List (Answer × List ℕ) → Scrub
+stepped p ws rewrite xs = run stepOf (scrubStart p ws rewrite) xs
+
+-- ---- the checked reads
 
 -- it is that of `checked_read`
 abbrev pub ChecksAsRead : Type 0
-ChecksAsRead = (address left : ℕ) → checkedBy address left refused (λ w. done (Outcome.Word w)) ≡ checkedTalk address left
+ChecksAsRead = (address count left : ℕ) → checkedBy address count left refused (λ w n. done (Outcome.Checked w n)) ≡ checkedTalk address count left
+
+-- what the report tells of the checked reads is what `checked_read` of the address gives for the answers to them, the mismatches
+-- counted too: all the answers where there was no rewrite, otherwise those before the answer x to the WRITE, and those behind it, if any
+abbrev pub Tells : Report → List (Answer × List ℕ) → Type 0
+Tells (Report.Agree address first) xs = (w : ℕ) × (checkedAfter address xs ≡ Outcome.Checked w first)
+Tells (Report.Differ address read wanted first Rewrite.None) xs = checkedAfter address xs ≡ Outcome.Checked read first
+Tells (Report.Differ address read wanted first (Rewrite.Back w count)) xs =
+    (vs ys : List (Answer × List ℕ)) × (x : Answer × List ℕ) × (xs ≡ vs ++ (x ∷ ys))
+    × (checkedAfter address vs ≡ Outcome.Checked read first) × (checkedAfter address ys ≡ Outcome.Checked w count)
+Tells (Report.Differ address read wanted first (Rewrite.Unread r)) xs =
+    (vs ys : List (Answer × List ℕ)) × (x : Answer × List ℕ) × (xs ≡ vs ++ (x ∷ ys))
+    × (checkedAfter address vs ≡ Outcome.Checked read first) × ((ys ≡ [] → ⊥) → checkedAfter address ys ≡ Outcome.Refused r)
+Tells (Report.Unread address r) xs = checkedAfter address xs ≡ Outcome.Refused r
+
+abbrev pub TellsAsRead : Type 0
+TellsAsRead =
+    (p : ℕ) (ws : List Watch) (rewrite : Bool) (xs : List (Answer × List ℕ)) (r : Report)
+    → outcomeOf (stepped p ws rewrite xs) ≡ Outcome.Scrubbed r → Tells r xs
 
 -- seven exchanges at most: three of the visit, the write, three of the read-back
 abbrev pub Seven : Type 0
@@ -45,14 +69,10 @@ Seven = (p : ℕ) (ws : List Watch) (rewrite : Bool) → Within 7 (scrubCall p w
 
 -- ---- the place
 
--- a step over a list, from a place on, after these answers
-abbrev pub stepped : (place : ℕ) → List Watch → (rewrite : Bool) → List (Answer × List ℕ) → Scrub
-stepped p ws rewrite xs = run stepOf (scrubStart p ws rewrite) xs
-
 -- the address that a report is of
 abbrev pub addressOf : Report → ℕ
-addressOf (Report.Agree address) = address
-addressOf (Report.Differ address word wanted x) = address
+addressOf (Report.Agree address first) = address
+addressOf (Report.Differ address word wanted first x) = address
 addressOf (Report.Unread address r) = address
 
 -- a step that reports has visited the entry that was due, and moved on to the place behind it
@@ -97,6 +117,7 @@ pub record Laws : Type 0 where
   pub agreesBits : AgreesBits
   pub rewrittenBits : RewrittenBits
   pub checksAsRead : ChecksAsRead
+  pub tellsAsRead : TellsAsRead
   pub seven : Seven
   pub moves : Moves
   pub waits : Waits

@@ -6,12 +6,12 @@ use Rattle.spi.specs.declared.refusal.Refusal.{Refusal}
 use Rattle.call.specs.declared.Report.{Report}
 use Rattle.watch.specs.declared.Watch.{Watch}
 
--- the visit's checked read, with how many mismatches more are followed by another try; the rewrite, with the word that was read; the
--- checked read-back, with that word and likewise; what was reported; a refusal
+-- the visit's checked read, with how many of its exchanges mismatched; the rewrite, with the word that was read and its mismatches; the
+-- checked read-back, with these and its own; what was reported; a refusal
 pub data ScrubAt : Type 0 where
-  Visit : (left : ℕ) → ScrubAt
-  Write : (read : ℕ) → ScrubAt
-  Back : (read left : ℕ) → ScrubAt
+  Visit : (count : ℕ) → ScrubAt
+  Write : (read first : ℕ) → ScrubAt
+  Back : (read first count : ℕ) → ScrubAt
   Told : Report → ScrubAt
   Refused : Refusal → ScrubAt
 

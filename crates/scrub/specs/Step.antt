@@ -1,10 +1,10 @@
--- Document 02, request 4: a scrub step, exchange by exchange: where it starts, what it asks, where an answer takes it.
+-- Document 02, requests 4 and 5: a scrub step, exchange by exchange: where it starts, what it asks, where an answer takes it.
 -- Assumes nothing.
-use Prim.Native.Nat.{ℕ, _-_, _^_}
+use Prim.Native.Nat.{ℕ, _+_, _-_, _^_}
 use mathlib.Core.Bool.{Bool}
 use mathlib.Core.List.{List}
 use lib.Bits.{bitAnd, bitOr}
-use lib.Dec.{eqb}
+use lib.Dec.{eqb, ltb}
 use lib.ListN.{length}
 use Rattle.laws.specs.If.{if_then_else_}
 use Rattle.spi.specs.declared.refusal.Refusal.{Refusal}
@@ -33,9 +33,9 @@ rewritten read wanted care = bitOr (bitAnd read (2 ^ 32 - 1 - care)) (bitAnd wan
 
 -- ---- starts
 
--- a visit is a checked read: two mismatches are followed by another try
+-- a visit is a checked read, of which none has mismatched yet
 abbrev pub dueAt : Due → ScrubAt
-dueAt Due.Visit = ScrubAt.Visit 2
+dueAt Due.Visit = ScrubAt.Visit 0
 dueAt (Due.Refused r) = ScrubAt.Refused r
 
 -- the entry that a step begins with
@@ -60,37 +60,38 @@ to s at = record { place = s .place; next = s .next; entry = s .entry; rewrite =
 abbrev pub reports : Scrub → Report → Scrub
 reports s r = record { place = s .next; next = s .next; entry = s .entry; rewrite = s .rewrite; at = ScrubAt.Told r }
 
--- the address with both words, and what came of the rewrite
-abbrev pub differs : Watch → (read : ℕ) → Rewrite → Report
-differs w read x = Report.Differ (w .address) read (w .wanted) x
+-- the address with both words, the visit's mismatches, and what came of the rewrite
+abbrev pub differs : Watch → (read first : ℕ) → Rewrite → Report
+differs w read first x = Report.Differ (w .address) read (w .wanted) first x
 
--- the visit's word: agreement, or both words; where it was told so, the rewrite comes first
-abbrev pub seen : Scrub → (read : ℕ) → Scrub
-seen s read =
-    if agrees read (s .entry .wanted) (s .entry .care) then reports s (Report.Agree (s .entry .address))
-    else if s .rewrite then to s (ScrubAt.Write read)
-    else reports s (differs (s .entry) read Rewrite.None)
+-- the visit's word, with the mismatches before it: agreement, or both words; where it was told so, the rewrite comes first
+abbrev pub seen : Scrub → (read first : ℕ) → Scrub
+seen s read first =
+    if agrees read (s .entry .wanted) (s .entry .care) then reports s (Report.Agree (s .entry .address) first)
+    else if s .rewrite then to s (ScrubAt.Write read first)
+    else reports s (differs (s .entry) read first Rewrite.None)
 
 -- the visit's read was refused: that is the visit
 abbrev pub unread : Scrub → Refusal → Scrub
 unread s r = reports s (Report.Unread (s .entry .address) r)
 
 -- so was the rewrite, or the read-back
-abbrev pub unwritten : Scrub → (read : ℕ) → Refusal → Scrub
-unwritten s read r = reports s (differs (s .entry) read (Rewrite.Unread r))
+abbrev pub unwritten : Scrub → (read first : ℕ) → Refusal → Scrub
+unwritten s read first r = reports s (differs (s .entry) read first (Rewrite.Unread r))
 
--- a mismatch that so many tries may follow; the last is refused 10
-abbrev pub again : {A : Type 0} → (left : ℕ) → (Refusal → A) → (ℕ → A) → A
-again left bad next = if eqb left 0 then bad Refusal.CrcMismatch else next (left - 1)
+-- a mismatch after so many: the first two are followed by another try, the third is refused 10
+abbrev pub again : {A : Type 0} → (count : ℕ) → (Refusal → A) → (ℕ → A) → A
+again count bad next = if ltb count 2 then next (count + 1) else bad Refusal.CrcMismatch
 
 -- after an answer; one that comes after the end is refused 26, and the scrubber stays where it is
 abbrev pub stepAt : ScrubAt → Scrub → Answer → List ℕ → Scrub
-stepAt (ScrubAt.Visit left) s a rx =
-    onChecked (unread s) (crcReply Refusal.SpiRead (s .entry .address) a rx) (again left (unread s) (λ k. to s (ScrubAt.Visit k))) (seen s)
-stepAt (ScrubAt.Write read) s a rx = onDone (unwritten s read) (doneReply Refusal.SpiRead a (length rx) 0) (to s (ScrubAt.Back read 2))
-stepAt (ScrubAt.Back read left) s a rx =
-    onChecked (unwritten s read) (crcReply Refusal.SpiRead (s .entry .address) a rx)
-    (again left (unwritten s read) (λ k. to s (ScrubAt.Back read k))) (λ w. reports s (differs (s .entry) read (Rewrite.Back w)))
+stepAt (ScrubAt.Visit count) s a rx =
+    onChecked (unread s) (crcReply Refusal.SpiRead (s .entry .address) a rx) (again count (unread s) (λ k. to s (ScrubAt.Visit k))) (λ w. seen s w count)
+stepAt (ScrubAt.Write read first) s a rx =
+    onDone (unwritten s read first) (doneReply Refusal.SpiRead a (length rx) 0) (to s (ScrubAt.Back read first 0))
+stepAt (ScrubAt.Back read first count) s a rx =
+    onChecked (unwritten s read first) (crcReply Refusal.SpiRead (s .entry .address) a rx)
+    (again count (unwritten s read first) (λ k. to s (ScrubAt.Back read first k))) (λ w. reports s (differs (s .entry) read first (Rewrite.Back w count)))
 stepAt (ScrubAt.Told r) s a rx = to s (ScrubAt.Refused Refusal.WrongAnswer)
 stepAt (ScrubAt.Refused r) s a rx = to s (ScrubAt.Refused Refusal.WrongAnswer)
 
@@ -99,9 +100,9 @@ stepOf s a rx = stepAt (s .at) s a rx
 
 -- what is asked
 abbrev pub askAt : ScrubAt → Watch → Ask
-askAt (ScrubAt.Visit left) w = Ask.Checked (w .address)
-askAt (ScrubAt.Write read) w = Ask.Word (w .address) (rewritten read (w .wanted) (w .care))
-askAt (ScrubAt.Back read left) w = Ask.Checked (w .address)
+askAt (ScrubAt.Visit count) w = Ask.Checked (w .address)
+askAt (ScrubAt.Write read first) w = Ask.Word (w .address) (rewritten read (w .wanted) (w .care))
+askAt (ScrubAt.Back read first count) w = Ask.Checked (w .address)
 askAt (ScrubAt.Told r) w = Ask.Nothing
 askAt (ScrubAt.Refused r) w = Ask.Nothing
 
@@ -110,9 +111,9 @@ askOf s = askAt (s .at) (s .entry)
 
 -- how the step ended, if it did
 abbrev pub outcomeAt : ScrubAt → Outcome
-outcomeAt (ScrubAt.Visit left) = Outcome.Running
-outcomeAt (ScrubAt.Write read) = Outcome.Running
-outcomeAt (ScrubAt.Back read left) = Outcome.Running
+outcomeAt (ScrubAt.Visit count) = Outcome.Running
+outcomeAt (ScrubAt.Write read first) = Outcome.Running
+outcomeAt (ScrubAt.Back read first count) = Outcome.Running
 outcomeAt (ScrubAt.Told r) = Outcome.Scrubbed r
 outcomeAt (ScrubAt.Refused r) = Outcome.Refused r
 

@@ -32,12 +32,13 @@ pub enum ScrubStage {
 }
 
 // Where a step stands, in plain numbers. `place`: the scrubber's; `next`: the place behind the entry; `m`, `a`, `b`: the entry's
-// address, wanted word and care mask; `more`: how many mismatches more are followed by another try; `w`: the word that was read; `t`:
-// the one that was read back. A stage looks only at those that it needs.
+// address, wanted word and care mask; `count`: how many exchanges of the checked read under way, or of the last, mismatched; `w`: the
+// word that was read, and `first` the visit's count; `t`: the one that was read back. A stage looks only at those that it needs.
 pub struct ScrubNumbers {
     pub stage: ScrubStage,
     pub rewrite: bool,
-    pub more: u8,
+    pub first: u8,
+    pub count: u8,
     pub m: u16,
     pub w: u32,
     pub a: u32,
@@ -61,13 +62,21 @@ fn word_back(read: u32, wanted: u32, care: u32) -> u32
 }
 
 // The step at another stage; the scrubber stays.
-fn stands(c: ScrubNumbers, stage: ScrubStage, more: u8, w: u32, why: Refusal) -> ScrubNumbers
-    ensures { λ r. ⌜ r ≡ standing c stage more w why ⌝ }
+fn stands(
+    c: ScrubNumbers,
+    stage: ScrubStage,
+    first: u8,
+    count: u8,
+    w: u32,
+    why: Refusal,
+) -> ScrubNumbers
+    ensures { λ r. ⌜ r ≡ standing c stage first count w why ⌝ }
 {
     ScrubNumbers {
         stage: stage,
         rewrite: c.rewrite,
-        more: more,
+        first: first,
+        count: count,
         m: c.m,
         w: w,
         a: c.a,
@@ -80,13 +89,21 @@ fn stands(c: ScrubNumbers, stage: ScrubStage, more: u8, w: u32, why: Refusal) ->
 }
 
 // The step reports; the scrubber moves on.
-fn tells(c: ScrubNumbers, stage: ScrubStage, w: u32, t: u32, why: Refusal) -> ScrubNumbers
-    ensures { λ r. ⌜ r ≡ telling c stage w t why ⌝ }
+fn tells(
+    c: ScrubNumbers,
+    stage: ScrubStage,
+    first: u8,
+    w: u32,
+    t: u32,
+    why: Refusal,
+) -> ScrubNumbers
+    ensures { λ r. ⌜ r ≡ telling c stage first w t why ⌝ }
 {
     ScrubNumbers {
         stage: stage,
         rewrite: c.rewrite,
-        more: 0,
+        first: first,
+        count: c.count,
         m: c.m,
         w: w,
         a: c.a,
@@ -99,12 +116,13 @@ fn tells(c: ScrubNumbers, stage: ScrubStage, w: u32, t: u32, why: Refusal) -> Sc
 }
 
 fn begun(b: Begun, rewrite: bool, stage: ScrubStage, why: Refusal) -> ScrubNumbers
-    ensures { λ r. ⌜ r ≡ record { stage = stage; rewrite = rewrite; more = 2; m = b .address; w = 0; a = b .wanted; b = b .care; t = 0; place = b .place; next = b .next; why = why } ⌝ }
+    ensures { λ r. ⌜ r ≡ record { stage = stage; rewrite = rewrite; first = 0; count = 0; m = b .address; w = 0; a = b .wanted; b = b .care; t = 0; place = b .place; next = b .next; why = why } ⌝ }
 {
     ScrubNumbers {
         stage: stage,
         rewrite: rewrite,
-        more: 2,
+        first: 0,
+        count: 0,
         m: b.address,
         w: 0,
         a: b.wanted,
@@ -116,7 +134,7 @@ fn begun(b: Begun, rewrite: bool, stage: ScrubStage, why: Refusal) -> ScrubNumbe
     }
 }
 
-// A step, as the list began it. Three tries: two mismatches are followed by another.
+// A step, as the list began it: no exchange has mismatched yet.
 pub fn scrub_begin(b: Begun, rewrite: bool) -> ScrubNumbers
     ensures { λ r. ⌜ scrubOf r ≡ begins b rewrite ⌝ }
 {
@@ -142,55 +160,62 @@ pub fn scrub_ask(c: ScrubNumbers) -> Ask
     }
 }
 
-// A mismatch: another try at the stage, or the end without the word.
+// A mismatch: another try at the stage, or the end without the word. Three tries: two mismatches are followed by another.
 fn mismatched(c: ScrubNumbers, stage: ScrubStage, lost: ScrubStage) -> ScrubNumbers
-    ensures { λ r. ⌜ r ≡ again (c .more) (λ why. telling c lost (c .w) 0 why) (λ k. standing c stage k (c .w) Refusal.WrongAnswer) ⌝ }
+    ensures { λ r. ⌜ r ≡ again (c .count) (λ why. telling c lost (c .first) (c .w) 0 why) (λ k. standing c stage (c .first) k (c .w) Refusal.WrongAnswer) ⌝ }
 {
-    if c.more == 0 {
-        tells(c, lost, c.w, 0, Refusal::CrcMismatch)
+    if c.count < 2 {
+        stands(c, stage, c.first, c.count + 1, c.w, Refusal::WrongAnswer)
     } else {
-        stands(c, stage, c.more - 1, c.w, Refusal::WrongAnswer)
+        tells(c, lost, c.first, c.w, 0, Refusal::CrcMismatch)
     }
 }
 
 fn when_seen(c: ScrubNumbers, w: u32) -> ScrubNumbers
-    ensures { λ r. ⌜ scrubOf r ≡ seen (scrubOf c) w ⌝ }
+    ensures { λ r. ⌜ scrubOf r ≡ seen (scrubOf c) w (c .count) ⌝ }
 {
     if is_agreed(w, c.a, c.b) {
-        return tells(c, ScrubStage::Agree, w, 0, Refusal::WrongAnswer);
+        return tells(c, ScrubStage::Agree, c.count, w, 0, Refusal::WrongAnswer);
     }
     if c.rewrite {
-        return stands(c, ScrubStage::Write, 0, w, Refusal::WrongAnswer);
+        return stands(c, ScrubStage::Write, c.count, 0, w, Refusal::WrongAnswer);
     }
-    tells(c, ScrubStage::Differ, w, 0, Refusal::WrongAnswer)
+    tells(c, ScrubStage::Differ, c.count, w, 0, Refusal::WrongAnswer)
 }
 
 fn when_visited(c: ScrubNumbers, reply: CheckedWord) -> ScrubNumbers
-    ensures { λ r. ⌜ scrubOf r ≡ onChecked (unread (scrubOf c)) reply (again (c .more) (unread (scrubOf c)) (λ k. to (scrubOf c) (ScrubAt.Visit k))) (seen (scrubOf c)) ⌝ }
+    ensures { λ r. ⌜ scrubOf r ≡ onChecked (unread (scrubOf c)) reply (again (c .count) (unread (scrubOf c)) (λ k. to (scrubOf c) (ScrubAt.Visit k))) (λ w. seen (scrubOf c) w (c .count)) ⌝ }
 {
     match reply {
         CheckedWord::Word(w) => when_seen(c, w),
         CheckedWord::Mismatch => mismatched(c, ScrubStage::Visit, ScrubStage::Unread),
-        CheckedWord::Bad(r) => tells(c, ScrubStage::Unread, c.w, 0, r),
+        CheckedWord::Bad(r) => tells(c, ScrubStage::Unread, c.first, c.w, 0, r),
     }
 }
 
 fn when_written(c: ScrubNumbers, reply: Done) -> ScrubNumbers
-    ensures { λ r. ⌜ scrubOf r ≡ onDone (unwritten (scrubOf c) (c .w)) reply (to (scrubOf c) (ScrubAt.Back (c .w) 2)) ⌝ }
+    ensures { λ r. ⌜ scrubOf r ≡ onDone (unwritten (scrubOf c) (c .w) (c .first)) reply (to (scrubOf c) (ScrubAt.Back (c .w) (c .first) 0)) ⌝ }
 {
     match reply {
-        Done::Good => stands(c, ScrubStage::Back, 2, c.w, Refusal::WrongAnswer),
-        Done::Bad(r) => tells(c, ScrubStage::Unwritten, c.w, 0, r),
+        Done::Good => stands(c, ScrubStage::Back, c.first, 0, c.w, Refusal::WrongAnswer),
+        Done::Bad(r) => tells(c, ScrubStage::Unwritten, c.first, c.w, 0, r),
     }
 }
 
 fn when_back(c: ScrubNumbers, reply: CheckedWord) -> ScrubNumbers
-    ensures { λ r. ⌜ scrubOf r ≡ onChecked (unwritten (scrubOf c) (c .w)) reply (again (c .more) (unwritten (scrubOf c) (c .w)) (λ k. to (scrubOf c) (ScrubAt.Back (c .w) k))) (λ w. reports (scrubOf c) (differs (scrubOf c .entry) (c .w) (Rewrite.Back w))) ⌝ }
+    ensures { λ r. ⌜ scrubOf r ≡ onChecked (unwritten (scrubOf c) (c .w) (c .first)) reply (again (c .count) (unwritten (scrubOf c) (c .w) (c .first)) (λ k. to (scrubOf c) (ScrubAt.Back (c .w) (c .first) k))) (λ w. reports (scrubOf c) (differs (scrubOf c .entry) (c .w) (c .first) (Rewrite.Back w (c .count)))) ⌝ }
 {
     match reply {
-        CheckedWord::Word(w) => tells(c, ScrubStage::Rewritten, c.w, w, Refusal::WrongAnswer),
+        CheckedWord::Word(w) => tells(
+            c,
+            ScrubStage::Rewritten,
+            c.first,
+            c.w,
+            w,
+            Refusal::WrongAnswer,
+        ),
         CheckedWord::Mismatch => mismatched(c, ScrubStage::Back, ScrubStage::Unwritten),
-        CheckedWord::Bad(r) => tells(c, ScrubStage::Unwritten, c.w, 0, r),
+        CheckedWord::Bad(r) => tells(c, ScrubStage::Unwritten, c.first, c.w, 0, r),
     }
 }
 
@@ -206,17 +231,18 @@ pub fn scrub_step(c: ScrubNumbers, answer: Answer, rx: &[u8]) -> ScrubNumbers
             spi::done_reply(Refusal::SpiRead, answer, rx.len(), 0),
         ),
         ScrubStage::Back => when_back(c, spi::crc_reply(Refusal::SpiRead, c.m, answer, rx)),
-        _ => stands(c, ScrubStage::Refused, 0, 0, Refusal::WrongAnswer),
+        _ => stands(c, ScrubStage::Refused, 0, 0, 0, Refusal::WrongAnswer),
     }
 }
 
 fn differing(c: ScrubNumbers, rewrite: Rewrite) -> Outcome
-    ensures { λ r. ⌜ r ≡ Outcome.Scrubbed (differs (scrubOf c .entry) (c .w) rewrite) ⌝ }
+    ensures { λ r. ⌜ r ≡ Outcome.Scrubbed (differs (scrubOf c .entry) (c .w) (c .first) rewrite) ⌝ }
 {
     Outcome::Scrubbed(Report::Differ {
         address: c.m,
         read: c.w,
         wanted: c.a,
+        mismatches: c.first,
         rewrite: rewrite,
     })
 }
@@ -227,9 +253,12 @@ pub fn scrub_outcome(c: ScrubNumbers) -> Outcome
     let stage = c.stage;
     let why = c.why;
     match stage {
-        ScrubStage::Agree => Outcome::Scrubbed(Report::Agree { address: c.m }),
+        ScrubStage::Agree => Outcome::Scrubbed(Report::Agree {
+            address: c.m,
+            mismatches: c.first,
+        }),
         ScrubStage::Differ => differing(c, Rewrite::None),
-        ScrubStage::Rewritten => differing(c, Rewrite::Back(c.t)),
+        ScrubStage::Rewritten => differing(c, Rewrite::Back(c.t, c.count)),
         ScrubStage::Unwritten => differing(c, Rewrite::Unread(why)),
         ScrubStage::Unread => Outcome::Scrubbed(Report::Unread {
             address: c.m,

@@ -1,6 +1,7 @@
 -- `register::after_mismatch` meets its contract.
 -- Assumes nothing.
-use borrow.Author.Tests.{eq-eqb, ne-eqb}
+use native.Mathlib.Omega.{arith}
+use borrow.Author.Tests.{le-ltb, lt-ltb}
 use borrow.Author.Needs.{needs}
 use Rattle.register.specs.Step.{afterMismatch}
 use Rattle.register.proofs.after_mismatch.Statement.{statement}
@@ -10,6 +11,6 @@ pub after-mismatch-spec : {M : Type 1} → statement M
 unfolding afterMismatch
 after-mismatch-spec =
     tie.close
-    (tie.spec (λ c κs. search needs) (search needs) (λ c κs. search needs)
-    (λ c. simp (c .refused .ensures, eq-eqb _ _ (c .before .if1 .taken)))
-    (λ c. simp (c .at-stage .ensures, ne-eqb _ _ (c .before .if1 .left))))
+    (tie.spec (λ c. omega (arith, c .if1 .taken)) (λ c κs. search needs) (λ c κs. search needs)
+    (λ c. simp (c .at-stage .ensures, lt-ltb _ _ (c .before .if1 .taken)))
+    (λ c. simp (c .refused .ensures, le-ltb _ _ (c .before .if1 .left))))
