@@ -5,7 +5,9 @@ arguments and bad ones. Filters and the frames that are sorted go by the same fe
 set by calls and by raw words (targets may be 0, unused bits may be 1), single bits of them change on the way, and DNCNT is now and then above 0.
 Frames arrive with any DLC, with one that does not fit their length, with one above 15, or without; header words are now and then overwritten.
 A scrubber steps over lists of 0 to 6 entries, often the same as before, one longer or shorter, with words that are there, near them, or any;
-a bit of a filter's register is flipped, frames are sorted, and a list that cares for it is stepped over."""
+a bit of a filter's register is flipped, frames are sorted, and a list that cares for it is stepped over. One in three checked reads and scrub
+steps has a bad harness: none to three answers mismatch, often in one bit, in a visit and in its read-back each for itself; behind them is the
+chip's answer or another with its CRC, or the exchange fails, or its answer has another length."""
 import random, sys
 
 if sys.argv[1:2] in (['-h'], ['--help']): sys.exit(print(__doc__))
@@ -105,21 +107,39 @@ def crc(bs):
         c ^= b << 8
         for _ in range(8): c = (c << 1 ^ (0x18005 if c & 0x8000 else 0)) & 0xFFFF
     return c
-def checked_answer(a): # six bytes, with the CRC or without; a: of what
-    w = le(r.randrange(1 << 32) if rare(3) else there.get(a, 0) & 0xFFFFFFFF)
-    return w + ('%04x' % (r.randrange(1 << 16) if r.randrange(2) else crc(bytes.fromhex('b%03x04' % (a & 0xFFF) + w))))
-def answer(name):
-    if name in ('scrub', 'checked_read') and r.randrange(3): return checked_answer(r.choice(watch)[0] if watch else address())
-    return hexed(r.choice([0, 4, 4, 4, 8, 3]))
+def checked(a): # what a checked read of a is answered: the word that is there, or any, and the CRC
+    w = le(r.randrange(1 << 32) if rare(3) else there.get(a, RESETS.get(a, 0)) & 0xFFFFFFFF)
+    return w + '%04x' % crc(bytes.fromhex('b%03x04' % (a & 0xFFF) + w))
+def mismatch(a): # the same with a bit wrong, with the bytes of the CRC exchanged, or of another address; or any six bytes
+    k, good = r.randrange(8), checked(a)
+    if k < 4: return '%012x' % (int(good, 16) ^ 1 << r.randrange(48))
+    if k == 4: return good[:8] + good[10:] + good[8:10]
+    return checked(a ^ 4) if k == 5 else hexed(6)
+def carried(a): return a in RESETS or a in (0x14, 0x1C) or 0x5C <= a < 0x2F0 and a % 4 == 0
+def due(): # the address of the entry that this step visits, by the place that drive keeps; None where the list is refused
+    global place
+    if not watch or not all(carried(a) for a, _, _ in watch): return None
+    k = place if place < len(watch) else 0
+    place = k + 1
+    return watch[k][0]
+def harness(a, reads): # answers of a's checked reads: none to three that mismatch, then mostly the chip's; between two reads is the rewrite
+    at = 1
+    for _ in range(reads):
+        for _ in range(r.choice([0, 1, 1, 1, 2, 2, 2, 3])):
+            out.append('@%d answer %s' % (at, mismatch(a)))
+            at += 1
+        if rare(4): out.append('@%d answer %s' % (at, checked(a)))
+        elif rare(9): out.append('@%d %s' % (at, r.choice(['fail', 'answer ' + hexed(r.choice([0, 4, 5, 7, 8]))])))
+        at += 2
 def at_lines(fifos, text, times, last):
-    name = text.split()[0]
+    name, *words = text.split()
     out.append('call ' + text)
-    if name in ('scrub', 'checked_read') and rare(10): # mismatches in a row
-        first = r.choice([1, 1, 3])
-        for k in range(r.choice([1, 2, 3, 3])): out.append('@%d answer %s' % (first + k, hexed(6)))
+    a = int(words[0], 16) if name == 'checked_read' else due() if name == 'scrub' else None
+    if a is not None and rare(3): harness(a, 2 if name == 'scrub' else 1)
     for _ in range(times):
         at = 1 + r.randrange(last)
-        out.append('@%d %s' % (at, 'fail' if rare(4) else 'answer ' + answer(name) if rare(6) else step(fifos)))
+        given = hexed(r.choice([0, 4, 4, 4, 8, 3])) if a is None or rare(3) else r.choice([checked, mismatch])(a)
+        out.append('@%d %s' % (at, 'fail' if rare(4) else 'answer ' + given if rare(6) else step(fifos)))
 def flipped(fifos): # a bit of a filter's register that a list cares for: frames before and behind the step that visits it
     f = r.choice(near)
     a = r.choice([0x1D0 + f // 4 * 4, 0x1F0 + 8 * f, 0x1F4 + 8 * f])
@@ -172,7 +192,7 @@ def action(fifos):
 RESETS = {0: 0x04980760, 4: 0x003E0F0F, 8: 0x000E0303, 0xC: 0x00021000, 0xE00: 0x460, 0xE04: 0x03000003}
 for _ in range(count):
     out.append('new')
-    there, watch = {}, [] # words by address, as raw writes left them, near enough; the list of the last scrub step
+    there, watch, place = {}, [], 0 # words by address, as raw writes left them, near enough; the list of the last scrub step; the scrubber's place
     fifos = sorted(r.sample(range(1, 32), 1 + r.randrange(4)))
     ids = [r.randrange(1 << 29) for _ in range(3)]
     near = r.sample(range(32), 4)

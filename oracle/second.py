@@ -371,12 +371,13 @@ def c_read_register(a): reg(a); return 'word %08x' % (yield from rd(a))
 def c_write_register(a, w): reg(a); yield from wr(a, w); return 'ok'
 def c_modify_register(a, c, st): reg(a); yield from mod(a, lambda w: w & ~c & 0xffffffff | st); return 'ok'
 def checked(a):
+    """the word, and how many exchanges before it mismatched"""
     s = cmd(11, a) + b'\x04'
-    for i in range(3):
+    for mismatched in range(3):
         r = yield from ask(s, 6, 1)
-        if crc(s + r[:4]) == int.from_bytes(r[4:], 'big'): return word(r[:4])
+        if crc(s + r[:4]) == int.from_bytes(r[4:], 'big'): return word(r[:4]), mismatched
     raise Refused(10)
-def c_checked_read(a): reg(a); return 'word %08x' % (yield from checked(a))
+def c_checked_read(a): reg(a); return 'word %08x %d' % (yield from checked(a))
 
 CARRIED = frozenset(filter(Chip().carried, range(0x1000)))
 assert len(CARRIED) == 173
@@ -389,14 +390,14 @@ class Scrubber:
         k = s.place if s.place < len(entries) else 0
         s.place = k + 1
         a, wanted, care = entries[k]
-        try: w = yield from checked(a)
+        try: w, mismatched = yield from checked(a)
         except Refused as e: return 'unread %x %d' % (a, e.n)
-        if (w ^ wanted) & care == 0: return 'agree %x' % a
-        differ = 'differ %x %08x %08x' % (a, w, wanted)
+        if (w ^ wanted) & care == 0: return 'agree %x %d' % (a, mismatched)
+        differ = 'differ %x %08x %08x %d' % (a, w, wanted, mismatched)
         if not rewrite: return differ
         try:
             yield from wr(a, w & ~care | wanted & care)
-            return differ + ' back %08x' % (yield from checked(a))
+            return differ + ' back %08x %d' % (yield from checked(a))
         except Refused as e: return differ + ' unread %d' % e.n
 
 # ---------------------------------------------------------------- scripts

@@ -26,11 +26,18 @@ fn held(s: State, line: &[u8], out: &[u8], note: &mut [u8]) -> State {
     state::differing(s, lines::put(note, d, b"\n"))
 }
 
-// How much of what the port does a line tells: a message may stand there without its DLC, the last word.
+// Whether both are results of a kind that a transcript may have without its last word: a message's DLC, or the number of exchanges that
+// mismatched before a checked read's word, which the Rust does not tell.
+fn is_in_part(line: &[u8], out: &[u8]) -> bool {
+    let kind = text::word(line, 1);
+    text::is(out, 1, kind) && (check::same(kind, b"message") || check::same(kind, b"word"))
+}
+
+// How much of what the port does a line tells.
 fn told_of(line: &[u8], out: &[u8]) -> usize {
     let all = out.len();
     let more = text::rest(out, text::count(line)).len();
-    if text::is(line, 1, b"message") {
+    if is_in_part(line, out) {
         if 0 < more {
             if more < all {
                 return all - more - 1;
@@ -43,8 +50,9 @@ fn told_of(line: &[u8], out: &[u8]) -> usize {
 // What the port does, `out`, is compared with the line, and with nothing where the case ends too early.
 fn judged(s: State, item: Item, line: &[u8], out: &[u8], note: &mut [u8]) -> State {
     if state::is_due(s, item) {
-        let told = text::front(out, told_of(line, out));
-        return held(s, state::compared(item, line), told, note);
+        let there = state::compared(item, line);
+        let told = text::front(out, told_of(there, out));
+        return held(s, there, told, note);
     }
     s
 }

@@ -189,7 +189,7 @@ pub fn frame(out: &mut [u8], at: usize, sending: bool, f: Frame) -> usize {
     received(out, at, h, s, payload, f.dlc)
 }
 
-// Which of a list's words an outcome without a message, a report or a refusal is told by.
+// Which of a list's words an outcome without a checked word, a message, a report or a refusal is told by.
 fn name_of(o: Outcome) -> usize {
     match o {
         Outcome::Done => 0,
@@ -219,14 +219,18 @@ fn plain(out: &mut [u8], at: usize, o: Outcome) -> usize {
     tail(out, a, value_of(o))
 }
 
+// A checked word, and how many exchanges mismatched before it.
+fn checked(out: &mut [u8], at: usize, what: &[u8], w: u32, mismatches: u8) -> usize {
+    let a = put(out, at, what);
+    let b = tail(out, a, Value::Hex(w as u64, 8));
+    tail(out, b, Value::Decimal(mismatches as u64))
+}
+
 // What came of a rewrite.
 fn rewritten(out: &mut [u8], at: usize, r: Rewrite) -> usize {
     match r {
         Rewrite::None => at,
-        Rewrite::Back(w) => {
-            let a = put(out, at, b" back");
-            tail(out, a, Value::Hex(w as u64, 8))
-        }
+        Rewrite::Back(w, mismatches) => checked(out, at, b" back", w, mismatches),
         Rewrite::Unread(why) => {
             let a = put(out, at, b" unread");
             tail(out, a, Value::Decimal(numbers::number(why) as u64))
@@ -245,24 +249,33 @@ fn differing(
     address: u16,
     read: u32,
     wanted: u32,
+    mismatches: u8,
     rewrite: Rewrite,
 ) -> usize {
     let a = addressed(out, at, b"differ", address);
     let b = tail(out, a, Value::Hex(read as u64, 8));
     let c = tail(out, b, Value::Hex(wanted as u64, 8));
-    rewritten(out, c, rewrite)
+    let d = tail(out, c, Value::Decimal(mismatches as u64));
+    rewritten(out, d, rewrite)
 }
 
 // What a scrub step reports.
 fn report(out: &mut [u8], at: usize, r: Report) -> usize {
     match r {
-        Report::Agree { address } => addressed(out, at, b"agree", address),
+        Report::Agree {
+            address,
+            mismatches,
+        } => {
+            let a = addressed(out, at, b"agree", address);
+            tail(out, a, Value::Decimal(mismatches as u64))
+        }
         Report::Differ {
             address,
             read,
             wanted,
+            mismatches,
             rewrite,
-        } => differing(out, at, address, read, wanted, rewrite),
+        } => differing(out, at, address, read, wanted, mismatches, rewrite),
         Report::Unread { address, why } => {
             let a = addressed(out, at, b"unread", address);
             tail(out, a, Value::Decimal(numbers::number(why) as u64))
@@ -273,6 +286,7 @@ fn report(out: &mut [u8], at: usize, r: Report) -> usize {
 // How a call ended. `buf` is what it filled.
 pub fn result(out: &mut [u8], at: usize, o: Outcome, buf: &[u8]) -> usize {
     match o {
+        Outcome::Checked(w, mismatches) => checked(out, at, b"word", w, mismatches),
         Outcome::Message(f) => found(out, at, f, buf),
         Outcome::Scrubbed(r) => report(out, at, r),
         Outcome::Refused(r) => refusal(out, at, r),
