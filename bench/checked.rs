@@ -21,7 +21,7 @@ impl Line for Bench {
 
 #[no_mangle]
 pub extern "C" fn checked(address: u32) -> u32 {
-    Mcp::new(Bench).checked_read(address).unwrap_or(0)
+    Mcp::new(Bench).checked_read(address).map_or(0, |read| read.word)
 }
 
 #[panic_handler]

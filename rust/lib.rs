@@ -24,6 +24,7 @@ mod mcp;
 mod proved;
 
 pub use mcp::run;
+pub use mcp::Checked;
 pub use mcp::Failed;
 pub use mcp::Line;
 pub use mcp::Mcp;
@@ -68,10 +69,12 @@ pub use proved::driver::Watch;
 /// given, and one beyond the list's end is the first.
 pub use proved::driver::Scrubber;
 /// What [`Mcp::scrub`] saw of the entry that it visited. `Agree`: the cared-for bits are the wanted ones. `Differ`: they are not, with the
-/// word read, the wanted one, and what came of the rewrite. `Unread`: the checked read was refused: 1, or 10.
+/// word read, the wanted one, and what came of the rewrite. `Unread`: the checked read was refused: 1, or 10. `mismatches`: how many
+/// exchanges of the read mismatched before its word, 0, 1 or 2; of a read that was refused none is told.
 pub use proved::driver::Report;
-/// What came of a rewrite. `None`: none was told. `Back`: it was written, and this word was read back, as wanted or not. `Unread`: the
-/// write failed (1) and nothing was read back, or the read-back was refused (1, 10).
+/// What came of a rewrite. `None`: none was told. `Back`: it was written, and this word was read back, as wanted or not; behind it how many
+/// exchanges of the read-back mismatched before it, 0, 1 or 2. `Unread`: the write failed (1) and nothing was read back, or the read-back
+/// was refused (1, 10).
 pub use proved::driver::Rewrite;
 /// The number of a refusal in documents 01 and 02.
 pub use proved::driver::number;
@@ -203,7 +206,7 @@ pub mod calls {
     pub use crate::proved::driver::Next;
     /// A call without its bytes.
     pub use crate::proved::driver::Numbers;
-    /// How a call ended; `Running` where it has not.
+    /// How a call ended; `Running` where it has not. `Checked`: the word of a checked read, and how many exchanges mismatched before it.
     pub use crate::proved::driver::Outcome;
 }
 

@@ -21,6 +21,16 @@ pub trait Line {
     fn wait(&mut self, microseconds: u32);
 }
 
+/// What a checked read gave: [`Mcp::checked_read`].
+#[derive(Clone, Copy, Debug, PartialEq, Eq)]
+pub struct Checked {
+    /// The register's word, from an exchange whose CRC was right.
+    pub word: u32,
+    /// How many exchanges of this read mismatched before that one: 0, 1 or 2. The word is good all the same; but what spoils one exchange
+    /// may spoil any other, and only a checked read has a CRC to tell it by.
+    pub mismatches: u8,
+}
+
 /// A message from a receive FIFO; its payload is the first `len` bytes of the buffer that was lent.
 #[derive(Clone, Copy, Debug, PartialEq, Eq)]
 pub struct Received {
@@ -161,9 +171,23 @@ impl<L: Line> Mcp<L> {
         self.done(calls::modify_register(address, clear, set))
     }
 
-    /// The word of a register, whose CRC is tested, in at most three tries. Refused: 24; 1; 10 where the third try mismatched too.
-    pub fn checked_read(&mut self, address: u32) -> Result<u32, Refusal> {
-        self.word(calls::checked_read(address))
+    /// The word of a register, whose CRC is tested, in at most three tries, and how many of them mismatched before it. Refused: 24; 1, also
+    /// behind a mismatch; 10 where the third try mismatched too. A refusal tells no count.
+    ///
+    /// ```
+    /// # use masevuru::*;
+    /// # fn look<L: Line>(mcp: &mut Mcp<L>, reads: &mut u32, mismatched: &mut u32) -> Result<u32, Refusal> {
+    /// let osc = mcp.checked_read(0xE00)?;
+    /// *reads += 1;
+    /// *mismatched += u32::from(osc.mismatches); // for ground: it grows before a read is refused 10
+    /// # Ok(osc.word)
+    /// # }
+    /// ```
+    pub fn checked_read(&mut self, address: u32) -> Result<Checked, Refusal> {
+        match self.short(calls::checked_read(address), &mut []) {
+            Outcome::Checked(word, mismatches) => Ok(Checked { word, mismatches }),
+            other => Err(refusal(other)),
+        }
     }
 
     /// Fills `buf` from the chip's RAM at 0x400 to 0xBFF, all of it, or where it is refused none. It has 2,048 bytes of scratch on the
@@ -277,7 +301,8 @@ impl<L: Line> Mcp<L> {
     /// One step of a scrubber: reads the register of the entry that is due, its CRC tested in at most three tries, and reports whether
     /// the cared-for bits are the wanted ones. Where they are not and `rewrite` is true, it writes the word that it read with these bits
     /// as wanted, once, and reports what a checked read then gives: 7 exchanges at most. The write has the effects of any write to that
-    /// register. A read that fails, or mismatches three times, is reported too, and is that entry's visit.
+    /// register. A read that fails, or mismatches three times, is reported too, and is that entry's visit. Of a read that gives its word,
+    /// the visit's or the read-back, the report tells how many exchanges mismatched before it, as [`Mcp::checked_read`] does.
     ///
     /// Refused: 32 for an empty list; 33 where the address of an entry, due or not, is not that of a register in the list of [`Watch`];
     /// both before any exchange. Where the step reports, the scrubber moves on to the entry behind, where it is refused it stays; so n
@@ -291,8 +316,8 @@ impl<L: Line> Mcp<L> {
     /// let mut scrubber = Scrubber { place: 0 };
     /// for _ in &list {
     ///     match mcp.scrub(&mut scrubber, &list, true)? {
-    ///         Report::Agree { .. } => {}
-    ///         Report::Differ { address, read, rewrite, .. } => { /* tell it; `rewrite` is what came of the rewrite */ }
+    ///         Report::Agree { address, mismatches } => { /* as wanted; above 0, tell the count */ }
+    ///         Report::Differ { address, read, mismatches, rewrite, .. } => { /* tell it; `rewrite` is what came of the rewrite */ }
     ///         Report::Unread { address, why } => { /* not seen this time: it is due again after the others */ }
     ///     }
     /// }

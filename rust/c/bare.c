@@ -70,14 +70,14 @@ void entry(void)
     static const mcp_header header;
     static uint8_t buf[64];
     static mcp_message message;
-    static uint32_t word;
+    static uint32_t word, mismatches;
     static uint8_t next;
     static const mcp_watch watch;
     static mcp_scrubber scrubber;
     static mcp_report report;
     const mcp_line line = { transfer, wait, 0, &word };
     answers += mcp_reset(&line) + mcp_read_register(&line, 0, &word) + mcp_write_register(&line, 0, 0);
-    answers += mcp_modify_register(&line, 0, 0, 0) + mcp_checked_read(&line, 0, &word);
+    answers += mcp_modify_register(&line, 0, 0, 0) + mcp_checked_read(&line, 0, &word, &mismatches);
     answers += mcp_read_ram(&line, 0x400, buf, 64) + mcp_write_ram(&line, 0x400, buf, 64);
     answers += mcp_verify(&line) + mcp_verify_long(&line) + mcp_set_op_mode(&line, 4) + mcp_get_op_mode(&line, &word);
     answers += mcp_configure(&line, &settings) + mcp_configure_osc(&line, &settings.oscillator) + mcp_configure_io(&line, &settings.io);

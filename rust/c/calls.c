@@ -1,7 +1,7 @@
 /* calls: what the header promises, call by call, on the modelled chip: exchanges that fail one after the other, NULLs, numbers too wide,
- * what refusals carry, every DLC, lists that are scrubbed, and that each field of each structure is where the library looks for it. What
- * is expected was written down from documents 01 and 02 and the data sheet's bits. Says how many things were looked at, or which line
- * found another. */
+ * what refusals carry, every DLC, lists that are scrubbed, mismatches that are counted, and that each field of each structure is where the
+ * library looks for it. What is expected was written down from documents 01 and 02 and the data sheet's bits. Says how many things were
+ * looked at, or which line found another. */
 #include "masevuru.h"
 #include <stdio.h>
 #include <stdlib.h>
@@ -13,7 +13,7 @@ static unsigned long looked;
 /* The line: the chip, of which one exchange may fail, or be answered by another word; and checked reads, by a bit each of an exchange's
  * number, with another CRC. */
 static mcp_chip chip;
-static unsigned exchanges, fail_at, twist_at, mismatches;
+static unsigned exchanges, fail_at, twist_at, wrong_crcs;
 static uint32_t twist;
 
 static int transfer(void *context, const uint8_t *tx, size_t tx_len, uint8_t *rx, size_t rx_len)
@@ -25,7 +25,7 @@ static int transfer(void *context, const uint8_t *tx, size_t tx_len, uint8_t *rx
     if (exchanges == twist_at)
         for (size_t i = 0; i < 4; i++)
             rx[i] = (uint8_t)(twist >> 8 * i);
-    if (exchanges < 32 && mismatches >> exchanges & 1 && rx_len == 6)
+    if (exchanges < 32 && wrong_crcs >> exchanges & 1 && rx_len == 6)
         rx[5] ^= 1;
     return r;
 }
@@ -38,7 +38,7 @@ static struct {
     mcp_sorted sorted;
     mcp_scrubber scrubber;
     mcp_report report;
-    uint32_t word, value;
+    uint32_t word, value, mismatches;
     uint8_t next, accepted;
 } out, before;
 
@@ -54,7 +54,7 @@ static void fresh(void)
 {
     memset(&out, 0x5A, sizeof out);
     memset(&before, 0x5A, sizeof before);
-    exchanges = fail_at = twist_at = mismatches = 0;
+    exchanges = fail_at = twist_at = wrong_crcs = 0;
 }
 
 static int untouched(void) { return !memcmp(&out, &before, sizeof out); }
@@ -107,7 +107,7 @@ CALL(a_reset, mcp_reset(l))
 CALL(a_read, mcp_read_register(l, 0x000, &out.word))
 CALL(a_write, mcp_write_register(l, 0x004, 7))
 CALL(a_modify, mcp_modify_register(l, 0x004, 1, 2))
-CALL(a_checked, mcp_checked_read(l, 0xE00, &out.word))
+CALL(a_checked, mcp_checked_read(l, 0xE00, &out.word, &out.mismatches))
 CALL(a_read_ram, mcp_read_ram(l, 0x400, out.buf, 72))
 CALL(a_write_ram, mcp_write_ram(l, 0x800, bytes, 72))
 CALL(a_verify, mcp_verify(l))
@@ -254,7 +254,9 @@ static void nulls(void)
         for (size_t k = 0; k < 3; k++)
             NOTHING_DONE(rows[i].call(bad[k]));
     NOTHING_DONE(mcp_read_register(&line, 0, NULL));
-    NOTHING_DONE(mcp_checked_read(&line, 0, NULL));
+    NOTHING_DONE(mcp_checked_read(&line, 0, NULL, &out.mismatches));
+    NOTHING_DONE(mcp_checked_read(&line, 0, &out.word, NULL));
+    NOTHING_DONE(mcp_checked_read(&line, 0x1000, &out.word, NULL)); /* before 24 */
     NOTHING_DONE(mcp_read_ram(&line, 0x400, NULL, 4));
     NOTHING_DONE(mcp_read_ram(&line, 0x400, NULL, too_long));
     NOTHING_DONE(mcp_read_ram(&line, 0x400, out.buf, too_long));
@@ -350,7 +352,7 @@ static void numbers(void)
         IS(mcp_configure_filter(&line, no_filter[i], &filter) == 20 && mcp_disable_filter(&line, no_filter[i]) == 20);
     for (size_t i = 0; i < sizeof no_address / sizeof *no_address; i++) {
         uint32_t a = no_address[i];
-        IS(mcp_read_register(&line, a, &out.word) == 24 && mcp_checked_read(&line, a, &out.word) == 24);
+        IS(mcp_read_register(&line, a, &out.word) == 24 && mcp_checked_read(&line, a, &out.word, &out.mismatches) == 24);
         IS(mcp_write_register(&line, a, 0) == 24 && mcp_modify_register(&line, a, 0, 0) == 24);
     }
     f.mode = 3; /* 20, 21, 24 in this order */
@@ -734,16 +736,23 @@ static void prepare_filter(void)
     fresh();
 }
 
-/* One step from a place, which has to go on to another. */
-static mcp_report step(size_t place, const mcp_watch *list, size_t n, int rewrite, size_t after)
+/* One step from a place, which has to go on to another, with exchanges that mismatch, by a bit each, and one that fails. */
+static mcp_report step_amiss(unsigned wrong, unsigned fails, size_t place, const mcp_watch *list, size_t n, int rewrite, size_t after)
 {
     fresh();
+    wrong_crcs = wrong, fail_at = fails;
     out.scrubber.place = place;
     IS(mcp_scrub(&line, &out.scrubber, list, n, rewrite, &out.report) == 0 && out.scrubber.place == after);
+    wrong_crcs = fail_at = 0;
     mcp_report r = out.report;
     out.scrubber = before.scrubber, out.report = before.report;
     IS(untouched());
     return r;
+}
+
+static mcp_report step(size_t place, const mcp_watch *list, size_t n, int rewrite, size_t after)
+{
+    return step_amiss(0, 0, place, list, n, rewrite, after);
 }
 
 /* A step that is refused, and changes nothing. */
@@ -761,10 +770,10 @@ static int turned_down(size_t place, const mcp_watch *list, size_t n)
 static int is_report(mcp_report r, mcp_report is)
 {
     return r.seen == is.seen && r.address == is.address && r.read == is.read && r.wanted == is.wanted && r.rewrite == is.rewrite &&
-           r.back == is.back && r.number == is.number;
+           r.back == is.back && r.number == is.number && r.mismatches == is.mismatches && r.back_mismatches == is.back_mismatches;
 }
 
-static int agrees(mcp_report r, uint32_t address) { return is_report(r, (mcp_report){ MCP_AGREE, address, 0, 0, 0, 0, 0 }); }
+static int agrees(mcp_report r, uint32_t address) { return is_report(r, (mcp_report){ .seen = MCP_AGREE, .address = address }); }
 
 /* Document 02: each entry in turn, whatever is called between; a place beyond the end starts again at the first. */
 static void scrubbed_in_turn(void)
@@ -801,8 +810,8 @@ static void every_flipped_bit(void)
                     IS(agrees(step(0, &w, 1, 1, 1), address) && exchanges == 1 && reg(address) == wrong);
                     continue;
                 }
-                const mcp_report seen = { MCP_DIFFER, address, wrong, w.wanted, MCP_NO_REWRITE, 0, 0 };
-                const mcp_report mended = { MCP_DIFFER, address, wrong, w.wanted, MCP_READ_BACK, right, 0 };
+                const mcp_report seen = { MCP_DIFFER, address, wrong, w.wanted, MCP_NO_REWRITE, 0, 0, 0, 0 };
+                const mcp_report mended = { MCP_DIFFER, address, wrong, w.wanted, MCP_READ_BACK, right, 0, 0, 0 };
                 IS(is_report(step(0, &w, 1, 0, 1), seen) && exchanges == 1 && reg(address) == wrong);
                 IS(is_report(step(0, &w, 1, 256, 1), mended) && exchanges == 3 && reg(address) == right);
             }
@@ -811,37 +820,99 @@ static void every_flipped_bit(void)
     }
     /* A bit that can't be had: FIFO 2 holds a message, status bit 0. */
     const mcp_watch status = { 0x06C, 0, 1 };
-    IS(is_report(step(0, &status, 1, 1, 1), (mcp_report){ MCP_DIFFER, 0x06C, 1, 0, MCP_READ_BACK, 1, 0 }));
+    IS(is_report(step(0, &status, 1, 1, 1), (mcp_report){ MCP_DIFFER, 0x06C, 1, 0, MCP_READ_BACK, 1, 0, 0, 0 }));
 }
 
 /* What goes wrong on the line is the entry's visit: exchanges that mismatch, by a bit each, one that fails, and what is reported. */
 static void scrubbed_amiss(void)
 {
     static const struct {
-        unsigned mismatches, fail_at;
+        unsigned wrong, fails;
         mcp_report report;
         unsigned exchanges;
         uint32_t after;
     } cases[] = {
-        { 0, 1, { MCP_UNREAD, 0x004, 0, 0, 0, 0, 1 }, 1, 0x003E0F0F },
-        { 0, 2, { MCP_DIFFER, 0x004, 0x003E0F0F, 0x003E0F0E, MCP_NOT_READ_BACK, 0, 1 }, 2, 0x003E0F0F },
-        { 0, 3, { MCP_DIFFER, 0x004, 0x003E0F0F, 0x003E0F0E, MCP_NOT_READ_BACK, 0, 1 }, 3, 0x003E0F0E },
-        { 0x0E, 0, { MCP_UNREAD, 0x004, 0, 0, 0, 0, 10 }, 3, 0x003E0F0F },
-        { 0x06, 3, { MCP_UNREAD, 0x004, 0, 0, 0, 0, 1 }, 3, 0x003E0F0F },
-        { 0x38, 0, { MCP_DIFFER, 0x004, 0x003E0F0F, 0x003E0F0E, MCP_NOT_READ_BACK, 0, 10 }, 5, 0x003E0F0E },
-        { 0x66, 0, { MCP_DIFFER, 0x004, 0x003E0F0F, 0x003E0F0E, MCP_READ_BACK, 0x003E0F0E, 0 }, 7, 0x003E0F0E },
-        { 0x66, 7, { MCP_DIFFER, 0x004, 0x003E0F0F, 0x003E0F0E, MCP_NOT_READ_BACK, 0, 1 }, 7, 0x003E0F0E },
+        { 0, 1, { MCP_UNREAD, 0x004, 0, 0, 0, 0, 1, 0, 0 }, 1, 0x003E0F0F },
+        { 0, 2, { MCP_DIFFER, 0x004, 0x003E0F0F, 0x003E0F0E, MCP_NOT_READ_BACK, 0, 1, 0, 0 }, 2, 0x003E0F0F },
+        { 0, 3, { MCP_DIFFER, 0x004, 0x003E0F0F, 0x003E0F0E, MCP_NOT_READ_BACK, 0, 1, 0, 0 }, 3, 0x003E0F0E },
+        { 0x0E, 0, { MCP_UNREAD, 0x004, 0, 0, 0, 0, 10, 0, 0 }, 3, 0x003E0F0F },
+        { 0x06, 3, { MCP_UNREAD, 0x004, 0, 0, 0, 0, 1, 0, 0 }, 3, 0x003E0F0F },
+        { 0x38, 0, { MCP_DIFFER, 0x004, 0x003E0F0F, 0x003E0F0E, MCP_NOT_READ_BACK, 0, 10, 0, 0 }, 5, 0x003E0F0E },
+        { 0x06, 4, { MCP_DIFFER, 0x004, 0x003E0F0F, 0x003E0F0E, MCP_NOT_READ_BACK, 0, 1, 2, 0 }, 4, 0x003E0F0F },
+        { 0x66, 0, { MCP_DIFFER, 0x004, 0x003E0F0F, 0x003E0F0E, MCP_READ_BACK, 0x003E0F0E, 0, 2, 2 }, 7, 0x003E0F0E },
+        { 0x66, 7, { MCP_DIFFER, 0x004, 0x003E0F0F, 0x003E0F0E, MCP_NOT_READ_BACK, 0, 1, 2, 0 }, 7, 0x003E0F0E },
+        { 0x72, 0, { MCP_DIFFER, 0x004, 0x003E0F0F, 0x003E0F0E, MCP_NOT_READ_BACK, 0, 10, 1, 0 }, 6, 0x003E0F0E },
     };
     for (size_t i = 0; i < sizeof cases / sizeof *cases; i++) {
         prepare();
-        mismatches = cases[i].mismatches, fail_at = cases[i].fail_at;
-        out.scrubber.place = 0;
-        IS(mcp_scrub(&line, &out.scrubber, &differs, 1, 1, &out.report) == 0 && out.scrubber.place == 1);
-        IS(is_report(out.report, cases[i].report) && exchanges == cases[i].exchanges);
-        out.scrubber = before.scrubber, out.report = before.report;
-        IS(untouched());
-        mismatches = 0;
-        IS(reg(0x004) == cases[i].after);
+        IS(is_report(step_amiss(cases[i].wrong, cases[i].fails, 0, &differs, 1, 1, 1), cases[i].report));
+        IS(exchanges == cases[i].exchanges && reg(0x004) == cases[i].after);
+    }
+}
+
+/* A checked read of OSC, with exchanges that mismatch, by a bit each, and one that fails: what it answers, and how many mismatches it tells
+ * where that is 0. */
+static int checked_amiss(unsigned wrong, unsigned fails, uint32_t mismatches)
+{
+    fresh();
+    wrong_crcs = wrong, fail_at = fails;
+    int r = mcp_checked_read(&line, 0xE00, &out.word, &out.mismatches);
+    wrong_crcs = fail_at = 0;
+    if (r == 0) {
+        IS(out.word == 0x00000460 && out.mismatches == mismatches);
+        out.word = before.word, out.mismatches = before.mismatches;
+    }
+    IS(untouched());
+    return r;
+}
+
+/* Document 02: 0, 1 or 2, "equal to the mismatches in the answers given"; document 01: the third is 10, any other failure stops at once.
+ * Each behind each, so that a count which stayed from the call before would be seen. */
+static void mismatches_told(void)
+{
+    static const struct {
+        unsigned wrong, fails;
+        int answer;
+        uint32_t mismatches;
+        unsigned exchanges;
+    } cases[] = {
+        { 0x0, 0, 0, 0, 1 }, { 0x2, 0, 0, 1, 2 }, { 0x6, 0, 0, 2, 3 }, { 0xE, 0, 10, 0, 3 },
+        { 0x0, 1, 1, 0, 1 }, { 0x2, 2, 1, 0, 2 }, { 0x6, 3, 1, 0, 3 }, { 0xE, 2, 1, 0, 2 },
+        /* what would go wrong behind the end is not asked for */
+        { 0xC, 0, 0, 0, 1 }, { 0xA, 0, 0, 1, 2 }, { 0x8, 2, 0, 0, 1 }, { 0x2, 3, 0, 1, 2 }, { 0x6, 4, 0, 2, 3 }, { 0xE, 4, 10, 0, 3 },
+    };
+    const size_t n = sizeof cases / sizeof *cases;
+    prepare();
+    for (size_t i = 0; i < 2 * n * n; i++) {
+        const size_t k = i % 2 ? i / 2 % n : i / 2 / n;
+        IS(checked_amiss(cases[k].wrong, cases[k].fails, cases[k].mismatches) == cases[k].answer && exchanges == cases[k].exchanges);
+    }
+}
+
+/* So many exchanges that mismatch, from `at` on. */
+static unsigned in_a_row(unsigned at, unsigned mismatches) { return ((1u << mismatches) - 1) << at; }
+
+/* A scrub step tells the mismatches of the visit, and of the read-back its own; per entry, and none of the step or the call before. */
+static void mismatches_scrubbed(void)
+{
+    static const uint32_t counts[] = { 2, 0, 1, 0, 1, 2, 1, 2, 0 };
+    for (uint32_t visit = 0; visit < 3; visit++)
+        for (uint32_t back = 0; back < 3; back++) {
+            const mcp_report seen = { MCP_DIFFER, 0x004, 0x003E0F0F, 0x003E0F0E, MCP_NO_REWRITE, 0, 0, visit, 0 };
+            const mcp_report mended = { MCP_DIFFER, 0x004, 0x003E0F0F, 0x003E0F0E, MCP_READ_BACK, 0x003E0F0E, 0, visit, back };
+            const mcp_report agreed = { .seen = MCP_AGREE, .address = 0x004, .mismatches = back };
+            prepare();
+            IS(is_report(step_amiss(in_a_row(1, visit), 0, 0, &differs, 1, 0, 1), seen) && exchanges == visit + 1);
+            /* the word is exchange visit + 1, the write follows it */
+            IS(is_report(step_amiss(in_a_row(1, visit) | in_a_row(visit + 3, back), 0, 0, &differs, 1, 1, 1), mended));
+            IS(exchanges == visit + back + 3);
+            IS(is_report(step_amiss(in_a_row(1, back), 0, 0, &differs, 1, 1, 1), agreed) && exchanges == back + 1);
+        }
+    prepare_filter();
+    for (size_t k = 0; k < sizeof counts / sizeof *counts; k++) {
+        const mcp_report agreed = { .seen = MCP_AGREE, .address = watched[k % 3].address, .mismatches = counts[k] };
+        IS(is_report(step_amiss(in_a_row(1, counts[k]), 0, k % 3, watched, 3, 1, k % 3 + 1), agreed));
+        IS(checked_amiss(in_a_row(1, k % 3), 0, k % 3) == 0);
     }
 }
 
@@ -883,6 +954,8 @@ int main(void)
     scrubbed_in_turn();
     every_flipped_bit();
     scrubbed_amiss();
+    mismatches_told();
+    mismatches_scrubbed();
     scrubs_refused();
     printf("calls: %lu looked at, all as written down\n", looked);
     return 0;

@@ -1,8 +1,9 @@
 /* junk [CALLS [SEED]]: random calls with random numbers, NULLs and lengths over a line that fails, answers junk, fills only part of what
  * was wanted, and otherwise is the modelled chip. No call may panic (which ends the program), send what is no instruction, go on after
  * a failed exchange, change a byte where it is refused, write outside what it was lent, tell a message whose length is not what its DLC
- * means, leave a scrubber where it does not belong, or answer what documents 01 and 02 do not have for it. Prints how often each number
- * was answered, or reported, how many classic messages with a DLC above 8 were found, and how many entries were seen. */
+ * means, leave a scrubber where it does not belong, count other mismatches than the answers had, or answer what documents 01 and 02 do not
+ * have for it. Prints how often each number was answered, or reported, how many classic messages with a DLC above 8 were found, how many
+ * entries were seen, and how many checked reads were done behind 0, 1 and 2 mismatches. */
 #include "masevuru.h"
 #include <stdio.h>
 #include <stdlib.h>
@@ -13,9 +14,10 @@ static unsigned long calls_made;
 
 static mcp_chip chip;
 static uint64_t seed = 0x9E3779B97F4A7C15u;
-static unsigned asked; /* exchanges of this call */
-static int failed;     /* one of them was not carried out */
-static unsigned rough; /* one exchange in so many fails, another is answered by some junk, a third by ones; none where it is 0 */
+static unsigned asked;      /* exchanges of this call */
+static unsigned mismatched; /* of these, with another CRC than their bytes have */
+static int failed;          /* one of them was not carried out */
+static unsigned rough;      /* one exchange in so many fails, another is answered by some junk, a third by ones; none where it is 0 */
 
 static uint64_t next(void)
 {
@@ -53,6 +55,20 @@ static int is_instruction(const uint8_t *tx, size_t tx_len, size_t rx_len)
     }
 }
 
+/* Document 01's CRC over what was sent and what came, bit by bit: whether the answer to a READ_CRC has another. */
+static int is_mismatch(const uint8_t *tx, const uint8_t *rx)
+{
+    uint32_t crc = 0xFFFF;
+    if (tx[0] >> 4 != 11)
+        return 0;
+    for (int i = 0; i < 7; i++) {
+        crc ^= (uint32_t)(i < 3 ? tx[i] : rx[i - 3]) << 8;
+        for (int k = 0; k < 8; k++)
+            crc = (crc & 0x8000 ? crc << 1 ^ 0x8005 : crc << 1) & 0xFFFF;
+    }
+    return crc != (uint32_t)(rx[4] << 8 | rx[5]);
+}
+
 static int transfer(void *context, const uint8_t *tx, size_t tx_len, uint8_t *rx, size_t rx_len)
 {
     int r = 0;
@@ -71,6 +87,7 @@ static int transfer(void *context, const uint8_t *tx, size_t tx_len, uint8_t *rx
     default: r = mcp_chip_transfer(context, tx, tx_len, rx, rx_len);
     }
     failed = r != 0;
+    mismatched += !failed && is_mismatch(tx, rx);
     return r;
 }
 
@@ -150,9 +167,23 @@ static struct {
     mcp_sorted sorted;
     mcp_scrubber scrubber;
     mcp_report report;
-    uint32_t word, value;
+    uint32_t word, value, mismatches;
     uint8_t flag, accepted;
 } out, before;
+
+/* Whether a report tells the mismatches that the answers had, 0, 1 or 2 of a read: behind them its word was read. A read that fails or
+ * mismatches for the third time tells no count. */
+static int is_counted(mcp_report r)
+{
+    if (r.mismatches > 2 || r.back_mismatches > 2)
+        return 0;
+    if (r.seen == MCP_UNREAD || r.rewrite == MCP_NOT_READ_BACK)
+        return !r.back_mismatches && (r.seen == MCP_DIFFER || !r.mismatches) && mismatched >= r.mismatches &&
+               (mismatched - r.mismatches == 3) == (r.number == 10);
+    if (r.rewrite == MCP_READ_BACK) /* two reads, and the write between them */
+        return mismatched == r.mismatches + r.back_mismatches && asked == mismatched + 3;
+    return !r.back_mismatches && mismatched == r.mismatches && asked == mismatched + 1;
+}
 
 /* Whether a step that visited an entry reports that one, has moved on behind it, and tells a rewrite only where it was told so. */
 static int is_visit(const mcp_watch *list, size_t n, size_t place, int rewrite, mcp_report r)
@@ -169,6 +200,7 @@ static int is_visit(const mcp_watch *list, size_t n, size_t place, int rewrite, 
 int main(int argc, char **argv)
 {
     unsigned long calls = argc > 1 ? strtoul(argv[1], NULL, 0) : 100000, counts[35] = { 0 }, coded = 0, seen[3] = { 0 };
+    unsigned long checked[3] = { 0 };
     size_t place = 0;
     static uint8_t from[4096];
     if (argc > 2)
@@ -195,6 +227,7 @@ int main(int argc, char **argv)
         mcp_sorted *s = next() % 32 ? &out.sorted : NULL;
         uint32_t *w = next() % 32 ? &out.word : NULL;
         uint8_t *x = next() % 4 ? &out.accepted : NULL;
+        uint32_t *y = next() % 32 ? &out.mismatches : NULL;
         mcp_scrubber *at = next() % 32 ? &out.scrubber : NULL;
         mcp_report *seen_at = next() % 32 ? &out.report : NULL;
         const mcp_watch *entries = next() % 32 ? list : NULL;
@@ -239,13 +272,13 @@ int main(int argc, char **argv)
         if (next() % 64 == 0) place = (size_t)next();
         out = before;
         if (call == SCRUB) out.scrubber.place = place;
-        asked = 0, failed = 0, rough = 4u << 2 * (next() % 3);
+        asked = mismatched = 0, failed = 0, rough = 4u << 2 * (next() % 3);
         switch (call) {
         case RESET: r = mcp_reset(l); break;
         case READ: r = mcp_read_register(l, a, w); none |= !w; break;
         case WRITE: r = mcp_write_register(l, a, b); break;
         case MODIFY: r = mcp_modify_register(l, a, b, c); break;
-        case CHECKED: r = mcp_checked_read(l, a, w); none |= !w; break;
+        case CHECKED: r = mcp_checked_read(l, a, w, y); none |= !w || !y; break;
         case READ_RAM: r = mcp_read_ram(l, c, p, lent); none |= no_to; break;
         case WRITE_RAM: r = mcp_write_ram(l, c, q, lent); none |= no_from; break;
         case VERIFY: r = mcp_verify(l); break;
@@ -296,10 +329,16 @@ int main(int argc, char **argv)
             IS(!memcmp(&out, &before, sizeof out));
         } else {
             if (call == SCRUB) {
-                IS(is_visit(list, n, place, rewrite, out.report));
+                IS(is_visit(list, n, place, rewrite, out.report) && is_counted(out.report));
                 seen[out.report.seen]++;
                 place = out.scrubber.place;
             }
+            if (call == CHECKED) {
+                IS(out.mismatches < 3 && out.mismatches == mismatched && asked == mismatched + 1);
+                checked[out.mismatches]++;
+                out.mismatches = before.mismatches;
+            }
+            IS(out.mismatches == before.mismatches);
             size_t filled = call == READ_RAM ? len : 0;
             if (call == PEEK || call == GET) {
                 IS(len >= 64 && out.message.found <= 1 && out.message.stamped <= out.message.found);
@@ -324,5 +363,6 @@ int main(int argc, char **argv)
         if (counts[r]) printf("%d: %lu\n", r - 1, counts[r]);
     printf("classic, DLC above 8: %lu\n", coded);
     printf("entries that agreed, differed, were not read: %lu %lu %lu\n", seen[0], seen[1], seen[2]);
+    printf("checked reads behind 0, 1, 2 mismatches: %lu %lu %lu\n", checked[0], checked[1], checked[2]);
     return 0;
 }

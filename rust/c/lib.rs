@@ -211,15 +211,20 @@ pub struct CReport {
     rewrite: u32,
     back: u32,
     number: u32,
+    mismatches: u32,
+    back_mismatches: u32,
 }
 
 impl CReport {
     /// `seen` is MCP_AGREE, MCP_DIFFER or MCP_UNREAD.
     fn of(report: Report) -> CReport {
         match report {
-            Report::Agree { address } => CReport { address: address.into(), ..CReport::default() },
-            Report::Differ { address, read, wanted, rewrite } => {
-                CReport { seen: 1, address: address.into(), read, wanted, ..CReport::default() }.after(rewrite)
+            Report::Agree { address, mismatches } => {
+                CReport { address: address.into(), mismatches: mismatches.into(), ..CReport::default() }
+            }
+            Report::Differ { address, read, wanted, mismatches, rewrite } => {
+                let mismatches = mismatches.into();
+                CReport { seen: 1, address: address.into(), read, wanted, mismatches, ..CReport::default() }.after(rewrite)
             }
             Report::Unread { address, why } => CReport { seen: 2, address: address.into(), number: number(why), ..CReport::default() },
         }
@@ -229,7 +234,7 @@ impl CReport {
     fn after(self, rewrite: Rewrite) -> CReport {
         match rewrite {
             Rewrite::None => self,
-            Rewrite::Back(back) => CReport { rewrite: 1, back, ..self },
+            Rewrite::Back(back, mismatches) => CReport { rewrite: 1, back, back_mismatches: mismatches.into(), ..self },
             Rewrite::Unread(why) => CReport { rewrite: 2, number: number(why), ..self },
         }
     }
@@ -260,7 +265,7 @@ layout! {
     CFilter 24, fifo 0, mode 4, object 8, mask 16;
     CWatch 12, address 0, wanted 4, care 8;
     CScrubber size_of::<*const ()>(), place 0;
-    CReport 28, seen 0, address 4, read 8, wanted 12, rewrite 16, back 20, number 24;
+    CReport 36, seen 0, address 4, read 8, wanted 12, rewrite 16, back 20, number 24, mismatches 28, back_mismatches 32;
     Watch 12, address 0, wanted 4, care 8; // as CWatch, so that a list of C is one of Rust: no other memory is there to copy it to
 }
 const _: () = assert!(align_of::<Watch>() == align_of::<CWatch>());
@@ -453,9 +458,13 @@ exported! {
     };
     mcp_write_register(m, address: u32, word: u32) = m.write_register(address, word);
     mcp_modify_register(m, address: u32, clear: u32, set: u32) = m.modify_register(address, clear, set);
-    mcp_checked_read(m, address: u32, word: *mut u32) = {
+    mcp_checked_read(m, address: u32, word: *mut u32, mismatches: *mut u32) = {
         there(word)?;
-        m.checked_read(address).map(|w| word.write(w))
+        there(mismatches)?;
+        m.checked_read(address).map(|read| {
+            word.write(read.word);
+            mismatches.write(read.mismatches.into());
+        })
     };
     mcp_read_ram(m, address: u32, buf: *mut u8, len: usize) = {
         lent(buf, len)?;

@@ -135,11 +135,13 @@ typedef struct { uint32_t address, wanted, care; } mcp_watch;
 typedef struct { size_t place; } mcp_scrubber;
 
 /* What a step saw of the entry that it visited. read and wanted are told where they differ; back where the rewrite was read back, as wanted
- * or not; number where the entry was not read (1 or 10), or the write failed (1) or its read-back (1 or 10). What is not told is 0. */
+ * or not; number where the entry was not read (1 or 10), or the write failed (1) or its read-back (1 or 10). mismatches is told where the
+ * entry was read, back_mismatches where the rewrite was read back: how many exchanges of that read mismatched before its word, 0, 1 or 2.
+ * What is not told is 0. */
 enum { MCP_AGREE = 0, MCP_DIFFER = 1, MCP_UNREAD = 2 };                /* seen: the cared-for bits are as wanted, or not; or not read */
 enum { MCP_NO_REWRITE = 0, MCP_READ_BACK = 1, MCP_NOT_READ_BACK = 2 }; /* rewrite: none; written and read back; one of the two failed */
 typedef struct {
-    uint32_t seen, address, read, wanted, rewrite, back, number;
+    uint32_t seen, address, read, wanted, rewrite, back, number, mismatches, back_mismatches;
 } mcp_report;
 
 /* Behind each call: its refusals, beside 1 for a failed exchange (2 of a RAM write and the reset; 11 where (11) stands). */
@@ -149,8 +151,9 @@ int mcp_read_register(const mcp_line *line, uint32_t address, uint32_t *word);  
 int mcp_write_register(const mcp_line *line, uint32_t address, uint32_t word);                          /* 24 */
 /* The register with the bits of clear at 0, then those of set at 1. */
 int mcp_modify_register(const mcp_line *line, uint32_t address, uint32_t clear, uint32_t set);          /* 24 */
-/* The CRC is tested, in at most three tries. */
-int mcp_checked_read(const mcp_line *line, uint32_t address, uint32_t *word);                           /* 24; 10 */
+/* The CRC is tested, in at most three tries. *mismatches is how many of them mismatched before the one that *word is from: 0, 1 or 2. It
+ * tells a harness that is getting bad before 10 does. */
+int mcp_checked_read(const mcp_line *line, uint32_t address, uint32_t *word, uint32_t *mismatches);     /* 24; 10 */
 
 /* All of buf or bytes, or nothing; about 2 kB of the stack. A length of 0 in range is an exchange. */
 int mcp_read_ram(const mcp_line *line, uint32_t address, uint8_t *buf, size_t len);                     /* 3, 4 */
@@ -273,8 +276,9 @@ MCP_LAYOUT(mcp_filter, 24, MCP_AT(mcp_filter, fifo, 0) && MCP_AT(mcp_filter, mod
     MCP_AT(mcp_filter, mask, 16));
 MCP_LAYOUT(mcp_watch, 12, MCP_AT(mcp_watch, address, 0) && MCP_AT(mcp_watch, wanted, 4) && MCP_AT(mcp_watch, care, 8));
 MCP_LAYOUT(mcp_scrubber, sizeof(void *), MCP_AT(mcp_scrubber, place, 0));
-MCP_LAYOUT(mcp_report, 28, MCP_AT(mcp_report, seen, 0) && MCP_AT(mcp_report, address, 4) && MCP_AT(mcp_report, read, 8) &&
-    MCP_AT(mcp_report, wanted, 12) && MCP_AT(mcp_report, rewrite, 16) && MCP_AT(mcp_report, back, 20) && MCP_AT(mcp_report, number, 24));
+MCP_LAYOUT(mcp_report, 36, MCP_AT(mcp_report, seen, 0) && MCP_AT(mcp_report, address, 4) && MCP_AT(mcp_report, read, 8) &&
+    MCP_AT(mcp_report, wanted, 12) && MCP_AT(mcp_report, rewrite, 16) && MCP_AT(mcp_report, back, 20) && MCP_AT(mcp_report, number, 24) &&
+    MCP_AT(mcp_report, mismatches, 28) && MCP_AT(mcp_report, back_mismatches, 32));
 MCP_LAYOUT(mcp_chip, 2800, MCP_AT(mcp_chip, words, 0));
 MCP_LAYOUT(mcp_frame, 88, MCP_AT(mcp_frame, header, 0) && MCP_AT(mcp_frame, seq, 12) && MCP_AT(mcp_frame, time, 16) &&
     MCP_AT(mcp_frame, kind, 20) && MCP_AT(mcp_frame, stamped, 21) && MCP_AT(mcp_frame, len, 22) && MCP_AT(mcp_frame, dlc, 23) &&

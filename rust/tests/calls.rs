@@ -1,6 +1,6 @@
 //! Call by call on the modelled chip: exchanges that fail one after the other, answers that come late or wrong, numbers that there are
 //! not, what lent buffers hold afterwards, scratch that is too short, turns that are left, frames that the filters sort, every DLC, lists
-//! that are scrubbed. What is expected was written down from documents 01 and 02.
+//! that are scrubbed, mismatches that are counted. What is expected was written down from documents 01 and 02.
 use masevuru::calls::*;
 use masevuru::chip::{Chip, Delivery, Frame, Payload, Reading, Sending, Sorted};
 use masevuru::*;
@@ -13,6 +13,8 @@ struct Bench {
     fail_at: u32,
     /// What becomes of the bytes that an exchange received, by its number.
     twist: fn(u32, &mut [u8]),
+    /// The checked reads that are answered with another CRC: a bit for each exchange, by its number.
+    mismatches: u32,
 }
 
 fn as_it_is(_: u32, _: &mut [u8]) {}
@@ -25,6 +27,9 @@ impl Line for Bench {
         }
         self.chip.transfer(tx, rx)?;
         (self.twist)(self.exchanges, rx);
+        if rx.len() == 6 && self.exchanges < 32 && self.mismatches >> self.exchanges & 1 == 1 {
+            rx[5] ^= 1;
+        }
         Ok(())
     }
 
@@ -71,7 +76,7 @@ fn filter() -> FilterConfiguration {
 }
 
 fn on(chip: Chip) -> Driver {
-    Mcp::new(Bench { chip, exchanges: 0, waits: 0, fail_at: 0, twist: as_it_is })
+    Mcp::new(Bench { chip, exchanges: 0, waits: 0, fail_at: 0, twist: as_it_is, mismatches: 0 })
 }
 
 /// Outside Configuration: FIFO 1 sends; FIFO 2, with timestamps, and FIFO 3 receive and hold a message of 5 bytes each.
@@ -93,6 +98,11 @@ fn twisted(twist: fn(u32, &mut [u8])) -> Driver {
     let mut mcp = prepared();
     mcp.line.twist = twist;
     mcp
+}
+
+/// What goes wrong in the next call: exchanges that mismatch, by a bit each, and one that fails.
+fn amiss(m: &mut Driver, mismatches: u32, fail_at: u32) {
+    (m.line.exchanges, m.line.mismatches, m.line.fail_at) = (0, mismatches, fail_at);
 }
 
 fn told<T, R: Into<Refusal>>(answer: Result<T, R>) -> u32 {
@@ -578,12 +588,12 @@ fn step(m: &mut Driver, place: usize, list: &[Watch], rewrite: bool) -> (Result<
     (m.scrub(&mut s, list, rewrite), s.place)
 }
 
-fn agree(address: u16) -> Result<Report, Refusal> {
-    Ok(Report::Agree { address })
+fn agree(address: u16, mismatches: u8) -> Result<Report, Refusal> {
+    Ok(Report::Agree { address, mismatches })
 }
 
-fn differ(address: u16, read: u32, wanted: u32, rewrite: Rewrite) -> Result<Report, Refusal> {
-    Ok(Report::Differ { address, read, wanted, rewrite })
+fn differ(address: u16, read: u32, wanted: u32, mismatches: u8, rewrite: Rewrite) -> Result<Report, Refusal> {
+    Ok(Report::Differ { address, read, wanted, mismatches, rewrite })
 }
 
 /// Document 02: n successive steps that are not refused visit each of n entries once, whatever is called between; with a shorter list a
@@ -618,7 +628,7 @@ fn scrubbed_in_turn() {
         (&FILTER[1..], 1, 0x1F4, 2),
         (&FILTER[1..], 2, 0x1F0, 1),
     ] {
-        assert_eq!(step(&mut m, place, list, true), (agree(address), after), "{} entries, place {place}", list.len());
+        assert_eq!(step(&mut m, place, list, true), (agree(address, 0), after), "{} entries, place {place}", list.len());
     }
 }
 
@@ -640,25 +650,25 @@ fn every_flipped_bit() {
                 m.write_register(address, wrong).unwrap();
                 m.line.exchanges = 0;
                 let is_seen = bit & care != 0;
-                let seen = |rewrite| if is_seen { differ(address as u16, wrong, wanted, rewrite) } else { agree(address as u16) };
+                let seen = |rewrite| if is_seen { differ(address as u16, wrong, wanted, 0, rewrite) } else { agree(address as u16, 0) };
                 assert_eq!(step(&mut m, 0, &list, false), (seen(Rewrite::None), 1));
                 assert_eq!((m.line.exchanges, m.read_register(address)), (1, Ok(wrong)));
                 m.line.exchanges = 0;
-                assert_eq!(step(&mut m, 0, &list, true), (seen(Rewrite::Back(right)), 1));
+                assert_eq!(step(&mut m, 0, &list, true), (seen(Rewrite::Back(right, 0)), 1));
                 assert_eq!((m.line.exchanges, m.read_register(address)), if is_seen { (3, Ok(right)) } else { (1, Ok(wrong)) });
             }
         }
     }
     // a bit that can't be had: what is read back is told as it is. FIFO 2 holds a message: status bit 0
     let status = [Watch { address: 0x06C, wanted: 0, care: 1 }];
-    assert_eq!(step(&mut prepared(), 0, &status, true), (differ(0x06C, 1, 0, Rewrite::Back(1)), 1));
+    assert_eq!(step(&mut prepared(), 0, &status, true), (differ(0x06C, 1, 0, 0, Rewrite::Back(1, 0)), 1));
     // a rewrite is a write as any other: a mode asked for, a FIFO emptied by FRESET
     let mut m = prepared();
     let mode = [Watch { address: 0x000, wanted: 0x0400_0000, care: 0x0700_0000 }];
-    assert!(matches!(step(&mut m, 0, &mode, true).0, Ok(Report::Differ { rewrite: Rewrite::Back(w), .. }) if w >> 21 & 7 == 4));
+    assert!(matches!(step(&mut m, 0, &mode, true).0, Ok(Report::Differ { rewrite: Rewrite::Back(w, 0), .. }) if w >> 21 & 7 == 4));
     assert_eq!((m.get_op_mode(), m.line.chip.held(2)), (Ok(4), Ok(0)));
     let (mut m, empty) = (prepared(), [Watch { address: 0x068, wanted: 0x400, care: 0x400 }]);
-    assert!(matches!(step(&mut m, 0, &empty, true).0, Ok(Report::Differ { rewrite: Rewrite::Back(w), .. }) if w & 0x400 == 0));
+    assert!(matches!(step(&mut m, 0, &empty, true).0, Ok(Report::Differ { rewrite: Rewrite::Back(w, 0), .. }) if w & 0x400 == 0));
     assert_eq!(m.line.chip.held(2), Ok(0));
 }
 
@@ -671,10 +681,10 @@ fn a_filter_mended() {
     m.write_register(0x1F4, 0x4000_0300).unwrap();
     assert_eq!(m.line.chip.sort(other, 8, 0, &BYTES).delivery, Delivery::Delivered);
     let steps = [m.scrub(&mut s, &FILTER, true), m.scrub(&mut s, &FILTER, true), m.scrub(&mut s, &FILTER, true)];
-    assert_eq!(steps, [agree(0x1D0), agree(0x1F0), differ(0x1F4, 0x4000_0300, 0x4000_0700, Rewrite::Back(0x4000_0700))]);
+    assert_eq!(steps, [agree(0x1D0, 0), agree(0x1F0, 0), differ(0x1F4, 0x4000_0300, 0x4000_0700, 0, Rewrite::Back(0x4000_0700, 0))]);
     assert_eq!(m.line.chip.sort(other, 8, 0, &BYTES).delivery, Delivery::Refused(Refusal::NoMatch));
     let steps = [m.scrub(&mut s, &FILTER, true), m.scrub(&mut s, &FILTER, true), m.scrub(&mut s, &FILTER, true)];
-    assert_eq!((steps, s.place), ([agree(0x1D0), agree(0x1F0), agree(0x1F4)], 3));
+    assert_eq!((steps, s.place), ([agree(0x1D0, 0), agree(0x1F0, 0), agree(0x1F4, 0)], 3));
 }
 
 /// What goes wrong on the line is the entry's visit, and is reported. READ_CRC's answer has its CRC in bytes 4 and 5: a checked read is
@@ -684,27 +694,27 @@ fn scrubbed_amiss() {
     let (one, wanted) = (&DIFFERS, DIFFERS[0].wanted);
     let (read, right) = (0x003E_0F0F, 0x003E_0F0E);
     let unread = |why| Ok(Report::Unread { address: 0x004, why });
-    let differs = |rewrite| differ(0x004, read, wanted, rewrite);
-    let lost = |why| differs(Rewrite::Unread(why));
+    let differs = |mismatches, rewrite| differ(0x004, read, wanted, mismatches, rewrite);
+    let lost = |mismatches, why| differs(mismatches, Rewrite::Unread(why));
     const TWISTS: [fn(u32, &mut [u8]); 4] = [
         |_, rx| if rx.len() == 6 { rx[5] ^= 0x80 },
         |k, rx| if k < 3 { rx[0] ^= 1 },
         |k, rx| if k > 1 && rx.len() == 6 { rx[3] ^= 1 },
         |k, rx| if k < 3 || k == 5 || k == 6 { rx[4] ^= 1 },
     ];
-    let back = Rewrite::Back(right);
+    let back = |mismatches| Rewrite::Back(right, mismatches);
     for (twist, fail_at, seen, exchanges, after) in [
         (as_it_is as fn(u32, &mut [u8]), 1, unread(Refusal::SpiRead), 1, read),
-        (as_it_is, 2, lost(Refusal::SpiRead), 2, read),
-        (as_it_is, 3, lost(Refusal::SpiRead), 3, right),
+        (as_it_is, 2, lost(0, Refusal::SpiRead), 2, read),
+        (as_it_is, 3, lost(0, Refusal::SpiRead), 3, right),
         (TWISTS[0], 0, unread(Refusal::CrcMismatch), 3, read),
         (TWISTS[0], 3, unread(Refusal::SpiRead), 3, read),
-        (TWISTS[1], 0, differs(back), 5, right),
-        (TWISTS[2], 0, lost(Refusal::CrcMismatch), 5, right),
-        (TWISTS[2], 5, lost(Refusal::SpiRead), 5, right),
-        (TWISTS[3], 0, differs(back), 7, right),
-        (TWISTS[3], 4, lost(Refusal::SpiRead), 4, read),
-        (TWISTS[3], 7, lost(Refusal::SpiRead), 7, right),
+        (TWISTS[1], 0, differs(2, back(0)), 5, right),
+        (TWISTS[2], 0, lost(0, Refusal::CrcMismatch), 5, right),
+        (TWISTS[2], 5, lost(0, Refusal::SpiRead), 5, right),
+        (TWISTS[3], 0, differs(2, back(2)), 7, right),
+        (TWISTS[3], 4, lost(2, Refusal::SpiRead), 4, read),
+        (TWISTS[3], 7, lost(2, Refusal::SpiRead), 7, right),
     ] {
         let mut m = twisted(twist);
         m.line.fail_at = fail_at;
@@ -717,7 +727,7 @@ fn scrubbed_amiss() {
     for (twist, fail_at, seen, exchanges) in [
         (TWISTS[0], 0, unread(Refusal::CrcMismatch), 3),
         (TWISTS[0], 2, unread(Refusal::SpiRead), 2),
-        (TWISTS[1], 0, differs(Rewrite::None), 3),
+        (TWISTS[1], 0, differs(2, Rewrite::None), 3),
     ] {
         let mut m = twisted(twist);
         m.line.fail_at = fail_at;
@@ -729,6 +739,157 @@ fn scrubbed_amiss() {
         m.line.fail_at = m.line.exchanges + 1;
         assert_eq!(m.scrub(&mut s, &FILTER, true), Ok(Report::Unread { address: watch.address as u16, why: Refusal::SpiRead }));
     }
+}
+
+/// OSC as after a reset, behind so many mismatches.
+const fn osc(mismatches: u8) -> Result<Checked, Refusal> {
+    Ok(Checked { word: 0x0000_0460, mismatches })
+}
+
+/// Exchanges that mismatch, by a bit each, one that fails, what a checked read of OSC then answers, and after how many exchanges. Document
+/// 02: 0, 1 or 2, "equal to the mismatches in the answers given"; document 01: the third is 10, any other failure stops at once.
+const READS: [(u32, u32, Result<Checked, Refusal>, u32); 14] = [
+    (0b0000, 0, osc(0), 1),
+    (0b0010, 0, osc(1), 2),
+    (0b0110, 0, osc(2), 3),
+    (0b1110, 0, Err(Refusal::CrcMismatch), 3),
+    (0b0000, 1, Err(Refusal::SpiRead), 1),
+    (0b0010, 2, Err(Refusal::SpiRead), 2),
+    (0b0110, 3, Err(Refusal::SpiRead), 3),
+    (0b1110, 2, Err(Refusal::SpiRead), 2),
+    // what would go wrong behind the end is not asked for
+    (0b1100, 0, osc(0), 1),
+    (0b1010, 0, osc(1), 2),
+    (0b1000, 2, osc(0), 1),
+    (0b0010, 3, osc(1), 2),
+    (0b0110, 4, osc(2), 3),
+    (0b1110, 4, Err(Refusal::CrcMismatch), 3),
+];
+
+/// Each after each other, so that a count which stayed from the call before would be seen.
+#[test]
+fn mismatches_told() {
+    let mut m = prepared();
+    for (first, first_fails, first_answer, _) in READS {
+        for (second, fail_at, second_answer, exchanges) in READS {
+            amiss(&mut m, first, first_fails);
+            assert_eq!(m.checked_read(0xE00), first_answer);
+            amiss(&mut m, second, fail_at);
+            assert_eq!(m.checked_read(0xE00), second_answer, "{second:#b}, exchange {fail_at} fails, behind {first:#b}");
+            assert_eq!((m.line.exchanges, m.line.waits), (exchanges, 0), "{second:#b}, exchange {fail_at} fails");
+        }
+    }
+    amiss(&mut m, 0b0110, 0);
+    assert_eq!((m.checked_read(0x105C), m.line.exchanges), (Err(Refusal::BadSetting), 0));
+    assert_eq!((m.read_register(0xE00), m.get_op_mode(), m.line.exchanges), (Ok(0x0000_0460), Ok(0), 2)); // no CRC, no count
+}
+
+/// In a loop of one's own, whichever bit of the answers is wrong: after 0, 1 or 2 mismatches the right answer is done and tells them, an
+/// answer of another length or kind is 26, a failed one is 1, all at once; a third mismatch is 10.
+#[test]
+fn mismatches_of_ones_own() {
+    let over = |call| (turns(call), finish(call, &[], &mut []));
+    let refused = |why| (0, Outcome::Refused(why));
+    let right = [0x60, 0x04, 0x00, 0x00, 0x6C, 0x41]; // OSC as after a reset, low byte first, and its CRC
+    for bit in 0..48 {
+        let (mut call, mut wrong) = (checked_read(0xE00), right);
+        wrong[bit / 8] ^= 1 << (bit % 8);
+        for mismatches in 0..3 {
+            assert_eq!(over(call), (3 - u32::from(mismatches), Outcome::Running));
+            let done = answer(call, Answer::Exchanged, &right);
+            assert_eq!(over(done), (0, Outcome::Checked(0x0000_0460, mismatches)), "bit {bit}");
+            assert_eq!(over(answer(done, Answer::Exchanged, &right)), refused(Refusal::WrongAnswer));
+            for len in [0, 1, 2, 3, 4, 5, 7, 8] {
+                let other = [0x60, 0x04, 0x00, 0x00, 0x6C, 0x41, 0x00, 0x00];
+                assert_eq!(over(answer(call, Answer::Exchanged, &other[..len])), refused(Refusal::WrongAnswer), "{len} bytes");
+            }
+            assert_eq!(over(answer(call, Answer::Waited, &[])), refused(Refusal::WrongAnswer));
+            assert_eq!(over(answer(call, Answer::Failed, &right)), refused(Refusal::SpiRead));
+            call = answer(call, Answer::Exchanged, &wrong);
+        }
+        assert_eq!(over(call), refused(Refusal::CrcMismatch), "bit {bit}");
+    }
+}
+
+/// So many exchanges that mismatch, from `at` on.
+fn in_a_row(at: u8, mismatches: u8) -> u32 {
+    ((1 << mismatches) - 1) << at
+}
+
+/// A scrub step tells the mismatches of the visit, and of the read-back its own; per entry, and none of the step or the call before.
+#[test]
+fn mismatches_scrubbed() {
+    let (wanted, read, right) = (DIFFERS[0].wanted, 0x003E_0F0F, 0x003E_0F0E);
+    for visit in 0..3 {
+        for back in 0..3 {
+            let mut m = prepared();
+            // the word is exchange visit + 1, the write follows it
+            amiss(&mut m, in_a_row(1, visit) | in_a_row(visit + 3, back), 0);
+            let seen = differ(0x004, read, wanted, visit, Rewrite::Back(right, back));
+            assert_eq!((step(&mut m, 0, &DIFFERS, true), m.line.exchanges), ((seen, 1), u32::from(visit + back) + 3));
+            // a third mismatch, or a failure, of the read-back tells its number; what the visit counted stays told
+            for (mismatches, fail_at, why) in [(3, 0, Refusal::CrcMismatch), (back, visit + 3 + back, Refusal::SpiRead)] {
+                let mut m = prepared();
+                amiss(&mut m, in_a_row(1, visit) | in_a_row(visit + 3, mismatches), fail_at.into());
+                assert_eq!(step(&mut m, 0, &DIFFERS, true), (differ(0x004, read, wanted, visit, Rewrite::Unread(why)), 1));
+            }
+            // the next step begins anew; now the register agrees
+            amiss(&mut m, in_a_row(1, back), 0);
+            assert_eq!((step(&mut m, 0, &DIFFERS, true), m.line.exchanges), ((agree(0x004, back), 1), u32::from(back) + 1));
+        }
+        let mut m = prepared();
+        amiss(&mut m, in_a_row(1, visit), 0);
+        assert_eq!(step(&mut m, 0, &DIFFERS, false), (differ(0x004, read, wanted, visit, Rewrite::None), 1));
+    }
+    let (mut m, mut s) = (filtering(), FIRST);
+    for (k, mismatches) in [2, 0, 1, 3, 1, 2, 0, 3, 0].into_iter().enumerate() {
+        let address = FILTER[k % 3].address as u16;
+        let unread = Ok(Report::Unread { address, why: Refusal::CrcMismatch });
+        amiss(&mut m, in_a_row(1, mismatches), 0);
+        assert_eq!(m.scrub(&mut s, &FILTER, true), if mismatches < 3 { agree(address, mismatches) } else { unread }, "step {k}");
+        // a call between counts its own
+        amiss(&mut m, in_a_row(1, 2 - k as u8 % 3), 0);
+        assert_eq!(m.checked_read(0xE00), osc(2 - k as u8 % 3));
+    }
+}
+
+/// The same in a loop of one's own, where an answer may have another length: the visit's is then unread, and tells no count; of the
+/// read-back none is told, and of the visit what it counted.
+#[test]
+fn mismatches_scrubbed_of_ones_own() {
+    let over = |call| (turns(call), finish(call, &[], &mut []));
+    let unread = |why| (0, Outcome::Scrubbed(Report::Unread { address: 0x004, why }));
+    let differs = |mismatches, rewrite| {
+        let (read, wanted) = (0x003E_0F0F, DIFFERS[0].wanted);
+        (0, Outcome::Scrubbed(Report::Differ { address: 0x004, read, wanted, mismatches, rewrite }))
+    };
+    let mut right = [0; 6];
+    prepared().line.chip.transfer(&[0xB0, 0x04, 4], &mut right).unwrap();
+    assert_eq!(right[..4], [0x0F, 0x0F, 0x3E, 0x00]);
+    let wrong = [right[0] ^ 1, right[1], right[2], right[3], right[4], right[5]];
+    let mut visit = scrub(FIRST, &DIFFERS, true);
+    for before in 0..3 {
+        assert_eq!(over(visit), (7 - u32::from(before), Outcome::Running));
+        for (answered, rx) in [(Answer::Exchanged, &right[..5]), (Answer::Exchanged, &[]), (Answer::Waited, &[])] {
+            assert_eq!(over(answer(visit, answered, rx)), unread(Refusal::WrongAnswer));
+        }
+        assert_eq!(over(answer(visit, Answer::Failed, &right)), unread(Refusal::SpiRead));
+        let written = answer(visit, Answer::Exchanged, &right);
+        assert_eq!(over(written), (4, Outcome::Running));
+        assert_eq!(over(answer(written, Answer::Exchanged, &right)), differs(before, Rewrite::Unread(Refusal::WrongAnswer)));
+        let mut back = answer(written, Answer::Exchanged, &[]);
+        for between in 0..3 {
+            assert_eq!(over(back), (3 - u32::from(between), Outcome::Running));
+            // the register did not take the write, and is read back as it was
+            assert_eq!(over(answer(back, Answer::Exchanged, &right)), differs(before, Rewrite::Back(0x003E_0F0F, between)));
+            assert_eq!(over(answer(back, Answer::Exchanged, &right[..5])), differs(before, Rewrite::Unread(Refusal::WrongAnswer)));
+            assert_eq!(over(answer(back, Answer::Failed, &right)), differs(before, Rewrite::Unread(Refusal::SpiRead)));
+            back = answer(back, Answer::Exchanged, &wrong);
+        }
+        assert_eq!(over(back), differs(before, Rewrite::Unread(Refusal::CrcMismatch)));
+        visit = answer(visit, Answer::Exchanged, &wrong);
+    }
+    assert_eq!(over(visit), unread(Refusal::CrcMismatch));
 }
 
 /// The registers of document 01, by their addresses.
@@ -752,7 +913,7 @@ fn scrubs_refused() {
                 let due = if place < 3 { place } else { 0 };
                 let due_address = list[due].address as u16;
                 let refused = (Err(Refusal::NotCarried), place);
-                assert_eq!(step(&mut m, place, &list, true), if is_carried(address) { (agree(due_address), due + 1) } else { refused });
+                assert_eq!(step(&mut m, place, &list, true), if is_carried(address) { (agree(due_address, 0), due + 1) } else { refused });
             }
         }
         // and the chip has that register
@@ -775,7 +936,7 @@ fn a_scrubber_of_ones_own() {
     let start = scrub(Scrubber { place: 1 }, &FILTER, true);
     assert_eq!((place(start), finish(start, &[], &mut [])), (1, Outcome::Running));
     let (end, received) = turned(&mut line, start, &[]);
-    assert_eq!((place(end), finish(end, &received, &mut [])), (2, Outcome::Scrubbed(Report::Agree { address: 0x1F0 })));
+    assert_eq!((place(end), finish(end, &received, &mut [])), (2, Outcome::Scrubbed(Report::Agree { address: 0x1F0, mismatches: 0 })));
     for answered in [Answer::Exchanged, Answer::Waited, Answer::Failed] {
         let late = answer(end, answered, &[]);
         assert_eq!((place(late), turns(late), finish(late, &[], &mut [])), (2, 0, Outcome::Refused(Refusal::WrongAnswer)));

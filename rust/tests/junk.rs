@@ -1,6 +1,7 @@
 //! Random calls with random numbers over a line that answers junk, fails and otherwise is the modelled chip. None may panic, send what is
 //! no instruction, go on after a failed exchange, change a byte where it is refused, be refused for what the documents do not have for it,
-//! find a message whose length is not what its DLC means, leave a scrubber where it does not belong, or take more turns than it said.
+//! find a message whose length is not what its DLC means, leave a scrubber where it does not belong, count other mismatches than the
+//! answers had, or take more turns than it said.
 use masevuru::calls::*;
 use masevuru::chip::{Chip, Decoded, Delivery, Reading, Sorted};
 use masevuru::*;
@@ -9,8 +10,9 @@ use masevuru::*;
 struct Junk {
     chip: Chip,
     seed: u64,
-    /// Exchanges of this call, and whether one of them was not carried out.
+    /// Exchanges of this call, how many of their answers mismatched, and whether one of them was not carried out.
     asked: u32,
+    mismatched: u32,
     failed: bool,
     /// One exchange in so many fails, another is answered by some junk, a third by ones; none where it is 0.
     rough: u64,
@@ -18,7 +20,7 @@ struct Junk {
 
 impl Junk {
     fn new(seed: u64) -> Junk {
-        Junk { chip: Chip::new(), seed, asked: 0, failed: false, rough: 16 }
+        Junk { chip: Chip::new(), seed, asked: 0, mismatched: 0, failed: false, rough: 16 }
     }
 
     fn next(&mut self) -> u64 {
@@ -60,6 +62,13 @@ fn is_instruction(tx: &[u8], want: usize) -> bool {
     }
 }
 
+/// Document 01's CRC over what was sent and what came, bit by bit: whether the answer to a READ_CRC has another.
+fn is_mismatch(tx: &[u8], rx: &[u8]) -> bool {
+    let shift = |c: u16| if c & 0x8000 == 0 { c << 1 } else { c << 1 ^ 0x8005 };
+    let byte = |c: u16, b: &u8| (0..8).fold(c ^ u16::from(*b) << 8, |c, _| shift(c));
+    tx[0] >> 4 == 11 && tx.iter().chain(&rx[..4]).fold(0xFFFF, byte) != u16::from_be_bytes([rx[4], rx[5]])
+}
+
 impl Line for Junk {
     fn transfer(&mut self, tx: &[u8], rx: &mut [u8]) -> Result<(), Failed> {
         assert!(!self.failed, "asked again after a failed exchange");
@@ -79,6 +88,7 @@ impl Line for Junk {
             _ => self.chip.transfer(tx, rx),
         };
         self.failed = answer.is_err();
+        self.mismatched += u32::from(!self.failed && is_mismatch(tx, rx));
         answer
     }
 
@@ -140,10 +150,13 @@ fn is_meant(dlc: u8, fdf: bool, len: usize) -> bool {
     LENGTHS.get(dlc as usize).is_some_and(|&n| len == if fdf { n } else { n.min(8) })
 }
 
-/// The same of a message that a call ended with.
+/// The same of a message that a call ended with; and no read, checked and done, has more than 2 mismatches behind it.
 fn is_as_meant(end: Outcome) -> bool {
     match end {
         Outcome::Message(found) => is_meant(found.dlc, found.header.fdf, found.len as usize),
+        Outcome::Checked(_, mismatches) | Outcome::Scrubbed(Report::Agree { mismatches, .. }) => mismatches < 3,
+        Outcome::Scrubbed(Report::Differ { mismatches, rewrite: Rewrite::Back(_, back), .. }) => mismatches < 3 && back < 3,
+        Outcome::Scrubbed(Report::Differ { mismatches, .. }) => mismatches < 3,
         _ => true,
     }
 }
@@ -165,12 +178,30 @@ fn due(place: usize, list: &[Watch]) -> (Watch, usize) {
 /// Whether a report is of this entry, with a rewrite only where one was told, and tells of a difference only where there is one.
 fn is_of(report: Report, entry: Watch, rewriting: bool) -> bool {
     match report {
-        Report::Agree { address } | Report::Unread { address, .. } => u32::from(address) == entry.address,
-        Report::Differ { address, read, wanted, rewrite } => {
+        Report::Agree { address, .. } | Report::Unread { address, .. } => u32::from(address) == entry.address,
+        Report::Differ { address, read, wanted, rewrite, .. } => {
             (u32::from(address), wanted) == (entry.address, entry.wanted)
                 && (read ^ wanted) & entry.care != 0
                 && (rewrite != Rewrite::None) == rewriting
         }
+    }
+}
+
+/// Whether as many mismatches were told of checked reads as their answers had, 0, 1 or 2 of each: behind them its word was read.
+fn is_counted(told: &[u8], asked: u32, mismatched: u32) -> bool {
+    let all = told.iter().map(|n| u32::from(*n)).sum::<u32>();
+    told.iter().all(|n| *n < 3) && (all + told.len() as u32, all) == (asked, mismatched)
+}
+
+/// The same of a step: its visit, and behind the write its read-back. A read that fails or mismatches for the third time tells no count.
+fn is_counted_in(report: Report, asked: u32, mismatched: u32) -> bool {
+    let is_third = |before: u8, why| mismatched.checked_sub(before.into()).is_some_and(|n| (n == 3) == (why == Refusal::CrcMismatch));
+    match report {
+        Report::Agree { mismatches, .. } => is_counted(&[mismatches], asked, mismatched),
+        Report::Differ { mismatches, rewrite: Rewrite::None, .. } => is_counted(&[mismatches], asked, mismatched),
+        Report::Differ { mismatches, rewrite: Rewrite::Back(_, back), .. } => is_counted(&[mismatches, back], asked - 1, mismatched),
+        Report::Differ { mismatches, rewrite: Rewrite::Unread(why), .. } => mismatches < 3 && is_third(mismatches, why),
+        Report::Unread { why, .. } => is_third(0, why),
     }
 }
 
@@ -263,7 +294,7 @@ fn a_hundred_thousand() {
     let bytes: Vec<u8> = (0..4096).map(|i| i as u8).collect();
     let (mut buf, before) = (vec![0x5Au8; 4096], vec![0x5Au8; 4096]);
     let (mut counts, mut sorted, mut coded) = ([0u32; 34], [0u32; 37], [0u32; 16]);
-    let (mut scrubber, mut seen) = (Scrubber { place: 0 }, [0u32; 4]);
+    let (mut scrubber, mut seen, mut mismatched) = (Scrubber { place: 0 }, [0u32; 4], [0u32; 3]);
     for i in 0..100_000 {
         if i % 64 == 0 {
             settle(&mut mcp);
@@ -271,7 +302,7 @@ fn a_hundred_thousand() {
         let g = given(&mut mcp.line);
         let (call, room) = (mcp.line.below(25), g.len * 4 % 4096);
         mcp.line.rough = [4, 16, 64][mcp.line.below(3)];
-        (mcp.line.asked, mcp.line.failed) = (0, false);
+        (mcp.line.asked, mcp.line.mismatched, mcp.line.failed) = (0, 0, false);
         // how many bytes at the front of `buf` a call that is done has filled
         let mut filled = 0;
         let answer = match call {
@@ -279,7 +310,10 @@ fn a_hundred_thousand() {
             1 => mcp.read_register(g.a).map(|_| ()),
             2 => mcp.write_register(g.a, g.b),
             3 => mcp.modify_register(g.a, g.b, g.c),
-            4 => mcp.checked_read(g.a).map(|_| ()),
+            4 => mcp.checked_read(g.a).map(|read| {
+                assert!(is_counted(&[read.mismatches], mcp.line.asked, mcp.line.mismatched), "{read:?}, {} asked", mcp.line.asked);
+                mismatched[read.mismatches as usize] += 1;
+            }),
             5 => mcp.read_ram(g.a, &mut buf[..g.len]).map(|()| filled = g.len),
             6 => mcp.write_ram(g.a, &bytes[..g.len]),
             7 => mcp.verify(),
@@ -307,6 +341,7 @@ fn a_hundred_thousand() {
                     Ok(report) => {
                         let (entry, next) = due(place, &g.list);
                         assert!(is_of(report, entry, g.rewrite) && scrubber.place == next, "{report:?} of {entry:?}");
+                        assert!(is_counted_in(report, mcp.line.asked, mcp.line.mismatched), "{report:?}, {} asked", mcp.line.asked);
                         seen[report_number(report)] += 1;
                     }
                     Err(r) => assert!(matches!(r, Refusal::EmptyList | Refusal::NotCarried) && scrubber.place == place),
@@ -345,6 +380,7 @@ fn a_hundred_thousand() {
     }
     assert!(!coded.contains(&0), "classic messages with each DLC: {coded:?}");
     assert!(!seen.contains(&0), "entries that agree, differ, were rewritten, were not read: {seen:?}");
+    assert!(!mismatched.contains(&0), "checked reads behind 0, 1 and 2 mismatches: {mismatched:?}");
     for (n, count) in counts.iter().enumerate() {
         let is_never = matches!(n, 15..=19 | 23 | 26 | 27 | 29..=31);
         assert_eq!(*count == 0, is_never, "{n} was answered {count} times: {counts:?}");
