@@ -17,7 +17,7 @@ use Rattle.spi.specs.Talk.{run, onChecked}
 use Rattle.call.specs.declared.Outcome.{Outcome}
 use Rattle.register.specs.RegisterCall.{RegisterCall}
 use Rattle.register.specs.Step.{addressed, checkedStart, afterMismatch, stepOf, outcomeOf}
-use Rattle.register.specs.Laws.{heard, isMismatch, mismatches, checkedAfter, Counted, AtMostTwo, LastMatches, ThirdRefused, OthersStop, Laws}
+use Rattle.register.specs.Laws.{heard, isMismatch, mismatches, checkedAfter, Counted, AtMostTwo, LastMatches, Given, ThirdRefused, OthersStop, Laws}
 
 no : {X : Type 0} → _≡_ {A = ℕ} 0 1 → X
 no e = absurd (omega (arith, e))
@@ -93,6 +93,12 @@ module _ (address w n : ℕ) where
       by-if (λ (s : RegisterCall). gives s xs → Heard address w n 0 xs) (ltb address (2 ^ 12)) (λ l h. heard-so 0 xs h)
       (λ l h. absurd (refused-gives Refusal.BadSetting xs h))
 
+given : Given
+unfolding addressed run stepOf outcomeOf afterMismatch
+given address l x y z w =
+    let ok = lt-ltb address (2 ^ 12) l in
+    (λ ex. rw (ok, ex), λ ex ey. rw (ok, ex, ey), λ ex ey ez. rw (ok, ex, ey, ez))
+
 third-refused : ThirdRefused
 unfolding addressed run stepOf outcomeOf afterMismatch
 third-refused address l x y z ex ey ez = rw (lt-ltb address (2 ^ 12) l, ex, ey, ez)
@@ -106,6 +112,7 @@ laws = record {
   counted = λ address xs w n h. omega (arith, counts address w n 0 xs (from-start address w n xs h));
   atMostTwo = λ address xs w n h. few address w n 0 xs (omega arith) (from-start address w n xs h);
   lastMatches = λ address xs x w n h. last address w n 0 _ (from-start address w n (xs ++ (x ∷ [])) h) xs x refl;
+  given = given;
   thirdRefused = third-refused;
   othersStop = others-stop;
 }

@@ -47,6 +47,15 @@ LastMatches =
     (address : ℕ) (xs : List (Answer × List ℕ)) (x : Answer × List ℕ) (w n : ℕ) → checkedAfter address (xs ++ (x ∷ [])) ≡ Outcome.Checked w n
     → heard address x ≡ CheckedWord.Word w
 
+-- behind none, one or two answers that do not match, one that does gives its word, and their number
+abbrev pub Given : Type 0
+Given =
+    (address : ℕ) → address < 2 ^ 12 → (x y z : Answer × List ℕ) (w : ℕ)
+    → (heard address x ≡ CheckedWord.Word w → checkedAfter address (x ∷ []) ≡ Outcome.Checked w 0)
+    × (heard address x ≡ CheckedWord.Mismatch → heard address y ≡ CheckedWord.Word w → checkedAfter address (x ∷ y ∷ []) ≡ Outcome.Checked w 1)
+    × (heard address x ≡ CheckedWord.Mismatch → heard address y ≡ CheckedWord.Mismatch → heard address z ≡ CheckedWord.Word w
+    → checkedAfter address (x ∷ y ∷ z ∷ []) ≡ Outcome.Checked w 2)
+
 -- the third mismatch answers 10
 abbrev pub ThirdRefused : Type 0
 ThirdRefused =
@@ -64,5 +73,6 @@ pub record Laws : Type 0 where
   pub counted : Counted
   pub atMostTwo : AtMostTwo
   pub lastMatches : LastMatches
+  pub given : Given
   pub thirdRefused : ThirdRefused
   pub othersStop : OthersStop

@@ -41,7 +41,7 @@ stepped p ws rewrite xs = run stepOf (scrubStart p ws rewrite) xs
 
 -- ---- the checked reads
 
--- it is that of `checked_read`
+-- each is that of `checked_read`
 abbrev pub ChecksAsRead : Type 0
 ChecksAsRead = (address count left : ℕ) → checkedBy address count left refused (λ w n. done (Outcome.Checked w n)) ≡ checkedTalk address count left
 
@@ -58,6 +58,7 @@ Tells (Report.Differ address read wanted first (Rewrite.Unread r)) xs =
     × (checkedAfter address vs ≡ Outcome.Checked read first) × ((ys ≡ [] → ⊥) → checkedAfter address ys ≡ Outcome.Refused r)
 Tells (Report.Unread address r) xs = checkedAfter address xs ≡ Outcome.Refused r
 
+-- so tells every report, whatever the list, the place and the answers
 abbrev pub TellsAsRead : Type 0
 TellsAsRead =
     (p : ℕ) (ws : List Watch) (rewrite : Bool) (xs : List (Answer × List ℕ)) (r : Report)
