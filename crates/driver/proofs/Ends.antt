@@ -7,8 +7,8 @@ use mathlib.Core.Bool.{Bool, true, true≢false, false≢true}
 use mathlib.Core.Logic.{_↔_}
 use mathlib.Core.List.{List, [], _∷_}
 use lib.ListN.{length}
-use lib.Dec.{eqb, ltb}
-use borrow.Author.Tests.{eqb-false, ltb-true}
+use lib.Dec.{ltb}
+use borrow.Author.Tests.{ltb-true}
 use Rattle.laws.proofs.Choice.{by-if}
 use Rattle.field.specs.Field.{flag}
 use Rattle.fifo.specs.Control.{TXEN, RXTSEN, payloadOf}

@@ -10,7 +10,6 @@ use lib.ListN.{length}
 use Rattle.laws.proofs.Choice.{by-if}
 use Rattle.spi.specs.declared.refusal.Refusal.{Refusal}
 use Rattle.spi.specs.declared.ask.Ask.{Ask}
-use Rattle.spi.specs.declared.ask.Answer.{Answer}
 use Rattle.spi.specs.declared.reply.CheckedWord.{CheckedWord}
 use Rattle.spi.specs.Reply.{wordReply, doneReply, crcReply}
 use Rattle.spi.specs.Talk.{onChecked}
@@ -34,11 +33,11 @@ use Rattle.scrub.specs.Scrub.{Scrub, ScrubAt}
 use Rattle.scrub.specs.Step as scrub
 use Rattle.driver.specs.CallAt.{CallAt}
 use Rattle.driver.specs.Call.{Call}
-use Rattle.driver.specs.Step.{askAt, askOf, stepAt, stepOf, outcomeAt, outcomeOf, filledBy}
+use Rattle.driver.specs.Step.{askAt, askOf, stepAt, stepOf, outcomeAt, outcomeOf}
 use Rattle.driver.specs.Send.{bodyOf}
 use Rattle.driver.specs.Start.{ofRegister, ofRam, ofPlan, ofPush, ofTransmit, ofFetch, ofScrub}
 use Rattle.state.specs.declared.Model.{Model}
-use Rattle.reach.specs.Bus.{Bus, Send, Deliver, Sort, stepped}
+use Rattle.reach.specs.Bus.{Bus, Send, Deliver, Sort}
 use Rattle.history.specs.Command.{Look, Command, looks, started}
 use Rattle.history.specs.History.{Event, Begin, Exchange, Fail, On, Said, Heard, Doing, idle, busy, World, heard, halfway, isOver, settled, goesOn, says, event, after}
 use Rattle.history.specs.Demand.{Each}
@@ -47,9 +46,7 @@ use Rattle.history.proofs.Line.{heard-by}
 use Rattle.history.proofs.Asks.{check-heard}
 use Rattle.history.proofs.Checked.{checked-back}
 use Rattle.history.proofs.Inv.{each-snoc}
-
-no : {X : Type 0} → _≡_ {A = ℕ} 0 1 → X
-no e = absurd (omega (arith, e))
+use Rattle.history.proofs.Scrubs.{no}
 
 -- ---- a checked read's exchange
 

@@ -118,7 +118,8 @@ known a =
 
 -- ---- what is reported once the word was read
 
-no : {X : Type 0} → _≡_ {A = ℕ} 0 1 → X
+-- two constructors are not alike
+pub no : {X : Type 0} → _≡_ {A = ℕ} 0 1 → X
 no e = absurd (omega (arith, e))
 
 -- after the end nothing is reported

@@ -2,22 +2,20 @@
 -- Assumes nothing.
 use Prim.Native.Nat.{ℕ, _+_, _^_, _≤_, _<_}
 use mathlib.Core.Path.{_≡_, refl, sym, ap, _∙_}
-use mathlib.Core.Bool.{Bool, true, false}
 use mathlib.Core.List.{List, [], _∷_, _++_}
 use native.Mathlib.Omega.{arith}
 use lib.Dec.{ltb}
 use borrow.Author.Tests.{lt-ltb, ltb-true}
 use Rattle.laws.specs.If.{if_then_else_}
 use Rattle.laws.proofs.Choice.{by-if}
-use Rattle.field.specs.Field.{digit}
 use Rattle.spi.specs.declared.refusal.Refusal.{Refusal}
 use Rattle.spi.specs.declared.ask.Answer.{Answer}
 use Rattle.spi.specs.declared.reply.CheckedWord.{CheckedWord}
 use Rattle.spi.specs.Talk.{run, onChecked}
 use Rattle.call.specs.declared.Outcome.{Outcome}
 use Rattle.register.specs.RegisterCall.{RegisterCall}
-use Rattle.register.specs.Step.{addressed, checkedStart, afterMismatch, stepOf, outcomeOf}
-use Rattle.register.specs.Laws.{heard, isMismatch, mismatches, checkedAfter, Counted, AtMostTwo, LastMatches, Given, ThirdRefused, OthersStop, Laws}
+use Rattle.register.specs.Step.{addressed, afterMismatch, stepOf, outcomeOf}
+use Rattle.register.specs.Laws.{heard, mismatches, checkedAfter, Given, ThirdRefused, OthersStop, Laws}
 
 no : {X : Type 0} → _≡_ {A = ℕ} 0 1 → X
 no e = absurd (omega (arith, e))

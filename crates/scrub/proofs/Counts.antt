@@ -2,13 +2,10 @@
 -- Assumes nothing.
 use Prim.Native.Nat.{ℕ, _+_, _^_, _<_}
 use mathlib.Core.Path.{_≡_, refl, sym, ap, subst, _∙_}
-use mathlib.Core.Bool.{Bool, true, false}
 use mathlib.Core.List.{List, [], _∷_, _++_, append-assoc, append-nil}
-use native.Mathlib.Omega.{arith}
 use lib.Dec.{ltb}
 use lib.ListN.{length}
 use borrow.Author.Tests.{lt-ltb}
-use Rattle.laws.specs.If.{if_then_else_}
 use Rattle.laws.proofs.Choice.{by-if}
 use Rattle.place.proofs.Laws.{short}
 use Rattle.spi.specs.declared.refusal.Refusal.{Refusal}
@@ -30,10 +27,7 @@ use Rattle.watch.proofs.Laws as watch
 use Rattle.scrub.specs.Scrub.{Scrub, ScrubAt}
 use Rattle.scrub.specs.Step.{agrees, begins, dueAt, scrubStart, to, reports, differs, seen, unread, unwritten, again, stepAt, stepOf, outcomeAt, outcomeOf}
 use Rattle.scrub.specs.Laws.{Tells, TellsAsRead}
-use Rattle.scrub.proofs.Visits.{Late, late, late-told}
-
-no : {X : Type 0} → _≡_ {A = ℕ} 0 1 → X
-no e = absurd (omega (arith, e))
+use Rattle.scrub.proofs.Visits.{no, Late, late, late-told}
 
 -- one answer more
 run-on : {S : Type 0} (step : S → Answer → List ℕ → S) (s : S) (xs : List (Answer × List ℕ)) (x : Answer × List ℕ)

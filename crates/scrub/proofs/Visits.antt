@@ -28,7 +28,8 @@ use Rattle.scrub.specs.Laws.{stepped, addressOf, Moves, Waits, Stays, Ne
 
 -- ---- one step
 
-no : {X : Type 0} → _≡_ {A = ℕ} 0 1 → X
+-- two constructors are not alike
+pub no : {X : Type 0} → _≡_ {A = ℕ} 0 1 → X
 no e = absurd (omega (arith, e))
 
 -- an answer to a step that runs: it reports of its entry, or runs on
