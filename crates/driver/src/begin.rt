@@ -95,7 +95,7 @@ pub fn write_register(address: u32, word: u32) -> Call
     of_register(register::write_start(address, word))
 }
 
-// The word of a register, in at most three checked reads.
+// The word of a register, in at most three checked reads, and how many of them mismatched before it.
 pub fn checked_read(address: u32) -> Call
     ensures { λ r. ⌜ callOf r ≡ started (Checked address) ⌝ }
 {

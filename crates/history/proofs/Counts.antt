@@ -129,13 +129,13 @@ module _ (b : Bool) (s : Call) (c : Model) where
 
     scrub-none : (at : ScrubAt) → z .at ≡ at → countIn at ≡ 0 → countIn (scrub.stepAt at z (h .answer) (h .rx) .at) ≡ 0
     scrub-none (ScrubAt.Visit count) i e =
-        matches Q (scrub.unread z) (scrub.again count (scrub.unread z) (λ k. scrub.to z (ScrubAt.Visit k))) (λ w. scrub.seen z w count) (λ r. refl)
+        matches Q (scrub.unread z) (register.again count (scrub.unread z) (λ k. scrub.to z (ScrubAt.Visit k))) (λ w. scrub.seen z w count) (λ r. refl)
         (λ w. by-if Q (scrub.agrees w (z .entry .wanted) (z .entry .care)) (λ t. e) (λ t. by-if Q (z .rewrite) (λ u. e) (λ u. omega (arith, e))))
         b s (z .entry .address) c (asks _ i)
     scrub-none (ScrubAt.Write read first) i e =
         by-done Q (λ r. omega (arith, e)) (doneReply Refusal.SpiRead (h .answer) (length (h .rx)) 0) (omega (arith, e))
     scrub-none (ScrubAt.Back read first count) i e =
-        matches Q (scrub.unwritten z read first) (scrub.again count (scrub.unwritten z read first) (λ k. scrub.to z (ScrubAt.Back read first k)))
+        matches Q (scrub.unwritten z read first) (register.again count (scrub.unwritten z read first) (λ k. scrub.to z (ScrubAt.Back read first k)))
         (λ w. scrub.reports z (scrub.differs (z .entry) read first (Rewrite.Back w count))) (λ r. omega (arith, e)) (λ w. e) b s (z .entry .address) c (asks _ i)
     scrub-none (ScrubAt.Told r) i e = refl
     scrub-none (ScrubAt.Refused r) i e = refl

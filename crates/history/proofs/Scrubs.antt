@@ -32,9 +32,10 @@ use Rattle.spi.proofs.Talks.{by-done, by-checked}
 use Rattle.call.specs.declared.Rewrite.{Rewrite}
 use Rattle.call.specs.declared.Report.{Report}
 use Rattle.call.specs.declared.Outcome.{Outcome}
+use Rattle.register.specs.Step.{again}
 use Rattle.watch.specs.declared.Watch.{Watch}
 use Rattle.scrub.specs.Scrub.{Scrub, ScrubAt}
-use Rattle.scrub.specs.Step.{agrees, rewritten, to, reports, differs, seen, again, unread, stepAt, stepOf, askAt, askOf as scrubAsk, outcomeAt, outcomeOf}
+use Rattle.scrub.specs.Step.{agrees, rewritten, to, reports, differs, seen, unread, stepAt, stepOf, askAt, askOf as scrubAsk, outcomeAt, outcomeOf}
 use Rattle.scrub.proofs.Words.{agrees-bits, rewritten-bits}
 use Rattle.driver.specs.Step.{askOf}
 use Rattle.driver.specs.Start.{ofScrub}

@@ -34,9 +34,11 @@ checkedStart address = addressed address (RegisterCall.Checked address 0)
 -- ---- steps
 
 -- a mismatch after so many: the first two are followed by another try, the third is refused 10
+abbrev pub again : {A : Type 0} → (seen : ℕ) → (Refusal → A) → (ℕ → A) → A
+again seen bad next = if ltb seen 2 then next (seen + 1) else bad Refusal.CrcMismatch
+
 unfoldable pub afterMismatch : (address seen : ℕ) → RegisterCall
-afterMismatch address seen =
-    if ltb seen 2 then RegisterCall.Checked address (seen + 1) else RegisterCall.Refused Refusal.CrcMismatch
+afterMismatch address seen = again seen RegisterCall.Refused (RegisterCall.Checked address)
 
 -- the mode is OPMOD of CiCON
 abbrev pub afterMode : ℕ → RegisterCall

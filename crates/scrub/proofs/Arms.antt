@@ -12,11 +12,12 @@ use Rattle.spi.specs.declared.ask.Ask.{Ask}
 use Rattle.spi.specs.declared.ask.Answer.{Answer}
 use Rattle.spi.proofs.Talks.{if-ap}
 use Rattle.call.specs.declared.Outcome.{Outcome}
+use Rattle.register.specs.Step.{again}
 use Rattle.scrub.specs.declared.ScrubStage.{ScrubStage}
 use Rattle.scrub.specs.declared.ScrubNumbers.{ScrubNumbers}
 use Rattle.scrub.specs.Scrub.{Scrub, ScrubAt}
 use Rattle.scrub.specs.Numbers.{atStage, entryHeld, standing, telling, scrubOf}
-use Rattle.scrub.specs.Step.{to, unread, unwritten, again, stepAt, askAt, outcomeAt}
+use Rattle.scrub.specs.Step.{to, unread, unwritten, stepAt, askAt, outcomeAt}
 use Rattle.scrub.proofs.ScrubStage.{the-type}
 
 -- ---- a mismatch

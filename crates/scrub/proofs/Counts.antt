@@ -25,7 +25,7 @@ use Rattle.watch.specs.declared.Due.{Due}
 use Rattle.watch.specs.Watch.{startOf}
 use Rattle.watch.proofs.Laws as watch
 use Rattle.scrub.specs.Scrub.{Scrub, ScrubAt}
-use Rattle.scrub.specs.Step.{agrees, begins, dueAt, scrubStart, to, reports, differs, seen, unread, unwritten, again, stepAt, stepOf, outcomeAt, outcomeOf}
+use Rattle.scrub.specs.Step.{agrees, begins, dueAt, scrubStart, to, reports, differs, seen, unread, unwritten, stepAt, stepOf, outcomeAt, outcomeOf}
 use Rattle.scrub.specs.Laws.{Tells, TellsAsRead}
 use Rattle.scrub.proofs.Visits.{no, Late, late, late-told}
 
@@ -73,13 +73,13 @@ module _ (w : Watch) (l : w .address < 2 ^ 12) where
         → ((r : Refusal) → reads (vs ++ (x ∷ [])) ≡ RegisterCall.Refused r → Standing (bad r) xs)
         → ((c : ℕ) → reads (vs ++ (x ∷ [])) ≡ RegisterCall.Checked (w .address) c → Standing (retry c) xs)
         → ((v : ℕ) → reads (vs ++ (x ∷ [])) ≡ RegisterCall.Matched v count → Standing (k v) xs)
-        → Standing (onChecked bad (heard (s .entry .address) x) (again count bad retry) k) xs
+        → Standing (onChecked bad (heard (s .entry .address) x) (register.again count bad retry) k) xs
     unfolding register.afterMismatch
     by-heard count vs xs x bad retry k e lost tried good = go (heard (s .entry .address) x) (rw is (reads-on count vs x e))
       where
         go : (h : CheckedWord)
             → reads (vs ++ (x ∷ [])) ≡ onChecked RegisterCall.Refused h (register.afterMismatch (w .address) count) (λ v. RegisterCall.Matched v count)
-            → Standing (onChecked bad h (again count bad retry) k) xs
+            → Standing (onChecked bad h (register.again count bad retry) k) xs
         go (CheckedWord.Word v) q = good v q
         go (CheckedWord.Bad r) q = lost r q
         go CheckedWord.Mismatch q =

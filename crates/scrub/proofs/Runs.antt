@@ -19,11 +19,12 @@ use Rattle.call.specs.declared.Rewrite.{Rewrite}
 use Rattle.call.specs.declared.Report.{Report}
 use Rattle.call.specs.declared.Outcome.{Outcome}
 use Rattle.call.specs.Outcome.{ended}
+use Rattle.register.specs.Step.{again}
 use Rattle.watch.specs.declared.Watch.{Watch}
 use Rattle.watch.specs.declared.Begun.{Begun}
 use Rattle.watch.specs.Watch.{allCarried, entryIn, startOf}
 use Rattle.scrub.specs.Scrub.{Scrub, ScrubAt}
-use Rattle.scrub.specs.Step.{agrees, begins, scrubStart, to, reports, differs, seen, unread, unwritten, again, stepAt, stepOf, askOf, outcomeOf}
+use Rattle.scrub.specs.Step.{agrees, begins, scrubStart, to, reports, differs, seen, unread, unwritten, stepAt, stepOf, askOf, outcomeOf}
 use Rattle.scrub.specs.Talk.{checkedBy, told, backTalk, rewriteTalk, seenTalk, visitTalk, scrubCall, talkOf}
 use Rattle.scrub.specs.Laws.{Seven}
 

@@ -1,10 +1,10 @@
 -- Document 02, requests 4 and 5: a scrub step, exchange by exchange: where it starts, what it asks, where an answer takes it.
 -- Assumes nothing.
-use Prim.Native.Nat.{ℕ, _+_, _-_, _^_}
+use Prim.Native.Nat.{ℕ, _-_, _^_}
 use mathlib.Core.Bool.{Bool}
 use mathlib.Core.List.{List}
 use lib.Bits.{bitAnd, bitOr}
-use lib.Dec.{eqb, ltb}
+use lib.Dec.{eqb}
 use lib.ListN.{length}
 use Rattle.laws.specs.If.{if_then_else_}
 use Rattle.spi.specs.declared.refusal.Refusal.{Refusal}
@@ -15,6 +15,7 @@ use Rattle.spi.specs.Talk.{onDone, onChecked}
 use Rattle.call.specs.declared.Rewrite.{Rewrite}
 use Rattle.call.specs.declared.Report.{Report}
 use Rattle.call.specs.declared.Outcome.{Outcome}
+use Rattle.register.specs.Step.{again}
 use Rattle.watch.specs.declared.Watch.{Watch}
 use Rattle.watch.specs.declared.Due.{Due}
 use Rattle.watch.specs.declared.Begun.{Begun}
@@ -78,10 +79,6 @@ unread s r = reports s (Report.Unread (s .entry .address) r)
 -- so was the rewrite, or the read-back
 abbrev pub unwritten : Scrub → (read first : ℕ) → Refusal → Scrub
 unwritten s read first r = reports s (differs (s .entry) read first (Rewrite.Unread r))
-
--- a mismatch after so many: the first two are followed by another try, the third is refused 10
-abbrev pub again : {A : Type 0} → (count : ℕ) → (Refusal → A) → (ℕ → A) → A
-again count bad next = if ltb count 2 then next (count + 1) else bad Refusal.CrcMismatch
 
 -- after an answer; one that comes after the end is refused 26, and the scrubber stays where it is
 abbrev pub stepAt : ScrubAt → Scrub → Answer → List ℕ → Scrub
