@@ -49,10 +49,10 @@ frozen-outside m (Register.Status n) w c = by-if (λ (x : Model). x .fixed .froz
 frozen-outside m (Register.Address n) w c = refl
 
 -- what a grant tells
-granted-fits : (x : Fixed) (w : ℕ) → granted x w ≡ true → end (x .frozen) 31 ≤ 2048
+granted-fits : (x : Fixed) (w : ℕ) → granted x w ≡ true → end (x .queue) (x .frozen) 31 ≤ 2048
 unfolding granted
 granted-fits x w e =
-    leb-true (end (x .frozen) 31) 2048 (both (not (flag TXQEN w) && not (flag STEF w)) (leb (end (x .frozen) 31) 2048) e .1)
+    leb-true (end (x .queue) (x .frozen) 31) 2048 (both (not (flag TXQEN w) && not (flag STEF w)) (leb (end (x .queue) (x .frozen) 31) 2048) e .1)
 
 -- the write that leaves
 left-is : (m : Model) (w : ℕ) → m .fixed .configuring ≡ true → eqb (read REQOP w) 4 ≡ false
@@ -63,36 +63,36 @@ left-is m w c e = rw (e, c)
 pub leaving : Leaving
 leaving m w c e =
     let P : Written → Type 0 = λ x.
-    (x .granted ≡ true → x .model .fixed .configuring ≡ false) × (x .granted ≡ true → Laid (x .model .fixed .frozen))
+    (x .granted ≡ true → x .model .fixed .configuring ≡ false) × (x .granted ≡ true → Laid (x .model .fixed .queue) (x .model .fixed .frozen))
     × (x .granted ≡ false → x .model ≡ conSet m w true)
     in
     let p =
     subst P (sym (left-is m w c e))
     (by-if P (not (granted (m .fixed) w))
     (λ g. (λ t. cc, λ t n k. let z : _≡_ {A = ℕ} 0 1 = cc in absurd (omega (arith, z)), λ t. refl))
-    (λ g. (λ t. refl, λ t n k. in-ram (m .fixed .frozen) n k (granted-fits (m .fixed) w (not-false (granted (m .fixed) w) g)), λ t. cc)))
+    (λ g. (λ t. refl, λ t n k. in-ram (m .fixed .queue) (m .fixed .frozen) n k (granted-fits (m .fixed) w (not-false (granted (m .fixed) w) g)), λ t. cc)))
     in
     record { outside = p .0; laid = p .1; denied = p .2 }
 
 -- ---- the mode
 
 -- a mode has three bits
-pub mode-fits : (x : Fixed) → modeOf x < 2 ^ 3
+pub mode-fits : (m : Model) → modeOf m < 2 ^ 3
 unfolding modeOf
-mode-fits x = by-if (λ (n : ℕ). n < 2 ^ 3) (x .configuring) (λ e. omega arith) (λ e. field-lt (x .con) 24 3)
+mode-fits m = by-if (λ (n : ℕ). n < 2 ^ 3) (m .fixed .configuring) (λ e. omega arith) (λ e. field-lt (m .setup .con) 24 3)
 
-pub opmod-is : (m : Model) → read OPMOD (wordOf m Register.Con) ≡ modeOf (m .fixed)
+pub opmod-is : (m : Model) → read OPMOD (wordOf m Register.Con) ≡ modeOf m
 unfolding wordOf
-opmod-is m = read-write OPMOD (modeOf (m .fixed)) (m .fixed .con) (mode-fits (m .fixed))
+opmod-is m = read-write OPMOD (modeOf m) (m .setup .con) (mode-fits m)
 
 pub opmod-shows : OpmodShows
 unfolding wordOf modeOf
 opmod-shows m =
-    opmod-is m ∙ ap (λ (n : ℕ). if m .fixed .configuring then 4 else n) (sym (write-other OPMOD REQOP (modeOf (m .fixed)) (m .fixed .con) (mode-fits (m .fixed)) refl))
+    opmod-is m ∙ ap (λ (n : ℕ). if m .fixed .configuring then 4 else n) (sym (write-other OPMOD REQOP (modeOf m) (m .setup .con) (mode-fits m) refl))
 
 -- the mode that a write of w leaves
 abbrev Takes : ℕ → Written → Type 0
-Takes w x = modeOf (x .model .fixed) ≡ (if x .granted then read REQOP w else 4)
+Takes w x = modeOf (x .model) ≡ (if x .granted then read REQOP w else 4)
 
 takes : (m : Model) (w : ℕ) → Takes w (conWritten m w)
 unfolding conWritten modeOf

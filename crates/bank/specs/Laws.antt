@@ -2,7 +2,7 @@
 -- Assumes nothing.
 use Prim.Native.Nat.{ℕ, _≤_, _<_}
 use mathlib.Core.Path.{_≡_}
-use mathlib.Core.Bool.{true, false}
+use mathlib.Core.Bool.{Bool, true, false}
 use mathlib.Core.List.{List}
 use lib.ListN.{getD}
 use lib.Dec.{eqb}
@@ -12,6 +12,7 @@ use Rattle.configuration.specs.CanControl.{OPMOD, REQOP}
 use Rattle.chip.specs.OscillatorControl.{PLLEN, PLLRDY}
 use Rattle.place.specs.declared.Register.{Register}
 use Rattle.ring.specs.Ring.{depth}
+use Rattle.ring.specs.Layout.{isArea}
 use Rattle.ring.specs.Laws.{slotEnd}
 use Rattle.state.specs.declared.Model.{Model}
 use Rattle.state.specs.Model.{fifoAt}
@@ -22,15 +23,15 @@ abbrev pub FrozenOutside : Type 0
 FrozenOutside =
     (m : Model) (r : Register) (w : ℕ) → m .fixed .configuring ≡ false → registerWritten m r w .model .fixed .frozen ≡ m .fixed .frozen
 
--- every slot of FIFOs 1 to 31 lies in RAM; that they stand in order and share no byte holds of any control words (ring's laws)
-abbrev pub Laid : List ℕ → Type 0
-Laid ws = (n k : ℕ) → 1 ≤ n → n ≤ 31 → k < depth (getD ws n 0) → slotEnd ws n k ≤ 2048
+-- every slot of FIFOs 1 to 31, and of the queue where it is on, lies in RAM; that they stand in order and share no byte holds of any control words (ring's laws)
+abbrev pub Laid : Bool → List ℕ → Type 0
+Laid q ws = (n k : ℕ) → isArea q n ≡ true → n ≤ 31 → k < depth (getD ws n 0) → slotEnd q ws n k ≤ 2048
 
 -- a CiCON write that leaves Configuration: granted, the chip is outside and the slots are laid out; not granted, the write is done and the
 -- mode stays
 pub record Leaves (m : Model) (w : ℕ) : Type 0 where
   pub outside : conWritten m w .granted ≡ true → conWritten m w .model .fixed .configuring ≡ false
-  pub laid : conWritten m w .granted ≡ true → Laid (conWritten m w .model .fixed .frozen)
+  pub laid : conWritten m w .granted ≡ true → Laid (conWritten m w .model .fixed .queue) (conWritten m w .model .fixed .frozen)
   pub denied : conWritten m w .granted ≡ false → conWritten m w .model ≡ conSet m w true
 
 abbrev pub Leaving : Type 0

@@ -22,16 +22,16 @@ use Rattle.state.specs.Model.{fifoAt, frozenAt, withFixed, withSetup, withFifo}
 -- ---- reading
 
 -- Configuration is mode 4; outside it the mode is the one last asked for
-unfoldable pub modeOf : Fixed → ℕ
-modeOf x = if x .configuring then 4 else read REQOP (x .con)
+unfoldable pub modeOf : Model → ℕ
+modeOf m = if m .fixed .configuring then 4 else read REQOP (m .setup .con)
 
 -- the slot that FIFO n shows
 unfoldable pub shownAt : Model → ℕ → ℕ
-shownAt m n = slotAt (m .fixed .frozen) n (shown (frozenAt m n) (fifoAt m n))
+shownAt m n = slotAt (m .fixed .queue) (m .fixed .frozen) n (shown (frozenAt m n) (fifoAt m n))
 
 -- OPMOD always shows the mode, PLLRDY follows PLLEN; in Configuration status and user address read 0
 unfoldable pub wordOf : Model → Register → ℕ
-wordOf m Register.Con = write OPMOD (modeOf (m .fixed)) (m .fixed .con)
+wordOf m Register.Con = write OPMOD (modeOf m) (m .setup .con)
 wordOf m Register.Osc = write PLLRDY (read PLLEN (m .setup .osc)) (m .setup .osc)
 wordOf m (Register.Plain k) = getD (m .setup .plain) k 0
 wordOf m (Register.Filter k) = getD (m .setup .filter) k 0
@@ -45,11 +45,18 @@ wordOf m (Register.Address n) = if m .fixed .configuring then 0 else shownAt m n
 
 -- another CiCON, in Configuration or outside it
 abbrev pub conSet : Model → ℕ → Bool → Model
-conSet m w configuring = withFixed m (record { con = w; configuring = configuring; frozen = m .fixed .frozen })
+conSet m w configuring =
+    let s = m .setup in
+    record {
+      fixed = record { configuring = configuring; queue = m .fixed .queue; frozen = m .fixed .frozen };
+      setup = record { con = w; osc = s .osc; plain = s .plain; filter = s .filter; object = s .object; mask = s .mask };
+      fifo = m .fifo;
+      ram = m .ram;
+    }
 
 -- leaving is granted: TXQEN and STEF at 0, and all FIFOs within 2,048 bytes
 unfoldable pub granted : Fixed → ℕ → Bool
-granted x w = not (flag TXQEN w) && not (flag STEF w) && leb (end (x .frozen) 31) 2048
+granted x w = not (flag TXQEN w) && not (flag STEF w) && leb (end (x .queue) (x .frozen) 31) 2048
 
 -- every FIFO's part of entering Configuration or leaving it
 abbrev pub turnedAll : (entering : Bool) → Model → Model
@@ -74,7 +81,7 @@ conWritten m w =
 -- ---- writing the others
 
 abbrev pub frozenSet : Model → (n w : ℕ) → Model
-frozenSet m n w = withFixed m (record { con = m .fixed .con; configuring = m .fixed .configuring; frozen = set (m .fixed .frozen) n w })
+frozenSet m n w = withFixed m (record { configuring = m .fixed .configuring; queue = m .fixed .queue; frozen = set (m .fixed .frozen) n w })
 
 -- FSIZE, PLSIZE, TXEN and RXTSEN change only in Configuration
 unfoldable pub controlWritten : Model → (n w : ℕ) → Model
@@ -91,27 +98,27 @@ module _ (m : Model) where
   abbrev pub oscSet : ℕ → Model
   oscSet w =
       let s = m .setup in
-      withSetup m (record { osc = w; plain = s .plain; filter = s .filter; object = s .object; mask = s .mask })
+      withSetup m (record { con = s .con; osc = w; plain = s .plain; filter = s .filter; object = s .object; mask = s .mask })
 
   abbrev pub plainSet : (k w : ℕ) → Model
   plainSet k w =
       let s = m .setup in
-      withSetup m (record { osc = s .osc; plain = set (s .plain) k w; filter = s .filter; object = s .object; mask = s .mask })
+      withSetup m (record { con = s .con; osc = s .osc; plain = set (s .plain) k w; filter = s .filter; object = s .object; mask = s .mask })
 
   abbrev pub filterSet : (k w : ℕ) → Model
   filterSet k w =
       let s = m .setup in
-      withSetup m (record { osc = s .osc; plain = s .plain; filter = set (s .filter) k w; object = s .object; mask = s .mask })
+      withSetup m (record { con = s .con; osc = s .osc; plain = s .plain; filter = set (s .filter) k w; object = s .object; mask = s .mask })
 
   abbrev pub objectSet : (k w : ℕ) → Model
   objectSet k w =
       let s = m .setup in
-      withSetup m (record { osc = s .osc; plain = s .plain; filter = s .filter; object = set (s .object) k w; mask = s .mask })
+      withSetup m (record { con = s .con; osc = s .osc; plain = s .plain; filter = s .filter; object = set (s .object) k w; mask = s .mask })
 
   abbrev pub maskSet : (k w : ℕ) → Model
   maskSet k w =
       let s = m .setup in
-      withSetup m (record { osc = s .osc; plain = s .plain; filter = s .filter; object = s .object; mask = set (s .mask) k w })
+      withSetup m (record { con = s .con; osc = s .osc; plain = s .plain; filter = s .filter; object = s .object; mask = set (s .mask) k w })
 
 -- a register written; user address writes do nothing
 unfoldable pub registerWritten : Model → Register → ℕ → Written

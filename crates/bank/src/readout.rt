@@ -6,25 +6,24 @@ ghost use Rattle.bank.specs.Registers.{modeOf, shownAt, wordOf};
 use chip::OscillatorControl;
 use configuration::CanControl;
 use place::Register;
-use state::Fixed;
 use state::Model;
 use state::fifo_at;
 use state::frozen_at;
 use state::word_at;
 
-fn mode(x: Fixed) -> u32
-    ensures { λ r. ⌜ (r ≡ modeOf x) × (r < 8) ⌝ }
+fn mode(m: Model) -> u32
+    ensures { λ r. ⌜ (r ≡ modeOf m) × (r < 8) ⌝ }
 {
-    if x.configuring {
+    if m.fixed.configuring {
         return 4;
     }
-    CanControl(x.con).reqop()
+    CanControl(m.setup.con).reqop()
 }
 
 fn con_word(m: Model) -> u32
     ensures { λ r. ⌜ r ≡ wordOf m Register.Con ⌝ }
 {
-    CanControl(m.fixed.con).with_opmod(mode(m.fixed)).0
+    CanControl(m.setup.con).with_opmod(mode(m)).0
 }
 
 fn osc_word(m: Model) -> u32
@@ -39,7 +38,7 @@ pub fn shown_at(m: Model, n: u8) -> usize
     ensures { λ r. ⌜ (r ≡ shownAt m n) × (r ≤ 1000000) ⌝ }
 {
     let frozen = m.fixed.frozen;
-    ring::slot_at(frozen, n, ring::shown(frozen_at(m, n), fifo_at(m, n)))
+    ring::slot_at(m.fixed.queue, frozen, n, ring::shown(frozen_at(m, n), fifo_at(m, n)))
 }
 
 fn status_word(m: Model, n: u8) -> u32

@@ -30,7 +30,7 @@ fn granted(x: Fixed, w: u32) -> bool
         return false;
     }
     let frozen = x.frozen;
-    ring::end(frozen, 31) <= 2048
+    ring::end(x.queue, frozen, 31) <= 2048
 }
 
 // Each FIFO's part of entering Configuration or leaving it.
@@ -50,7 +50,7 @@ fn with_con(m: Model, w: u32, configuring: bool) -> Model
     ensures { λ r. ⌜ r ≡ conSet m w configuring ⌝ }
 {
     let mut d = m;
-    d.fixed.con = w;
+    d.setup.con = w;
     d.fixed.configuring = configuring;
     d
 }
@@ -94,8 +94,8 @@ fn with_frozen(m: Model, n: u8, w: u32) -> Model
     with_fixed(
         m,
         Fixed {
-            con: x.con,
             configuring: x.configuring,
+            queue: x.queue,
             frozen: frozen,
         },
     )

@@ -32,17 +32,17 @@ module _ (m : Model) (header : Header) (dlc time : ℕ) (payload : List ℕ) whe
       → (ltb (topId (header .extended)) (header .id) ≡ true → P (unsorted Refusal.BadIdentifier m))
       → (ltb (topId (header .extended)) (header .id) ≡ false → meansPayload header dlc payload ≡ false → P (unsorted Refusal.BadPayload m))
       → (ltb (topId (header .extended)) (header .id) ≡ false → meansPayload header dlc payload ≡ true
-      → eqb (read DNCNT (m .fixed .con)) 0 ≡ false → P (unsorted Refusal.DeviceNet m))
+      → eqb (read DNCNT (m .setup .con)) 0 ≡ false → P (unsorted Refusal.DeviceNet m))
       → (ltb (topId (header .extended)) (header .id) ≡ false → meansPayload header dlc payload ≡ true
-      → eqb (read DNCNT (m .fixed .con)) 0 ≡ true → leb filterCount (filterFor m header) ≡ true → P (unsorted Refusal.NoMatch m))
+      → eqb (read DNCNT (m .setup .con)) 0 ≡ true → leb filterCount (filterFor m header) ≡ true → P (unsorted Refusal.NoMatch m))
       → (ltb (topId (header .extended)) (header .id) ≡ false → meansPayload header dlc payload ≡ true
-      → eqb (read DNCNT (m .fixed .con)) 0 ≡ true → leb filterCount (filterFor m header) ≡ false → arrivalCheck header dlc (length payload) ≡ Done.Good
+      → eqb (read DNCNT (m .setup .con)) 0 ≡ true → leb filterCount (filterFor m header) ≡ false → arrivalCheck header dlc (length payload) ≡ Done.Good
       → P (takenBy m (filterFor m header) dlc header time payload))
       → P (sortOf m header dlc time payload)
   unfolding sortOf
   by-sort P a b c d e =
       by-check m 0 header dlc time payload (λ y. P (sortedBy y m header dlc time payload)) a b
-      (λ t f w. by-if P (not (eqb (read DNCNT (m .fixed .con)) 0)) (λ x. c t f (not-true _ x))
+      (λ t f w. by-if P (not (eqb (read DNCNT (m .setup .con)) 0)) (λ x. c t f (not-true _ x))
       (λ x. by-if P (leb filterCount (filterFor m header)) (d t f (not-false _ x)) (λ y. e t f (not-false _ x) y w)))
 
 pub sort-answers : SortAnswers

@@ -13,7 +13,7 @@ use Rattle.state.specs.Model.{fifoAt, frozenAt}
 
 -- where the slot k places behind the oldest begins
 unfoldable pub slotOf : Model → (n k : ℕ) → ℕ
-slotOf m n k = slotAt (m .fixed .frozen) n (place (depth (frozenAt m n)) (fifoAt m n .head) k)
+slotOf m n k = slotAt (m .fixed .queue) (m .fixed .frozen) n (place (depth (frozenAt m n)) (fifoAt m n .head) k)
 
 -- what stands in that slot: a payload beyond PLSIZE is longer than the slot
 unfoldable pub itemAt : Model → (n k : ℕ) → Decoding

@@ -143,7 +143,7 @@ TurnedDown =
 abbrev pub sortAnswer : Model → Header → (dlc : ℕ) → List ℕ → List ℕ
 sortAnswer m header dlc payload =
     ifCarried header dlc payload
-    (if not (eqb (read DNCNT (m .fixed .con)) 0) then 31 ∷ []
+    (if not (eqb (read DNCNT (m .setup .con)) 0) then 31 ∷ []
     else if leb filterCount (filterFor m header) then 30 ∷ []
     else 0 ∷ firstCause m (targetFor m (filterFor m header)) payload ∷ targetFor m (filterFor m header) ∷ filterFor m header ∷ [])
 
@@ -159,7 +159,7 @@ Sort22 =
 
 -- a frame is sorted into its FIFO exactly if DNCNT is 0, a filter matches, and it could be delivered to that filter's target
 pub record Sortable (m : Model) (header : Header) (dlc : ℕ) (payload : List ℕ) : Type 0 where
-  pub dncnt : read DNCNT (m .fixed .con) ≡ 0
+  pub dncnt : read DNCNT (m .setup .con) ≡ 0
   pub match : filterFor m header < filterCount
   pub deliverable : Deliverable m (targetFor m (filterFor m header)) header dlc payload
 

@@ -43,7 +43,7 @@ takenBy m f dlc header time payload = byFilter (give m (targetFor m f) f dlc hea
 -- 31 where DNCNT is above 0, then 30 where no filter matches
 abbrev pub filtered : Model → ℕ → Header → ℕ → List ℕ → Sorted
 filtered m dlc header time payload =
-    if not (eqb (read DNCNT (m .fixed .con)) 0) then unsorted Refusal.DeviceNet m
+    if not (eqb (read DNCNT (m .setup .con)) 0) then unsorted Refusal.DeviceNet m
     else if leb filterCount (filterFor m header) then unsorted Refusal.NoMatch m
     else takenBy m (filterFor m header) dlc header time payload
 

@@ -36,7 +36,7 @@ pub fn slot_of(m: Model, n: u8, k: u8) -> usize
     let frozen = fixed.frozen;
     let f = fifo_at(m, n);
     let p = ring::place(ring::depth(frozen_at(m, n)), f.head, k);
-    ring::slot_at(frozen, n, p)
+    ring::slot_at(fixed.queue, frozen, n, p)
 }
 
 pub fn item_at(m: Model, n: u8, k: u8) -> Decoded

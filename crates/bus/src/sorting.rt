@@ -71,7 +71,7 @@ fn filtered(m: Model, dlc: u32, header: Header, time: u32, payload: &[u8]) -> So
     requires { ⌜ (header .id ≤ topId (header .extended)) × Fits DLC dlc × (length (now payload) ≤ 64) ⌝ }
     ensures { λ r. ⌜ r ≡ filtered m dlc header time (now (payload .entry)) ⌝ }
 {
-    if CanControl(m.fixed.con).dncnt() != 0 {
+    if CanControl(m.setup.con).dncnt() != 0 {
         return unsorted(Refusal::DeviceNet, m);
     }
     let f = filter_for(m, header);

@@ -157,7 +157,7 @@ module _ (a n : ℕ) where
     sorts-but (Done.Bad e) header dlc time payload = same-but
     sorts-but Done.Good header dlc time payload =
         let P : Sorted → Sorted → Type 0 = λ x y. ButFor a n (x .model) (y .model) in
-        by-both P (not (eqb (read DNCNT (c .fixed .con)) 0)) same-but
+        by-both P (not (eqb (read DNCNT (c .setup .con)) 0)) same-but
         (by-both P (leb filterCount (filterFor c header)) same-but (give-but (targetFor c (filterFor c header)) (filterFor c header) dlc header time payload))
 
     sort-but : (header : Header) (dlc time : ℕ) (payload : List ℕ) → ButFor a n (sortOf c header dlc time payload .model) (sortOf other header dlc time payload .model)

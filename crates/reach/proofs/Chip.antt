@@ -277,7 +277,7 @@ resetting s want m e = subst Entered (sym (ap (λ (o : Operation). performed o s
 -- ---- the mode: outside Configuration REQOP is never 4
 
 abbrev Outside : Model → Type 0
-Outside m = m .fixed .configuring ≡ false → read REQOP (m .fixed .con) ≡ 4 → ⊥
+Outside m = m .fixed .configuring ≡ false → read REQOP (m .setup .con) ≡ 4 → ⊥
 
 con-outside : (m : Model) (w : ℕ) → Outside (conWritten m w .model)
 unfolding conWritten
@@ -343,7 +343,7 @@ pub opmod-exactly : OpmodExactly
 unfolding modeOf
 opmod-exactly m r = (λ e. go (m .fixed .configuring) refl (sym (opmod-is m) ∙ e), λ c. opmod-is m ∙ rw c)
   where
-    go : (b : Bool) → m .fixed .configuring ≡ b → modeOf (m .fixed) ≡ 4 → m .fixed .configuring ≡ true
+    go : (b : Bool) → m .fixed .configuring ≡ b → modeOf m ≡ 4 → m .fixed .configuring ≡ true
     go true c q = c
     go false c q = absurd (reached-outside m r c (rw c at q))
 

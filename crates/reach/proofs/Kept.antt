@@ -114,18 +114,22 @@ module _ (m : Model) (v : Valid m) where
   with-setup : (s : Setup) → AllThere s → Valid (withSetup m s)
   with-setup s h = record { frozens = v .frozens; fifos = v .fifos; ram = v .ram; setup = h; fifo = v .fifo; layout = v .layout }
 
-  -- another CiCON in the same mode
+  -- another CiCON
+  all-there : (w : ℕ) (b : Bool) → AllThere (conSet m w b .setup)
+  all-there w b = let h = v .setup in record { plain = h .plain; filter = h .filter; object = h .object; mask = h .mask }
+
+  -- in the same mode
   with-con : (b : Bool) → m .fixed .configuring ≡ b → (w : ℕ) → Valid (conSet m w b)
-  with-con b e w = record { frozens = v .frozens; fifos = v .fifos; ram = v .ram; setup = v .setup; fifo = in-mode b e; layout = λ c. v .layout (e ∙ c) }
+  with-con b e w = record { frozens = v .frozens; fifos = v .fifos; ram = v .ram; setup = all-there w b; fifo = in-mode b e; layout = λ c. v .layout (e ∙ c) }
 
   -- and in the other, every FIFO turned
   with-turned : (b : Bool) (w : ℕ) → ((n : ℕ) → InOrder b (frozenAt m n) (turned b (fifoAt m n)))
-      → (b ≡ false → end (m .fixed .frozen) 31 ≤ 2048) → Valid (conSet (turnedAll b m) w b)
+      → (b ≡ false → end (m .fixed .queue) (m .fixed .frozen) 31 ≤ 2048) → Valid (conSet (turnedAll b m) w b)
   with-turned b w f fits = record {
     frozens = v .frozens;
     fifos = length-map (m .fifo) (turned b) ∙ v .fifos;
     ram = v .ram;
-    setup = v .setup;
+    setup = all-there w b;
     fifo = λ n. subst (InOrder b (frozenAt m n)) (sym (turned-at b m n)) (f n);
     layout = fits;
   }
@@ -133,10 +137,10 @@ module _ (m : Model) (v : Valid m) where
 -- ---- registers written
 
 -- what a grant tells
-granted-fits : (x : Fixed) (w : ℕ) → granted x w ≡ true → end (x .frozen) 31 ≤ 2048
+granted-fits : (x : Fixed) (w : ℕ) → granted x w ≡ true → end (x .queue) (x .frozen) 31 ≤ 2048
 unfolding granted
 granted-fits x w e =
-    leb-true (end (x .frozen) 31) 2048 (both (not (flag TXQEN w) && not (flag STEF w)) (leb (end (x .frozen) 31) 2048) e .1)
+    leb-true (end (x .queue) (x .frozen) 31) 2048 (both (not (flag TXQEN w) && not (flag STEF w)) (leb (end (x .queue) (x .frozen) 31) 2048) e .1)
 
 -- a write that asks to leave and is not denied is granted
 grants : (a b g : Bool) → a ≡ true → b ≡ false → (a && not b && not g) ≡ false → g ≡ true

@@ -41,7 +41,7 @@ use Rattle.bus.specs.Sort.{targetFor, byFilter, takenBy, filtered, sortedBy, so
 use Rattle.bus.specs.Numbers.{sortingNumbers, sortedNumbers}
 use Rattle.reach.specs.Bus.{Send, Deliver, Sort, stepped}
 use Rattle.reach.specs.Reach.{Happening, Exchange, On, happens}
-use Rattle.reach.specs.Twins.{SameFifo, Same, Reads}
+use Rattle.reach.specs.Twins.{SameFifo, butCon, Same, Reads}
 use Rattle.reach.proofs.Kept.{turned-at}
 
 -- ---- two choices by equal tests, two lists with an entry set
@@ -178,15 +178,15 @@ module _ (W : ℕ → ℕ → Type 0) (z : Blind W) where
 
   -- ---- the layout
 
-  module _ (ws us : List ℕ) (h : (n : ℕ) → W (getD ws n 0) (getD us n 0)) where
-    end-like : (n : ℕ) → end ws n ≡ end us n
+  module _ (q p : Bool) (e : q ≡ p) (ws us : List ℕ) (h : (n : ℕ) → W (getD ws n 0) (getD us n 0)) where
+    end-like : (n : ℕ) → end q ws n ≡ end p us n
     unfolding end
-    end-like zero = refl
+    end-like zero = ap₂ (λ (b : Bool) (x : ℕ). if b then x else 0) e (room-like _ _ (h 0))
     end-like (suc n) = ap₂ _+_ (end-like n) (room-like _ _ (h (suc n)))
 
-    slot-like : (n k : ℕ) → slotAt ws n k ≡ slotAt us n k
+    slot-like : (n k : ℕ) → slotAt q ws n k ≡ slotAt p us n k
     unfolding slotAt base
-    slot-like n k = ap₂ (λ (b s : ℕ). b + k * s) (end-like (n - 1)) (size-like _ _ (h n))
+    slot-like n k = ap₂ (λ (b s : ℕ). (if eqb n 0 then 0 else b) + k * s) (end-like (n - 1)) (size-like _ _ (h n))
 
   -- ---- chips; of CiCON only what is written is looked at
 
@@ -195,6 +195,7 @@ module _ (W : ℕ → ℕ → Type 0) (z : Blind W) where
     same-self m = record {
       con = kept _;
       configuring = refl;
+      queue = refl;
       frozens = refl;
       frozen = λ n. z .same _;
       setup = refl;
@@ -208,6 +209,7 @@ module _ (W : ℕ → ℕ → Type 0) (z : Blind W) where
       with-fifo n f g s = record {
         con = t .con;
         configuring = t .configuring;
+        queue = t .queue;
         frozens = t .frozens;
         frozen = t .frozen;
         setup = t .setup;
@@ -220,6 +222,7 @@ module _ (W : ℕ → ℕ → Type 0) (z : Blind W) where
       with-frozen n x y b = record {
         con = t .con;
         configuring = t .configuring;
+        queue = t .queue;
         frozens = length-set (c .fixed .frozen) n x ∙ t .frozens ∙ sym (length-set (d .fixed .frozen) n y);
         frozen = at-sets W (c .fixed .frozen) (d .fixed .frozen) (t .frozens) n x y 0 b (t .frozen);
         setup = t .setup;
@@ -232,6 +235,7 @@ module _ (W : ℕ → ℕ → Type 0) (z : Blind W) where
       with-con x y e b = record {
         con = e;
         configuring = refl;
+        queue = t .queue;
         frozens = t .frozens;
         frozen = t .frozen;
         setup = t .setup;
@@ -244,6 +248,7 @@ module _ (W : ℕ → ℕ → Type 0) (z : Blind W) where
       with-turned b = record {
         con = t .con;
         configuring = t .configuring;
+        queue = t .queue;
         frozens = t .frozens;
         frozen = t .frozen;
         setup = t .setup;
@@ -254,13 +259,14 @@ module _ (W : ℕ → ℕ → Type 0) (z : Blind W) where
         ram = t .ram;
       }
 
-      with-setup : (k : Setup → Setup) → Same C W (withSetup c (k (c .setup))) (withSetup d (k (d .setup)))
-      with-setup k = record {
-        con = t .con;
+      with-setup : (x y : Setup) → C (x .con) (y .con) → butCon x ≡ butCon y → Same C W (withSetup c x) (withSetup d y)
+      with-setup x y e b = record {
+        con = e;
         configuring = t .configuring;
+        queue = t .queue;
         frozens = t .frozens;
         frozen = t .frozen;
-        setup = ap k (t .setup);
+        setup = b;
         fifos = t .fifos;
         fifo = t .fifo;
         ram = t .ram;
@@ -270,6 +276,7 @@ module _ (W : ℕ → ℕ → Type 0) (z : Blind W) where
       with-bytes a b bs e = record {
         con = t .con;
         configuring = t .configuring;
+        queue = t .queue;
         frozens = t .frozens;
         frozen = t .frozen;
         setup = t .setup;
@@ -290,7 +297,7 @@ module _ (W : ℕ → ℕ → Type 0) (z : Blind W) where
       unfolding conWritten granted
       con-like x y e q a b =
           let P : Written → Written → Type 0 = SameWritten in
-          let g : granted (c .fixed) x ≡ granted (d .fixed) y = rw (a, b, end-like (c .fixed .frozen) (d .fixed .frozen) (t .frozen) 31) in
+          let g : granted (c .fixed) x ≡ granted (d .fixed) y = rw (a, b, end-like (c .fixed .queue) (d .fixed .queue) (t .queue) (c .fixed .frozen) (d .fixed .frozen) (t .frozen) 31) in
           by-ifs P _ _ (ap₂ _&&_ (ap₂ (λ (i j : Bool). i && not j) (t .configuring) q) (ap not g)) (refl, with-con c d t x y e true)
           (by-ifs P _ _ q
           (by-ifs P _ _ (t .configuring) (refl, with-con c d t x y e true) (refl, with-con _ _ (with-turned c d t true) x y e true))
@@ -313,23 +320,23 @@ module _ (W : ℕ → ℕ → Type 0) (z : Blind W) where
       written-like Register.Con w = con-like w w (kept w) refl refl refl
       written-like Register.Osc w = (
         refl,
-        with-setup c d t (λ s. record { osc = w; plain = s .plain; filter = s .filter; object = s .object; mask = s .mask }),
+        with-setup c d t _ _ (t .con) (ap (λ (s : Setup). record { con = 0; osc = w; plain = s .plain; filter = s .filter; object = s .object; mask = s .mask }) (t .setup)),
       )
       written-like (Register.Plain k) w = (
         refl,
-        with-setup c d t (λ s. record { osc = s .osc; plain = set (s .plain) k w; filter = s .filter; object = s .object; mask = s .mask }),
+        with-setup c d t _ _ (t .con) (ap (λ (s : Setup). record { con = 0; osc = s .osc; plain = set (s .plain) k w; filter = s .filter; object = s .object; mask = s .mask }) (t .setup)),
       )
       written-like (Register.Filter k) w = (
         refl,
-        with-setup c d t (λ s. record { osc = s .osc; plain = s .plain; filter = set (s .filter) k w; object = s .object; mask = s .mask }),
+        with-setup c d t _ _ (t .con) (ap (λ (s : Setup). record { con = 0; osc = s .osc; plain = s .plain; filter = set (s .filter) k w; object = s .object; mask = s .mask }) (t .setup)),
       )
       written-like (Register.Object k) w = (
         refl,
-        with-setup c d t (λ s. record { osc = s .osc; plain = s .plain; filter = s .filter; object = set (s .object) k w; mask = s .mask }),
+        with-setup c d t _ _ (t .con) (ap (λ (s : Setup). record { con = 0; osc = s .osc; plain = s .plain; filter = s .filter; object = set (s .object) k w; mask = s .mask }) (t .setup)),
       )
       written-like (Register.Mask k) w = (
         refl,
-        with-setup c d t (λ s. record { osc = s .osc; plain = s .plain; filter = s .filter; object = s .object; mask = set (s .mask) k w }),
+        with-setup c d t _ _ (t .con) (ap (λ (s : Setup). record { con = 0; osc = s .osc; plain = s .plain; filter = s .filter; object = s .object; mask = set (s .mask) k w }) (t .setup)),
       )
       written-like (Register.Control n) w = (refl, control-written n w w (z .same w))
       written-like (Register.Status n) w = (refl, status-written n w)
@@ -364,8 +371,11 @@ module _ (W : ℕ → ℕ → Type 0) (z : Blind W) where
       shown-at : (n : ℕ) → shownAt c n ≡ shownAt d n
       unfolding shownAt
       shown-at n =
-          ap (slotAt (c .fixed .frozen) n) (shown-like _ _ (t .frozen n) _ _ (t .fifo n))
-          ∙ slot-like (c .fixed .frozen) (d .fixed .frozen) (t .frozen) n _
+          ap (slotAt (c .fixed .queue) (c .fixed .frozen) n) (shown-like _ _ (t .frozen n) _ _ (t .fifo n))
+          ∙ slot-like (c .fixed .queue) (d .fixed .queue) (t .queue) (c .fixed .frozen) (d .fixed .frozen) (t .frozen) n _
+
+      osc-like : c .setup .osc ≡ d .setup .osc
+      osc-like = ap (λ (s : Setup). s .osc) (t .setup)
 
       -- all registers outside R, where CiCON and the control words do
       words-like : (R : Register → Type 0) → ((R Register.Con → ⊥) → wordOf c Register.Con ≡ wordOf d Register.Con)
@@ -373,7 +383,7 @@ module _ (W : ℕ → ℕ → Type 0) (z : Blind W) where
           → (r : Register) → (R r → ⊥) → wordOf c r ≡ wordOf d r
       unfolding wordOf
       words-like R e f Register.Con h = e h
-      words-like R e f Register.Osc h = rw (t .setup)
+      words-like R e f Register.Osc h = rw osc-like
       words-like R e f (Register.Plain k) h = ap (λ (s : Setup). getD (s .plain) k 0) (t .setup)
       words-like R e f (Register.Filter k) h = ap (λ (s : Setup). getD (s .filter) k 0) (t .setup)
       words-like R e f (Register.Object k) h = ap (λ (s : Setup). getD (s .object) k 0) (t .setup)
@@ -391,8 +401,8 @@ module _ (W : ℕ → ℕ → Type 0) (z : Blind W) where
       slots-like : (n k : ℕ) → slotOf c n k ≡ slotOf d n k
       unfolding slotOf
       slots-like n k =
-          ap₂ (λ (e h : ℕ). slotAt (c .fixed .frozen) n (place e h k)) (depth-like _ _ (t .frozen n)) (t .fifo n .head)
-          ∙ slot-like (c .fixed .frozen) (d .fixed .frozen) (t .frozen) n _
+          ap₂ (λ (e h : ℕ). slotAt (c .fixed .queue) (c .fixed .frozen) n (place e h k)) (depth-like _ _ (t .frozen n)) (t .fifo n .head)
+          ∙ slot-like (c .fixed .queue) (d .fixed .queue) (t .queue) (c .fixed .frozen) (d .fixed .frozen) (t .frozen) n _
 
       items-like : (n k : ℕ) → itemAt c n k ≡ itemAt d n k
       unfolding itemAt
@@ -459,7 +469,7 @@ module _ (W : ℕ → ℕ → Type 0) (z : Blind W) where
       abbrev pub SameSorted : Sorted → Sorted → Type 0
       SameSorted x y = (x .delivery ≡ y .delivery) × (x .fifo ≡ y .fifo) × (x .filter ≡ y .filter) × Same C W (x .model) (y .model)
 
-      module _ (dncnt : read DNCNT (c .fixed .con) ≡ read DNCNT (d .fixed .con)) (header : Header) (dlc time : ℕ) (payload : List ℕ) where
+      module _ (dncnt : read DNCNT (c .setup .con) ≡ read DNCNT (d .setup .con)) (header : Header) (dlc time : ℕ) (payload : List ℕ) where
         abbrev filterIn : Setup → ℕ
         filterIn s = filterOf (s .filter) (s .object) (s .mask) (header .extended) (sidOf (header .extended) (header .id)) (eidOf (header .extended) (header .id))
 
@@ -485,7 +495,7 @@ module _ (W : ℕ → ℕ → Type 0) (z : Blind W) where
         pub sorted-like : sortedNumbers (sortOf c header dlc time payload) ≡ sortedNumbers (sortOf d header dlc time payload)
         sorted-like = let (a, b, e, m) = sorts-like in λ i. sortingNumbers (a i) (b i) (e i)
 
-      pub happens-like : read DNCNT (c .fixed .con) ≡ read DNCNT (d .fixed .con) → (x : Happening) → Same C W (happens x c) (happens x d)
+      pub happens-like : read DNCNT (c .setup .con) ≡ read DNCNT (d .setup .con) → (x : Happening) → Same C W (happens x c) (happens x d)
       unfolding exchange stepped
       happens-like e (Exchange s want) = performed-like (asked s want) s want
       happens-like e (On (Send n)) = send-like n

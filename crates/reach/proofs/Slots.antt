@@ -19,8 +19,8 @@ use Rattle.fifo.specs.Control.{TXREQ, isFifo}
 use Rattle.message.specs.Message.{Message, Decoding, holds, decoding}
 use Rattle.ring.specs.declared.ring.Fifo.{Fifo}
 use Rattle.ring.specs.Ring.{sending, depth, place}
-use Rattle.ring.specs.Layout.{stamped, size}
-use Rattle.ring.proofs.Laws.{place-lt, place-next, place-apart, slots-apart, fifos-apart, in-ram}
+use Rattle.ring.specs.Layout.{stamped, size, isArea}
+use Rattle.ring.proofs.Laws.{place-lt, place-next, place-apart, slots-apart, fifo-area, fifos-apart, in-ram}
 use Rattle.state.specs.declared.Setup.{Setup}
 use Rattle.state.specs.declared.Model.{Model}
 use Rattle.state.specs.Model.{blank, fifoAt, frozenAt, withSetup, withFifo, written}
@@ -42,6 +42,10 @@ same? a b f g = elim (ℕ-discrete a b) [ yes e ↦ f e | no h ↦ g h ]
 pub fifo-told : (n : ℕ) → isFifo n ≡ true → (1 ≤ n) × (n ≤ 31)
 unfolding isFifo
 fifo-told n h = let (least, most) = both (leb 1 n) (leb n 31) h in (leb-true 1 n least, leb-true n 31 most)
+
+-- and its area is there
+pub area-told : (c : Model) (n : ℕ) → isFifo n ≡ true → isArea (c .fixed .queue) n ≡ true
+area-told c n h = fifo-area (c .fixed .queue) n (fifo-told n h .0)
 
 -- ---- rows
 
@@ -118,15 +122,15 @@ module _ (c : Model) (s : Sound c) where
 
   pub slot-inside : (n k : ℕ) → isFifo n ≡ true → k ≤ depth (frozenAt c n) → slotOf c n k + size (frozenAt c n) ≤ 2048
   unfolding slotOf
-  slot-inside n k h g = in-ram (c .fixed .frozen) n (ring n k) (s .valid .layout (s .out)) (fifo-told n h .0) (fifo-told n h .1) (ring-lt n k g)
+  slot-inside n k h g = in-ram (c .fixed .queue) (c .fixed .frozen) n (ring n k) (s .valid .layout (s .out)) (area-told c n h) (fifo-told n h .1) (ring-lt n k g)
 
   other-fifo : (i j k l : ℕ) → isFifo i ≡ true → isFifo j ≡ true → (i ≡ j → ⊥) → k ≤ depth (frozenAt c i) → l ≤ depth (frozenAt c j)
       → Apart (slotOf c i k) (size (frozenAt c i)) (slotOf c j l) (size (frozenAt c j))
   unfolding slotOf
   other-fifo i j k l hi hj ne gk gl =
       split i j
-      (λ lo. before (fifos-apart (c .fixed .frozen) i j (ring i k) (ring j l) (fifo-told i hi .0) lo (ring-lt i k gk)))
-      (λ ge. behind (fifos-apart (c .fixed .frozen) j i (ring j l) (ring i k) (fifo-told j hj .0) (omega arith) (ring-lt j l gl)))
+      (λ lo. before (fifos-apart (c .fixed .queue) (c .fixed .frozen) i j (ring i k) (ring j l) (area-told c i hi) lo (ring-lt i k gk)))
+      (λ ge. behind (fifos-apart (c .fixed .queue) (c .fixed .frozen) j i (ring j l) (ring i k) (area-told c j hj) (omega arith) (ring-lt j l gl)))
 
   same-fifo : (n k l : ℕ) → k < depth (frozenAt c n) → l < depth (frozenAt c n) → (k ≡ l → ⊥)
       → Apart (slotOf c n k) (size (frozenAt c n)) (slotOf c n l) (size (frozenAt c n))
@@ -134,8 +138,8 @@ module _ (c : Model) (s : Sound c) where
   same-fifo n k l kd ld ne =
       let two : ring n k ≡ ring n l → ⊥ = place-apart (depth (frozenAt c n)) (fifoAt c n .head) (s .valid .fifo n .head) k l kd ld ne in
       split (ring n k) (ring n l)
-      (λ lo. before (slots-apart (c .fixed .frozen) n (ring n k) (ring n l) lo))
-      (λ ge. behind (slots-apart (c .fixed .frozen) n (ring n l) (ring n k) (omega arith)))
+      (λ lo. before (slots-apart (c .fixed .queue) (c .fixed .frozen) n (ring n k) (ring n l) lo))
+      (λ ge. behind (slots-apart (c .fixed .queue) (c .fixed .frozen) n (ring n l) (ring n k) (omega arith)))
 
   -- two slots of the rings, not the same
   pub slots-off : (i j k l : ℕ) → isFifo i ≡ true → isFifo j ≡ true → k < depth (frozenAt c i) → l < depth (frozenAt c j) → (i ≡ j → k ≡ l → ⊥)

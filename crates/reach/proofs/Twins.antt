@@ -97,7 +97,7 @@ mode-asked m v w e f a =
 
 con-reads : (c d : Model) → ButMode c d → Alike conOthers (wordOf c Register.Con) (wordOf d Register.Con)
 unfolding wordOf
-con-reads c d b = alike-off OPMOD conOthers (modeOf (c .fixed)) (modeOf (d .fixed)) _ _ refl (mode-fits (c .fixed)) (mode-fits (d .fixed)) (b .con)
+con-reads c d b = alike-off OPMOD conOthers (modeOf c) (modeOf d) _ _ refl (mode-fits c) (mode-fits d) (b .con)
 
 pub modes-alike : ModesAlike
 modes-alike c d b =
@@ -109,8 +109,8 @@ modes-alike c d b =
       words = λ r i. go r i;
       sends = outputs-like W words-blind C k c d b;
       delivers = λ n header dlc time payload. delivers-like W words-blind C k c d b n header dlc time payload .0;
-      sorts = sorted-like W words-blind C k c d b (alike-at DNCNT conOthers (c .fixed .con) (d .fixed .con) refl (b .con));
-      after = happens-like W words-blind C k c d b (alike-at DNCNT conOthers (c .fixed .con) (d .fixed .con) refl (b .con));
+      sorts = sorted-like W words-blind C k c d b (alike-at DNCNT conOthers (c .setup .con) (d .setup .con) refl (b .con));
+      after = happens-like W words-blind C k c d b (alike-at DNCNT conOthers (c .setup .con) (d .setup .con) refl (b .con));
     }
   where
     go : (r : Register) → IsCon r → Alike conOthers (wordOf c r) (wordOf d r)

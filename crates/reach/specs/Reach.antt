@@ -65,7 +65,7 @@ pub record Valid (m : Model) : Type 0 where
   pub ram : length (m .ram) ≡ 2048
   pub setup : AllThere (m .setup)
   pub fifo : (n : ℕ) → InOrder (m .fixed .configuring) (frozenAt m n) (fifoAt m n)
-  pub layout : m .fixed .configuring ≡ false → end (m .fixed .frozen) 31 ≤ 2048
+  pub layout : m .fixed .configuring ≡ false → end (m .fixed .queue) (m .fixed .frozen) 31 ≤ 2048
 
 abbrev pub AlwaysValid : Type 0
 AlwaysValid = (m : Model) → Reached m → Valid m

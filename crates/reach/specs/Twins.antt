@@ -15,6 +15,7 @@ use Rattle.operation.specs.declared.operation.Operation.{Operation}
 use Rattle.operation.specs.Operation.{asked}
 use Rattle.ring.specs.declared.ring.Fifo.{Fifo}
 use Rattle.ring.specs.Laws.{Alike}
+use Rattle.state.specs.declared.Setup.{Setup}
 use Rattle.state.specs.declared.Model.{Model}
 use Rattle.state.specs.Model.{fifoAt, frozenAt}
 use Rattle.bank.specs.Registers.{wordOf, conWritten, registerWritten}
@@ -33,13 +34,18 @@ pub record SameFifo (W : ℕ → ℕ → Type 0) (f g : Fifo) : Type 0 where
   pub count : f .count ≡ g .count
   pub over : f .over ≡ g .over
 
+-- the registers that hold what is written, but CiCON
+abbrev pub butCon : Setup → Setup
+butCon s = record { con = 0; osc = s .osc; plain = s .plain; filter = s .filter; object = s .object; mask = s .mask }
+
 -- two chips that are the same but for what C leaves open in CiCON, and W in the FIFOs' control words
 pub record Same (C W : ℕ → ℕ → Type 0) (c d : Model) : Type 0 where
-  pub con : C (c .fixed .con) (d .fixed .con)
+  pub con : C (c .setup .con) (d .setup .con)
   pub configuring : c .fixed .configuring ≡ d .fixed .configuring
+  pub queue : c .fixed .queue ≡ d .fixed .queue
   pub frozens : length (c .fixed .frozen) ≡ length (d .fixed .frozen)
   pub frozen : (n : ℕ) → W (frozenAt c n) (frozenAt d n)
-  pub setup : c .setup ≡ d .setup
+  pub setup : butCon (c .setup) ≡ butCon (d .setup)
   pub fifos : length (c .fifo) ≡ length (d .fifo)
   pub fifo : (n : ℕ) → SameFifo W (fifoAt c n) (fifoAt d n)
   pub ram : c .ram ≡ d .ram

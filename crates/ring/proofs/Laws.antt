@@ -5,7 +5,7 @@ use mathlib.Core.Path.{_≡_, refl, sym, ap, _∙_}
 use mathlib.Core.Logic.{⊎-elim}
 use mathlib.Core.Bool.{Bool, true, false}
 use mathlib.Core.List.{List, [], _∷_}
-use native.Mathlib.Nat.{le-refl, le-trans, le-add-right, add-zero, eq-or-lt-of-le, le-of-suc-le-suc, mul-le-mul-right, suc-mul}
+use native.Mathlib.Nat.{le-refl, le-trans, le-add-right, add-zero, zero-add, eq-or-lt-of-le, le-of-suc-le-suc, mul-le-mul-right, suc-mul}
 use native.Mathlib.Numerals.{add-one}
 use native.Mathlib.Omega.{arith}
 use borrow.Author.Tests.{ltb-true, ltb-false, eq-eqb, ne-eqb}
@@ -24,7 +24,7 @@ use Rattle.fifo.specs.Status.{TFNRFNIF, TFERFFIF, RXOVIF}
 use Rattle.ring.specs.declared.ring.Fifo.{Fifo}
 use Rattle.ring.specs.Ring.{sending, depth, place, claimed, taken, increased, controlled, emptied, fresh, sent, configured, commanded, turned}
 use Rattle.ring.specs.Registers.{frozenFields, copied, control, ready, edge, status}
-use Rattle.ring.specs.Layout.{size, room, end, base, slotAt}
+use Rattle.ring.specs.Layout.{size, room, end, isArea, base, slotAt}
 use Rattle.ring.specs.Laws.{slotEnd, SlotsApart, FifosApart, InRam, Alike, Frozen, UincReads0, FresetReads0, SendTxreq, EnteringEmpties, UincInside, StatusBits}
 
 -- ---- the ring's places
@@ -61,55 +61,66 @@ module _ (d h : ℕ) (l : h < d) where
 
 -- ---- the layout
 
-module _ (ws : List ℕ) where
-  pub end-next : (n : ℕ) → end ws (suc n) ≡ end ws n + room (getD ws (suc n) 0)
+module _ (q : Bool) (ws : List ℕ) where
+  pub end-next : (n : ℕ) → end q ws (suc n) ≡ end q ws n + room (getD ws (suc n) 0)
   unfolding end
   end-next n = refl
 
-  pub end-plus : (n : ℕ) → end ws (n + 1) ≡ end ws n + room (getD ws (n + 1) 0)
+  pub end-plus : (n : ℕ) → end q ws (n + 1) ≡ end q ws n + room (getD ws (n + 1) 0)
   end-plus n = rw add-one (end-next n)
 
-  -- the slots of FIFO n lie between its base and its end
-  pub base-end : (n : ℕ) → 1 ≤ n → base ws n + room (getD ws n 0) ≡ end ws n
+  -- a FIFO's slots begin where those before it end
+  base-fifo : (n : ℕ) → 1 ≤ n → base q ws n ≡ end q ws (n - 1)
   unfolding base
-  base-end n h =
-      let e : n - 1 + 1 ≡ n = omega arith in
-      sym (rw e at (end-plus (n - 1)))
+  base-fifo n h = rw (ne-eqb n 0 (λ e. omega arith))
 
-  pub end-mono : (i j : ℕ) → i ≤ j → end ws i ≤ end ws j
+  -- the slots of an area lie between its base and its end
+  pub base-end : (n : ℕ) → isArea q n ≡ true → base q ws n + room (getD ws n 0) ≡ end q ws n
+  unfolding end base room
+  base-end zero h = rw h (zero-add (room (getD ws 0 0)))
+  base-end (suc n) h =
+      let e : suc n - 1 + 1 ≡ suc n = omega arith in
+      rw (base-fifo (suc n) (omega arith)) (sym (rw e at (end-plus (suc n - 1))))
+
+  pub end-mono : (i j : ℕ) → i ≤ j → end q ws i ≤ end q ws j
   unfolding end
-  end-mono i zero h = let e : i ≡ 0 = omega arith in rw e (le-refl 0)
+  end-mono i zero h = let e : i ≡ 0 = omega arith in rw e (le-refl _)
   end-mono i (suc j) h =
-      ⊎-elim (λ e. rw e (le-refl _)) (λ l. le-trans (end-mono i j (le-of-suc-le-suc l)) (le-add-right (end ws j) _)) (eq-or-lt-of-le h)
+      ⊎-elim (λ e. rw e (le-refl _)) (λ l. le-trans (end-mono i j (le-of-suc-le-suc l)) (le-add-right (end q ws j) _)) (eq-or-lt-of-le h)
 
   -- a slot ends where the next begins
-  slot-next : (n k : ℕ) → slotEnd ws n k ≡ slotAt ws n (k + 1)
+  slot-next : (n k : ℕ) → slotEnd q ws n k ≡ slotAt q ws n (k + 1)
   unfolding slotAt
   slot-next n k = let e : (k + 1) * size (getD ws n 0) ≡ k * size (getD ws n 0) + size (getD ws n 0) = rw (add-one, suc-mul) in omega arith
 
-  slot-mono : (n k l : ℕ) → k ≤ l → slotAt ws n k ≤ slotAt ws n l
+  slot-mono : (n k l : ℕ) → k ≤ l → slotAt q ws n k ≤ slotAt q ws n l
   unfolding slotAt
   slot-mono n k l h = omega (arith, mul-le-mul-right (size (getD ws n 0)) h)
 
   -- slot `depth` would begin where the FIFO ends
-  slot-last : (n : ℕ) → 1 ≤ n → slotAt ws n (depth (getD ws n 0)) ≡ end ws n
+  slot-last : (n : ℕ) → isArea q n ≡ true → slotAt q ws n (depth (getD ws n 0)) ≡ end q ws n
   unfolding slotAt room
   slot-last n h = base-end n h
 
 pub slots-apart : SlotsApart
-slots-apart ws n k l h = rw (slot-next ws n k) (slot-mono ws n (k + 1) l (omega arith))
+slots-apart q ws n k l h = rw (slot-next q ws n k) (slot-mono q ws n (k + 1) l (omega arith))
 
 -- a slot ends within its FIFO
-pub slot-within : (ws : List ℕ) (n k : ℕ) → 1 ≤ n → k < depth (getD ws n 0) → slotEnd ws n k ≤ end ws n
-slot-within ws n k h l = rw (← slot-last ws n h) (slots-apart ws n k (depth (getD ws n 0)) l)
+pub slot-within : (q : Bool) (ws : List ℕ) (n k : ℕ) → isArea q n ≡ true → k < depth (getD ws n 0) → slotEnd q ws n k ≤ end q ws n
+slot-within q ws n k h l = rw (← slot-last q ws n h) (slots-apart q ws n k (depth (getD ws n 0)) l)
 
 pub fifos-apart : FifosApart
-unfolding slotAt base
-fifos-apart ws i j k l h a b =
-    le-trans (slot-within ws i k h b) (le-trans (end-mono ws i (j - 1) (omega arith)) (le-add-right (end ws (j - 1)) _))
+unfolding slotAt
+fifos-apart q ws i j k l h a b =
+    rw (base-fifo q ws j (omega arith))
+    (le-trans (slot-within q ws i k h b) (le-trans (end-mono q ws i (j - 1) (omega arith)) (le-add-right (end q ws (j - 1)) _)))
+
+-- a FIFO's area is there
+pub fifo-area : (q : Bool) (n : ℕ) → 1 ≤ n → isArea q n ≡ true
+fifo-area q n h = rw (ne-eqb n 0 (λ e. omega arith))
 
 pub in-ram : InRam
-in-ram ws n k fits h l b = le-trans (slot-within ws n k h b) (le-trans (end-mono ws n 31 l) fits)
+in-ram q ws n k fits h l b = le-trans (slot-within q ws n k h b) (le-trans (end-mono q ws n 31 l) fits)
 
 -- ---- the control word as it reads
 

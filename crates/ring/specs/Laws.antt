@@ -2,7 +2,7 @@
 -- Assumes nothing.
 use Prim.Native.Nat.{ℕ, _+_, _*_, _≤_, _<_}
 use mathlib.Core.Path.{_≡_}
-use mathlib.Core.Bool.{true, false}
+use mathlib.Core.Bool.{Bool, true, false}
 use mathlib.Core.List.{List, [], _∷_}
 use lib.ListN.{getD}
 use lib.Dec.{ltb, leb, eqb}
@@ -12,25 +12,25 @@ use Rattle.fifo.specs.Control.{UINC, TXREQ, FRESET}
 use Rattle.ring.specs.declared.ring.Fifo.{Fifo}
 use Rattle.ring.specs.Ring.{sending, depth, sent, configured, commanded, turned}
 use Rattle.ring.specs.Registers.{frozenFields, control, status}
-use Rattle.ring.specs.Layout.{size, end, slotAt}
+use Rattle.ring.specs.Layout.{size, end, isArea, slotAt}
 
 -- ---- slots in RAM
 
 -- where slot k of FIFO n ends
-abbrev pub slotEnd : List ℕ → (n k : ℕ) → ℕ
-slotEnd ws n k = slotAt ws n k + size (getD ws n 0)
+abbrev pub slotEnd : Bool → List ℕ → (n k : ℕ) → ℕ
+slotEnd q ws n k = slotAt q ws n k + size (getD ws n 0)
 
 -- the slots of a FIFO stand in order and share no byte
 abbrev pub SlotsApart : Type 0
-SlotsApart = (ws : List ℕ) (n k l : ℕ) → k < l → slotEnd ws n k ≤ slotAt ws n l
+SlotsApart = (q : Bool) (ws : List ℕ) (n k l : ℕ) → k < l → slotEnd q ws n k ≤ slotAt q ws n l
 
--- every slot of a FIFO stands before every slot of a later one
+-- every slot of a FIFO stands before every slot of a later one; so do the queue's, where it is on
 abbrev pub FifosApart : Type 0
-FifosApart = (ws : List ℕ) (i j k l : ℕ) → 1 ≤ i → i < j → k < depth (getD ws i 0) → slotEnd ws i k ≤ slotAt ws j l
+FifosApart = (q : Bool) (ws : List ℕ) (i j k l : ℕ) → isArea q i ≡ true → i < j → k < depth (getD ws i 0) → slotEnd q ws i k ≤ slotAt q ws j l
 
 -- where the slots of FIFO 31 end within 2048 bytes, every slot does
 abbrev pub InRam : Type 0
-InRam = (ws : List ℕ) (n k : ℕ) → end ws 31 ≤ 2048 → 1 ≤ n → n ≤ 31 → k < depth (getD ws n 0) → slotEnd ws n k ≤ 2048
+InRam = (q : Bool) (ws : List ℕ) (n k : ℕ) → end q ws 31 ≤ 2048 → isArea q n ≡ true → n ≤ 31 → k < depth (getD ws n 0) → slotEnd q ws n k ≤ 2048
 
 -- ---- the control word as it reads
 

@@ -1,6 +1,6 @@
 // Where the FIFOs' slots lie in RAM.
 ghost use mathlib.Core.Path.{_≡_};
-ghost use Prim.Native.Nat.{_≤_, _*_};
+ghost use Prim.Native.Nat.{_≤_, _*_, _+_};
 ghost use lib.ListN.{getD};
 ghost use Rattle.ring.specs.Layout.{stamped, size, room, end, base, slotAt};
 use crate::depth;
@@ -42,10 +42,19 @@ fn word(ws: [u32; 32], n: u8) -> u32
     0
 }
 
-pub fn end(ws: [u32; 32], n: u8) -> usize
-    ensures { λ r. ⌜ (r ≡ end ws n) × (r ≤ 2432 * n) ⌝ }
+fn first(queue: bool, ws: [u32; 32]) -> usize
+    ensures { λ r. ⌜ (r ≡ end queue ws 0) × (r ≤ 2432) ⌝ }
 {
-    let mut sum = 0;
+    if queue {
+        return room(word(ws, 0));
+    }
+    0
+}
+
+pub fn end(queue: bool, ws: [u32; 32], n: u8) -> usize
+    ensures { λ r. ⌜ (r ≡ end queue ws n) × (r ≤ 2432 * n + 2432) ⌝ }
+{
+    let mut sum = first(queue, ws);
     let mut i = 0;
     while i < n {
         i += 1;
@@ -54,19 +63,19 @@ pub fn end(ws: [u32; 32], n: u8) -> usize
     sum
 }
 
-fn base(ws: [u32; 32], n: u8) -> usize
-    ensures { λ r. ⌜ (r ≡ base ws n) × (r ≤ 2432 * n) ⌝ }
+fn base(queue: bool, ws: [u32; 32], n: u8) -> usize
+    ensures { λ r. ⌜ (r ≡ base queue ws n) × (r ≤ 2432 * n + 2432) ⌝ }
 {
     if n == 0 {
         return 0;
     }
-    end(ws, n - 1)
+    end(queue, ws, n - 1)
 }
 
 // The ring has no slot beyond 510: a head and a count are bytes.
-pub fn slot_at(ws: [u32; 32], n: u8, k: u32) -> usize
+pub fn slot_at(queue: bool, ws: [u32; 32], n: u8, k: u32) -> usize
     requires { ⌜ k ≤ 510 ⌝ }
-    ensures { λ r. ⌜ (r ≡ slotAt ws n k) × (r ≤ 1000000) ⌝ }
+    ensures { λ r. ⌜ (r ≡ slotAt queue ws n k) × (r ≤ 1000000) ⌝ }
 {
-    base(ws, n) + k as usize * size(word(ws, n))
+    base(queue, ws, n) + k as usize * size(word(ws, n))
 }

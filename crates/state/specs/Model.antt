@@ -1,7 +1,7 @@
 -- The modelled chip: its state after RESET, how its parts are looked at, and the few ways in which they change.
 -- Assumes nothing.
 use Prim.Native.Nat.{ℕ}
-use mathlib.Core.Bool.{true}
+use mathlib.Core.Bool.{true, false}
 use mathlib.Core.List.{List, [], _∷_}
 use lib.ListN.{length, getD, set, take, replicate}
 use Rattle.parts.specs.Parts.{put}
@@ -31,11 +31,12 @@ areas = 32
 
 -- the chip is in Configuration, and every control word is the data sheet's
 abbrev pub fixed₀ : Fixed
-fixed₀ = record { con = CiCON .reset; configuring = true; frozen = replicate areas (CiFIFOCON .reset) }
+fixed₀ = record { configuring = true; queue = false; frozen = replicate areas (CiFIFOCON .reset) }
 
 -- registers that hold what is written
 abbrev pub setup₀ : Setup
 setup₀ = record {
+  con = CiCON .reset;
   osc = OSC .reset;
   plain = CiNBTCFG .reset ∷ CiDBTCFG .reset ∷ CiTDC .reset ∷ CiTSCON .reset ∷ CiINT .reset ∷ IOCON .reset ∷ [];
   filter = replicate 8 (CiFLTCON .reset);

@@ -20,13 +20,15 @@ use interrupt::Interrupt;
 use ring::Fifo;
 
 pub struct Fixed {
-    pub con: u32,
     pub configuring: bool,
+    // The transmit queue is on.
+    pub queue: bool,
     // The control words as they were last written in Configuration.
     pub frozen: [u32; 32],
 }
 
 pub struct Setup {
+    pub con: u32,
     pub osc: u32,
     // CiNBTCFG, CiDBTCFG, CiTDC, CiTSCON, CiINT, IOCON.
     pub plain: [u32; 6],
@@ -47,8 +49,8 @@ fn fixed_reset() -> Fixed
     ensures { λ r. ⌜ r ≡ fixed₀ ⌝ }
 {
     Fixed {
-        con: CanControl::RESET,
         configuring: true,
+        queue: false,
         frozen: [FifoControl::RESET; 32],
     }
 }
@@ -57,6 +59,7 @@ fn setup_reset() -> Setup
     ensures { λ r. ⌜ r ≡ setup₀ ⌝ }
 {
     Setup {
+        con: CanControl::RESET,
         osc: OscillatorControl::RESET,
         plain: [
             NominalBitTimeConfiguration::RESET,

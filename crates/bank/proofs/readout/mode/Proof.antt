@@ -12,4 +12,4 @@ mode-spec =
     tie.close
     (tie.spec (λ c. (rw (c .if1 .taken), search needs))
     (λ c κs. search needs)
-    (λ c. (rw (c .before .if1 .left) (c .reqop .ensures), rw (c .reqop .ensures) (field-lt (c .before .before .args .x .con) 24 3))))
+    (λ c. (rw (c .before .if1 .left) (c .reqop .ensures), rw (c .reqop .ensures) (field-lt (c .before .before .args .m .setup .con) 24 3))))
