@@ -38,7 +38,12 @@ pub fn shown_at(m: Model, n: u8) -> usize
     ensures { λ r. ⌜ (r ≡ shownAt m n) × (r ≤ 1000000) ⌝ }
 {
     let frozen = m.fixed.frozen;
-    ring::slot_at(m.fixed.queue, frozen, n, ring::shown(frozen_at(m, n), fifo_at(m, n)))
+    ring::slot_at(
+        m.fixed.queue,
+        frozen,
+        n,
+        ring::shown(frozen_at(m, n), fifo_at(m, n)),
+    )
 }
 
 fn status_word(m: Model, n: u8) -> u32
