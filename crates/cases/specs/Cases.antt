@@ -67,7 +67,7 @@ chipWith depth plsize =
 -- the bytes that its layout takes; what the CiCON write answers that asks for mode 0, with TXQEN and STEF at 0; the mode after it
 abbrev pub leaving : Model → List ℕ
 leaving m =
-    end (m .fixed .queue) (m .fixed .frozen) 31
+    end false (m .fixed .frozen) 31
     ∷ replyNumbers (writing (CiCON .address 0) 0 m .reply)
     ++ (modeOf (writing (CiCON .address 0) 0 m .model) ∷ [])
 
