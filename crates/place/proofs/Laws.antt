@@ -60,6 +60,9 @@ all-carried = record {
   delay = refl;
   stamp = refl;
   interrupt = refl;
+  queueControl = refl;
+  queueStatus = refl;
+  queueAddress = refl;
   pins = refl;
 }
 
@@ -132,6 +135,9 @@ behind-filters a h m n =
       ne-eqb a 0x00C (λ q. omega arith),
       ne-eqb a 0x014 (λ q. omega arith),
       ne-eqb a 0x01C (λ q. omega arith),
+      ne-eqb a 0x050 (λ q. omega arith),
+      ne-eqb a 0x054 (λ q. omega arith),
+      ne-eqb a 0x058 (λ q. omega arith),
       ne-eqb a 0xE00 m,
       ne-eqb a 0xE04 n,
     ))

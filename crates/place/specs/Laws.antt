@@ -8,6 +8,9 @@ use lib.Dec.{eqb}
 use Rattle.fifo.specs.Control.{CiFIFOCON}
 use Rattle.fifo.specs.Status.{CiFIFOSTA}
 use Rattle.fifo.specs.UserAddress.{CiFIFOUA}
+use Rattle.fifo.specs.TxQueueControl.{CiTXQCON}
+use Rattle.fifo.specs.TxQueueStatus.{CiTXQSTA}
+use Rattle.fifo.specs.TxQueueUserAddress.{CiTXQUA}
 use Rattle.configuration.specs.CanControl.{CiCON}
 use Rattle.configuration.specs.TimeStampControl.{CiTSCON}
 use Rattle.bit_timing.specs.Nominal.{CiNBTCFG}
@@ -43,6 +46,9 @@ pub record Carried : Type 0 where
   pub delay : registerAt (CiTDC .address 0) ≡ Place.Is (Register.Plain 2)
   pub stamp : registerAt (CiTSCON .address 0) ≡ Place.Is (Register.Plain 3)
   pub interrupt : registerAt (CiINT .address 0) ≡ Place.Is (Register.Plain 4)
+  pub queueControl : registerAt (CiTXQCON .address 0) ≡ Place.Is Register.QueueControl
+  pub queueStatus : registerAt (CiTXQSTA .address 0) ≡ Place.Is Register.QueueStatus
+  pub queueAddress : registerAt (CiTXQUA .address 0) ≡ Place.Is Register.QueueAddress
   pub pins : registerAt (IOCON .address 0) ≡ Place.Is (Register.Plain 5)
 
 -- a number is one of a list

@@ -18,7 +18,7 @@ abbrev pub ofFilter : (m word : ℕ) → Register
 ofFilter m zero = Register.Object m
 ofFilter m (suc k) = Register.Mask m
 
--- CiCON, CiNBTCFG, CiDBTCFG, CiTDC, CiTSCON, CiINT, OSC, IOCON: those that stand alone
+-- CiCON, CiNBTCFG, CiDBTCFG, CiTDC, CiTSCON, CiINT, CiTXQCON, CiTXQSTA, CiTXQUA, OSC, IOCON: those that stand alone
 unfoldable pub single : ℕ → Place
 single a =
     if eqb a 0x000 then Place.Is Register.Con
@@ -27,6 +27,9 @@ single a =
     else if eqb a 0x00C then Place.Is (Register.Plain 2)
     else if eqb a 0x014 then Place.Is (Register.Plain 3)
     else if eqb a 0x01C then Place.Is (Register.Plain 4)
+    else if eqb a 0x050 then Place.Is Register.QueueControl
+    else if eqb a 0x054 then Place.Is Register.QueueStatus
+    else if eqb a 0x058 then Place.Is Register.QueueAddress
     else if eqb a 0xE00 then Place.Is Register.Osc
     else if eqb a 0xE04 then Place.Is (Register.Plain 5)
     else Place.None

@@ -15,6 +15,10 @@ pub enum Register {
     Control(u8),
     Status(u8),
     Address(u8),
+    // Of the transmit queue.
+    QueueControl,
+    QueueStatus,
+    QueueAddress,
 }
 
 pub enum Place {
@@ -53,6 +57,9 @@ fn single(a: u32) -> Place
         0x00C => Place::Is(Register::Plain(2)),
         0x014 => Place::Is(Register::Plain(3)),
         0x01C => Place::Is(Register::Plain(4)),
+        0x050 => Place::Is(Register::QueueControl),
+        0x054 => Place::Is(Register::QueueStatus),
+        0x058 => Place::Is(Register::QueueAddress),
         0xE00 => Place::Is(Register::Osc),
         0xE04 => Place::Is(Register::Plain(5)),
         _ => Place::None,

@@ -20,12 +20,12 @@ pub all-sound : all sound kinds ≡ true
 unfolding kinds
 all-sound = refl
 
--- no two registers have one address, and there are 173
+-- no two registers have one address, and there are 176
 pub all-distinct : distinct (addressesOf kinds) ≡ true
 unfolding kinds
 all-distinct = refl
 
-pub how-many : length (addressesOf kinds) ≡ 173
+pub how-many : length (addressesOf kinds) ≡ 176
 unfolding kinds
 how-many = refl
 

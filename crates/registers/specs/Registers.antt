@@ -12,6 +12,9 @@ use Rattle.field.specs.Register.{Register}
 use Rattle.fifo.specs.Control.{CiFIFOCON}
 use Rattle.fifo.specs.Status.{CiFIFOSTA}
 use Rattle.fifo.specs.UserAddress.{CiFIFOUA}
+use Rattle.fifo.specs.TxQueueControl.{CiTXQCON}
+use Rattle.fifo.specs.TxQueueStatus.{CiTXQSTA}
+use Rattle.fifo.specs.TxQueueUserAddress.{CiTXQUA}
 use Rattle.configuration.specs.CanControl.{CiCON}
 use Rattle.configuration.specs.TimeStampControl.{CiTSCON}
 use Rattle.bit_timing.specs.Nominal.{CiNBTCFG}
@@ -54,6 +57,9 @@ kinds =
     ∷ once CiTDC
     ∷ once CiTSCON
     ∷ once CiINT
+    ∷ once CiTXQCON
+    ∷ once CiTXQSTA
+    ∷ once CiTXQUA
     ∷ eachFifo CiFIFOCON
     ∷ eachFifo CiFIFOSTA
     ∷ eachFifo CiFIFOUA
