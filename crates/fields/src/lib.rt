@@ -9,7 +9,7 @@ use names::find;
 // Where the lists of `setup_fields`, `fifo_fields` and the headers begin among the names.
 const FIFO_CONTROL: usize = 8;
 
-const TX_HEADER: usize = 14;
+const TX_HEADER: usize = 17;
 
 // A word is below this.
 const WORDS: u64 = 0x1_0000_0000;
@@ -77,9 +77,9 @@ fn with(k: usize, i: usize, v: u32, word: u64) -> u64 {
 
 // A value that is too large is set as the largest, and so makes the same word as the value below it.
 fn set(k: usize, i: usize, v: u32, word: u64) -> Field {
-    if k == FIFO_CONTROL {
-        if i == fifo_fields::SIZE {
-            return fifo_fields::sized(low(word), v);
+    if FIFO_CONTROL <= k {
+        if fifo_fields::is_size(k - FIFO_CONTROL, i) {
+            return fifo_fields::sized(k - FIFO_CONTROL, v, low(word));
         }
     }
     let changed = with(k, i, v, word);

@@ -1,11 +1,12 @@
-// The names of registers and fields: the data sheet's in lower case, but for `fifo_size`, FSIZE + 1, and the Rust's `slckdiv`.
+// The names of registers and fields: the data sheet's in lower case, but for `fifo_size`, FSIZE + 1, and the Rust's `slckdiv` and, in
+// CiTXQUA too, `fifoua`.
 use named::place;
 
 // The place of a name in list 0, the registers, or in list 1 + k, the fields of register k.
 pub fn find(list: usize, name: &[u8]) -> usize {
     place(
         b"CiCON CiTSCON CiINT CiNBTCFG CiDBTCFG CiTDC OSC IOCON \
-        CiFIFOCON CiFIFOSTA CiFIFOUA CiFLTCON CiFLTOBJ CiMASK \
+        CiFIFOCON CiFIFOSTA CiFIFOUA CiFLTCON CiFLTOBJ CiMASK CiTXQCON CiTXQSTA CiTXQUA \
         TxHeader RxHeader/\
         dncnt isocrcen pxedis wakfil wft busy brsdis rtxat esigm serr2lom stef txqen opmod reqop abat txbws/\
         tbcpre tbcen tseof tsres/\
@@ -22,6 +23,9 @@ pub fn find(list: usize, name: &[u8]) -> usize {
         f0bp f1bp f2bp f3bp flten0 flten1 flten2 flten3/\
         sid eid sid11 exide/\
         msid meid msid11 mide/\
+        txqnie txqeie txatie txen uinc txreq freset txpri txat plsize fifo_size/\
+        txqnif txqeif txatif txerr txlarb txabt txqci/\
+        fifoua/\
         sid eid dlc ide rtr brs fdf esi seq sid11/\
         sid eid dlc ide rtr brs fdf esi sid11 filhit/",
         list,

@@ -1,7 +1,6 @@
-// CiFIFOCON, CiFIFOSTA and CiFIFOUA.
+// CiFIFOCON and CiFIFOSTA.
 use fifo::FifoControl;
 use fifo::FifoStatus;
-use named::Field;
 use named::cut;
 
 pub fn control(w: u32, i: usize) -> u32 {
@@ -48,6 +47,8 @@ pub fn with_control(w: u32, i: usize, v: u32) -> u32 {
     set.0
 }
 
+pub const SIZE: usize = 14;
+
 pub fn status(w: u32, i: usize) -> u32 {
     let r = FifoStatus(w);
     match i {
@@ -78,14 +79,4 @@ pub fn with_status(w: u32, i: usize, v: u32) -> u32 {
         _ => r.with_fifoci(cut(v, 31)),
     };
     set.0
-}
-
-// The last name of the control. Its values begin with 1, and one above 32 is set as 32.
-pub const SIZE: usize = 14;
-
-pub fn sized(w: u32, v: u32) -> Field {
-    if v == 0 {
-        return Field::Unknown;
-    }
-    Field::Value(FifoControl(w).with_fifo_size(v).0 as u64)
 }
