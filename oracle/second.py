@@ -61,22 +61,23 @@ class Chip:
         s.reg = dict(RESETS)
         for k in range(8): s.reg[0x1D0 + 4 * k] = 0
         for f in range(32): s.reg[0x1F0 + 8 * f] = 0; s.reg[0x1F4 + 8 * f] = 0
-        s.con = [0x00600400] * 32
+        s.con = [0x00600480] + [0x00600400] * 31
         s.count = [0] * 32; s.old = [0] * 32; s.ovf = [0] * 32
+        s.taken, s.shown = set(), 0
         s.conf = True; s.mode = 4
-    # geometry
+    # geometry; number 0 is the transmit queue, which has no ring: taken are the slots that hold a message, shown is one
+    def on(s): return bits(s.reg[0], 20, 20) == 1
     def depth(s, n): return bits(s.con[n], 28, 24) + 1
     def plsize(s, n): return PL[bits(s.con[n], 31, 29)]
     def tx(s, n): return bits(s.con[n], 7, 7) == 1
     def ts(s, n): return not s.tx(n) and bits(s.con[n], 5, 5) == 1
     def osize(s, n): return 8 + (4 if s.ts(n) else 0) + s.plsize(n)
-    def base(s, n): return sum(s.depth(k) * s.osize(k) for k in range(1, n))
+    def base(s, n): return sum(s.depth(k) * s.osize(k) for k in range(0 if s.on() else 1, n))
     def empty(s, n):
         s.count[n] = 0; s.old[n] = 0; s.ovf[n] = 0; s.con[n] &= ~(1 << 9)
+        if n == 0: s.taken, s.shown = set(), 0
     def kind(s, a):
-        if 0x05C <= a < 0x05C + 12 * 31 and a % 4 == 0:
-            n, k = divmod((a - 0x05C) // 4, 3)
-            return n + 1, k
+        if 0x050 <= a < 0x050 + 12 * 32 and a % 4 == 0: return divmod((a - 0x050) // 4, 3)
         return None
     def carried(s, a): return a in s.reg or s.kind(a) is not None
     def read(s, a):
@@ -88,46 +89,54 @@ class Chip:
             return w
         n, k = k
         if k == 0: return s.con[n] & ~(1 << 8)
-        if s.conf: return 0
-        full, none = s.count[n] == s.depth(n), s.count[n] == 0
+        if s.conf or n == 0 and not s.on(): return 0
+        count = len(s.taken) if n == 0 else s.count[n]
+        full, none = count == s.depth(n), count == 0
         if k == 1:
             if s.tx(n): return (not full) | none << 2
             return (not none) | full << 2 | s.ovf[n] << 3
-        slot = (s.old[n] + s.count[n]) % s.depth(n) if s.tx(n) else s.old[n]
+        slot = s.shown if n == 0 else (s.old[n] + count) % s.depth(n) if s.tx(n) else s.old[n]
         return s.base(n) + slot * s.osize(n)
     def write(s, a, w):
         """gives True where leaving was not granted"""
         k = s.kind(a)
         if k is None:
+            if a == 0 and not s.conf: w = setb(w, 20, 20, s.on()) # TXQEN goes by the mode that the write finds
             s.reg[a] = w
             if a != 0: return False
             req = bits(w, 26, 24)
             if req == 4:
                 if not s.conf:
-                    for n in range(1, 32): s.empty(n)
+                    for n in range(32): s.empty(n)
                 s.conf, s.mode = True, 4
                 return False
             if s.conf:
-                if bits(w, 20, 19) or s.base(32) > 2048: return True
+                if bits(w, 19, 19) or s.base(32) > 2048: return True
                 s.conf = False
-                for n in range(1, 32): s.con[n] &= ~(1 << 10)
+                for n in range(32): s.con[n] &= ~(1 << 10)
             s.mode = req
             return False
         n, k = k
         if k == 1:
             if not bits(w, 3, 3): s.ovf[n] = 0
         elif k == 0:
-            if s.conf: s.con[n] = w & ~(1 << 8)
+            if s.conf: s.con[n] = w & ~(1 << 8) | (n == 0) << 7
             else:
                 frozen = 0xff0000a0
                 s.con[n] = (s.con[n] & frozen) | (w & ~frozen & ~(1 << 8) & ~(1 << 10) & 0xffffffff)
                 if bits(w, 8, 8):
-                    if s.tx(n):
+                    if n == 0: s.claim()
+                    elif s.tx(n):
                         if s.count[n] < s.depth(n): s.count[n] += 1
                     elif s.count[n]:
                         s.count[n] -= 1; s.old[n] = (s.old[n] + 1) % s.depth(n)
                 if bits(w, 10, 10): s.empty(n)
         return False
+    def claim(s):
+        """UINC of the queue: the slot shown is held from now on, and the lowest free one is shown; where there is none, still the same"""
+        if not s.on() or len(s.taken) == s.depth(0): return
+        s.taken.add(s.shown)
+        s.shown = min(set(range(s.depth(0))) - s.taken, default=s.shown)
     def exchange(s, sent, want):
         """(received or None, 27 due)"""
         no = (None, False)
@@ -170,6 +179,20 @@ class Chip:
         s.old[n] = (s.old[n] + 1) % s.depth(n); s.count[n] -= 1
         if s.count[n] == 0: s.con[n] &= ~(1 << 9)
         return f
+    def rank(s, i):
+        """of what lies in slot i of the queue, frame or not: the smaller wins arbitration"""
+        a = s.slot(0, i)
+        w0, w1 = word(s.ram[a:a + 4]), word(s.ram[a + 4:a + 8])
+        extended = bits(w1, 4, 4)
+        return bits(w0, 10, 0), extended, bits(w0, 28, 11) if extended else 0, i
+    def send_queue(s):
+        if s.conf or not bits(s.con[0], 9, 9) or not s.taken: return 'nothing sent'
+        i = min(s.taken, key=s.rank)
+        f = s.decode(0, i)
+        if len(s.taken) == s.depth(0): s.shown = i # the first that is freed
+        s.taken.remove(i)
+        if not s.taken: s.con[0] &= ~(1 << 9)
+        return f
     def unfit(s, i, fl, p, dlc):
         """dlc: None where the payload's length has none and none was named"""
         if bad_id(i): return 'refused 21'
@@ -206,6 +229,7 @@ class Chip:
         s.ram[a:a + len(o)] = o
         s.count[n] += 1
         return 'delivered'
+    def held_queue(s): return ['held queue %d' % len(s.taken)] + ['+ ' + s.decode(0, i) for i in sorted(s.taken)]
     def held(s, n):
         if not 1 <= n <= 31: return ['held %d refused 20' % n]
         return ['held %d %d' % (n, s.count[n])] + ['+ ' + s.decode(n, i) for i in range(s.count[n])]
@@ -307,6 +331,14 @@ def c_configure_fifo(n, size, pl, d, *a):
         fits(a, [1] * 5)
         fs += [(7, 7, 0)] + [(h, h, v) for h, v in zip([5, 3, 2, 1, 0], a)]
     yield from mod(conaddr(n), fields(*fs)); return 'ok'
+def c_configure_tx_queue(size, pl=None, *a):
+    on = size != 'off'
+    if on: need(size > 0); need(pl < 8); fits(a, [5, 2, 1, 1, 1])
+    yield from mod(0, fields((20, 20, on)), 11)
+    if on:
+        fs = [(28, 24, min(size, 32) - 1), (31, 29, pl)] + [(h, l, v) for (h, l), v in zip([(20, 16), (22, 21), (4, 4), (2, 2), (0, 0)], a)]
+        yield from mod(0x050, fields(*fs), 11)
+    return 'ok'
 def c_configure_filter(f, t, kind=None, i=None, m=None):
     need(f <= 31, 20)
     con, sh = 0x1D0 + 4 * (f // 4), 8 * (f % 4)
@@ -323,22 +355,42 @@ def uaddr(n):
     u = yield from rd(conaddr(n) + 8)
     if u > 0xFBFF: raise Refused(25)
     return u + 0x400
-def c_push(n, i, fl, seq, p):
+def message(i, fl, seq, p):
+    """the object that is written"""
     dlc = len_dlc(len(p), 'f' in fl)
-    fifo(n); need(not bad_id(i), 21); need(seq < 1 << 23); need(dlc is not None, 22)
-    con = yield from rd(conaddr(n))
-    if not bits(con, 7, 7): raise Refused(6)
-    if len(p) > PL[bits(con, 31, 29)]: raise Refused(7)
-    if not (yield from rd(conaddr(n) + 4)) & 1: raise Refused(8)
-    a = yield from uaddr(n)
+    need(not bad_id(i), 21); need(seq < 1 << 23); need(dlc is not None, 22)
     o = header(i, fl, dlc, seq << 9) + p
-    o += bytes(up4(len(o)) - len(o))
+    return o + bytes(up4(len(o)) - len(o))
+def put(n, o):
+    a = yield from uaddr(n)
     ramcheck(a, len(o), 5)
     yield from ask(cmd(2, a) + o, 0, 2)
+def room(n, con, p):
+    if len(p) > PL[bits(con, 31, 29)]: raise Refused(7)
+    if not (yield from rd(conaddr(n) + 4)) & 1: raise Refused(8)
+def c_push(n, i, fl, seq, p):
+    fifo(n); o = message(i, fl, seq, p)
+    con = yield from rd(conaddr(n))
+    if not bits(con, 7, 7): raise Refused(6)
+    yield from room(n, con, p)
+    yield from put(n, o)
     yield from wr(conaddr(n), con | 1 << 8)
     return 'ok'
 def c_request(n):
     fifo(n); yield from mod(conaddr(n), fields((9, 9, 1))); return 'ok'
+def c_queue_push(i, fl, seq, p):
+    o = message(i, fl, seq, p)
+    if not bits((yield from rd(0)), 20, 20): raise Refused(34)
+    con = yield from rd(0x050)
+    yield from room(0, con, p)
+    yield from put(0, o)
+    yield from wr(0x050, con | 1 << 8)
+    return 'ok'
+def c_queue_push_unchecked(i, fl, seq, p):
+    o = message(i, fl, seq, p)
+    yield from put(0, o)
+    yield from mod(0x050, fields((8, 8, 1))); return 'ok'
+def c_queue_request(): yield from mod(0x050, fields((9, 9, 1))); return 'ok'
 def c_transmit(*a):
     yield from c_push(*a)
     return (yield from c_request(a[0]))
@@ -380,7 +432,7 @@ def checked(a):
 def c_checked_read(a): reg(a); return 'word %08x %d' % (yield from checked(a))
 
 CARRIED = frozenset(filter(Chip().carried, range(0x1000)))
-assert len(CARRIED) == 173
+assert len(CARRIED) == 176
 class Scrubber:
     def __init__(s): s.place = 0
     def step(s, rewrite, entries):
@@ -429,7 +481,8 @@ D = dec
 SIG = dict(reset=[], get_op_mode=[], verify=[], verify_long=[], set_op_mode=[D], configure_osc=[D] * 2, configure_io=[D] * 4,
            configure_bit_timing=[D] * 9, configure=[D] * 20, push=[D, ident, flags, D, byts], transmit=[D, ident, flags, D, byts],
            request=[D], has_next=[D], peek=[D], get=[D], read_ram=[hexw, D], write_ram=[hexw, byts], read_register=[hexw],
-           checked_read=[hexw], write_register=[hexw, hexw], modify_register=[hexw] * 3)
+           checked_read=[hexw], write_register=[hexw, hexw], modify_register=[hexw] * 3, queue_request=[],
+           queue_push=[ident, flags, D, byts], queue_push_unchecked=[ident, flags, D, byts])
 def entry(t):
     """ADDR:WORD:MASK"""
     return args([hexw] * 3, t.split(':'))
@@ -447,6 +500,8 @@ def parse_call(ts, scrubber):
         sig = [D, D, D, direction] + [D] * (7 if a[3] == 'tx' else 5)
     elif name == 'configure_filter':
         sig = [D, lambda t: t] if len(a) == 2 and a[1] == 'off' else [D, D, kind, ident, ident]
+    elif name == 'configure_tx_queue':
+        sig = [lambda t: t] if a == ['off'] else [D] * 7
     elif name in SIG: sig = SIG[name]
     else: raise Bad
     return globals()['c_' + name](*args(sig, a))
@@ -457,6 +512,7 @@ def frame(before, ts):
     a = args(sig, ts)
     return a + [len_dlc(len(a[-1]), 'f' in a[-3])]
 def parse_step(ts):
+    if ts == ['send', 'queue']: return lambda c: c.send_queue()
     if ts[0] == 'send': a = args([D], ts[1:]); return lambda c: c.send(*a)
     if ts[0] == 'deliver': a = frame([D], ts[1:]); return lambda c: c.deliver(*a)
     if ts[0] == 'sort': a = frame([], ts[1:]); return lambda c: c.sort(*a)
@@ -515,6 +571,7 @@ def run(text, out):
                 s, w = args([byts, D], ts[1:])
                 r, n27 = chip.exchange(s, w)
                 out += ['> %s %d' % (hx(s), w), '!' if r is None else '< ' + hx(r)] + (['* 27'] if n27 else []) + ['']
+            elif ts == ['held', 'queue']: out += chip.held_queue() + ['']
             elif ts[0] == 'held':
                 out += chip.held(*args([D], ts[1:])) + ['']
             elif ts == ['new']:
