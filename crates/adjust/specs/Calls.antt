@@ -1,7 +1,7 @@
 -- The calls that set one part of the chip up: their items, one after the other, and what is refused before any exchange.
 -- Assumes nothing.
 use Prim.Native.Nat.{ℕ}
-use mathlib.Core.Bool.{not}
+use mathlib.Core.Bool.{true, false, not}
 use mathlib.Core.List.{List, [], _∷_}
 use Rattle.laws.specs.If.{if_then_else_}
 use Rattle.configuration.specs.CanControl.{REQOP}
@@ -15,9 +15,10 @@ use Rattle.changes.specs.declared.settings.OscillatorConfiguration.{OscillatorC
 use Rattle.changes.specs.declared.settings.IoConfiguration.{IoConfiguration}
 use Rattle.changes.specs.declared.settings.BitTimeConfiguration.{BitTimeConfiguration}
 use Rattle.areas.specs.declared.settings.FifoConfiguration.{FifoConfiguration}
+use Rattle.areas.specs.declared.settings.TxQueueSetting.{TxQueueSetting}
 use Rattle.areas.specs.declared.settings.FilterConfiguration.{FilterConfiguration}
 use Rattle.changes.specs.Changes.{fits, whenAsked, modeChange, oscillatorChange, ioChange, timingFits, nominalChange, dataChange, delayChange}
-use Rattle.areas.specs.Areas.{fifoFits, fifoChange, offChange, objectChange, maskChange, onChange, isFilter, filterCheck}
+use Rattle.areas.specs.Areas.{fifoFits, fifoChange, enableChange, queueChange, settingFits, offChange, objectChange, maskChange, onChange, isFilter, filterCheck}
 
 -- what a failed exchange means here, but to `configure_fifo` and `configure_filter`
 abbrev pub failed : Refusal
@@ -35,6 +36,11 @@ oscillatorItems o = Item.Change (oscillatorChange o) ∷ whenAsked (o .pll) (Ite
 
 abbrev pub timingItems : BitTimeConfiguration → List Item
 timingItems b = Item.Change (nominalChange (b .nominal)) ∷ Item.Change (dataChange (b .data)) ∷ Item.Change (delayChange (b .data)) ∷ []
+
+-- TXQEN written; where the queue is on, its control
+abbrev pub queueItems : TxQueueSetting → List Item
+queueItems TxQueueSetting.Off = Item.Change (enableChange false) ∷ []
+queueItems (TxQueueSetting.On c) = Item.Change (enableChange true) ∷ Item.Change (queueChange c) ∷ []
 
 abbrev pub filterItems : ℕ → FilterConfiguration → List Item
 filterItems f c =
@@ -63,6 +69,9 @@ configureFifo n c =
     if not (isFifo n) then turnedDown Refusal.BadNumber
     else if not (fifoFits c) then turnedDown Refusal.BadSetting
     else ready Refusal.SpiRead (Item.Change (fifoChange n c) ∷ [])
+
+unfoldable pub configureTxQueue : TxQueueSetting → Prepared
+configureTxQueue q = if settingFits q then ready failed (queueItems q) else turnedDown Refusal.BadSetting
 
 -- "off" is only the first change
 unfoldable pub disableFilter : ℕ → Prepared

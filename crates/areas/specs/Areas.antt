@@ -1,4 +1,4 @@
--- The changes that configure a FIFO and a filter. `To`: the change of the same fields to bits of a word, which is what a plan keeps of a change.
+-- The changes that configure a FIFO, the transmit queue and a filter. `To`: the change of the same fields to bits of a word, which is what a plan keeps of a change.
 -- Assumes nothing.
 use Prim.Native.Nat.{ℕ, _/_, _%_}
 use mathlib.Core.Bool.{Bool, true, false, not, _&&_}
@@ -7,6 +7,7 @@ use lib.Dec.{ltb, leb}
 use Rattle.laws.specs.If.{if_then_else_}
 use Rattle.field.specs.Field.{digit}
 use Rattle.field.specs.Settings.{Setting, _:=_}
+use Rattle.configuration.specs.CanControl.{CiCON, TXQEN}
 use Rattle.fifo.specs.Control.{CiFIFOCON, TFNRFNIE, TFHRFHIE, TFERFFIE, RXOVIE, TXATIE, RXTSEN, RTREN, TXEN, TXPRI, TXAT, FSIZE, PLSIZE, storedSize, isFifo}
 use Rattle.filter.specs.Control.{CiFLTCON, FBP, FLTEN}
 use Rattle.filter.specs.Object.{CiFLTOBJ, SID, EID, EXIDE}
@@ -18,6 +19,8 @@ use Rattle.plan.specs.declared.change.Change.{Change}
 use Rattle.plan.specs.Change.{changeOf, changeTo}
 use Rattle.areas.specs.declared.settings.FifoMode.{FifoMode}
 use Rattle.areas.specs.declared.settings.FifoConfiguration.{FifoConfiguration}
+use Rattle.areas.specs.declared.settings.TxQueueConfiguration.{TxQueueConfiguration}
+use Rattle.areas.specs.declared.settings.TxQueueSetting.{TxQueueSetting}
 use Rattle.areas.specs.declared.settings.Identifier.{Identifier}
 use Rattle.areas.specs.declared.settings.FilterMode.{FilterMode}
 use Rattle.areas.specs.declared.settings.FilterConfiguration.{FilterConfiguration}
@@ -46,6 +49,33 @@ directionFits (FifoMode.Receive r) = true
 
 unfoldable pub fifoFits : FifoConfiguration → Bool
 fifoFits c = leb 1 (c .size) && (fits PLSIZE (c .plsize) && directionFits (c .mode))
+
+-- ---- the transmit queue: TXQEN of CiCON, then, where it is on, control of the queue, which is FIFO 0's
+
+abbrev pub enableSettings : Bool → List Setting
+enableSettings on = TXQEN := digit on ∷ []
+
+abbrev pub enableChange : Bool → Change
+enableChange on = changeOf (CiCON .address 0) (enableSettings on)
+
+abbrev pub queueSettings : TxQueueConfiguration → List Setting
+queueSettings c =
+    TXAT := c .txat ∷ TXPRI := c .txpri ∷ FSIZE := storedSize (c .size) ∷ PLSIZE := c .plsize
+    ∷ TXATIE := digit (c .txatie) ∷ TFERFFIE := digit (c .empty) ∷ TFNRFNIE := digit (c .notfull) ∷ []
+
+abbrev pub queueChange : TxQueueConfiguration → Change
+queueChange c = changeOf (CiFIFOCON .address 0) (queueSettings c)
+
+abbrev pub queueTo : ℕ → Change
+queueTo bits = changeTo (CiFIFOCON .address 0) (TXAT ∷ TXPRI ∷ FSIZE ∷ PLSIZE ∷ TXATIE ∷ TFERFFIE ∷ TFNRFNIE ∷ []) bits
+
+-- what is refused 24: size 0, or a field wider than its bits
+unfoldable pub queueFits : TxQueueConfiguration → Bool
+queueFits c = leb 1 (c .size) && (fits PLSIZE (c .plsize) && (fits TXPRI (c .txpri) && fits TXAT (c .txat)))
+
+abbrev pub settingFits : TxQueueSetting → Bool
+settingFits TxQueueSetting.Off = true
+settingFits (TxQueueSetting.On c) = queueFits c
 
 -- ---- a filter: disabled, object, mask, then target and enabled
 

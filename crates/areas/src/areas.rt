@@ -1,4 +1,4 @@
-// The changes that configure a FIFO and a filter: the bits that they set, and the change of a register to these bits, where the bits that are
+// The changes that configure a FIFO, the transmit queue and a filter: the bits that they set, and the change of a register to these bits, where the bits that are
 // kept are all but those of its fields. And the change that requests a transmission.
 ghost use mathlib.Core.Path.{_≡_};
 ghost use mathlib.Core.Bool.{true, not, _&&_};
@@ -12,7 +12,7 @@ ghost use Rattle.field.specs.Settings.{_:=_, fieldsOf, settings};
 ghost use Rattle.fifo.specs.Control.{CiFIFOCON, TXREQ, TXPRI, TXAT, FSIZE, PLSIZE};
 ghost use mathlib.Core.List.{[], _∷_};
 ghost use Rattle.plan.specs.Change.{changeOf, cleared};
-ghost use Rattle.areas.specs.Areas.{directionSettings, directionFits, fifoFits, fifoChange, offChange, onChange, onTo, extendedOnly, oneKind, objectSettings, objectTo, maskSettings, maskTo, isIdentifier, filterCheck};
+ghost use Rattle.areas.specs.Areas.{directionSettings, directionFits, fifoFits, fifoChange, enableChange, queueChange, queueTo, queueFits, offChange, onChange, onTo, extendedOnly, oneKind, objectSettings, objectTo, maskSettings, maskTo, isIdentifier, filterCheck};
 use crate::FifoConfiguration;
 use crate::FifoMode;
 use crate::FilterConfiguration;
@@ -20,6 +20,8 @@ use crate::FilterMode;
 use crate::Identifier;
 use crate::RxFifo;
 use crate::TxFifo;
+use crate::TxQueueConfiguration;
+use configuration::CanControl;
 use fifo::FifoControl;
 use fifo::is_fifo;
 use filter::FilterControl;
@@ -135,6 +137,69 @@ pub fn fifo_change(n: u8, c: FifoConfiguration) -> Change
         address: FifoControl::address(n),
         keep: fifo_keep(mode),
         set: with_direction(sized, mode).0,
+    }
+}
+
+pub fn enable_change(on: bool) -> Change
+    ensures { λ r. ⌜ r ≡ enableChange on ⌝ }
+{
+    Change {
+        address: CanControl::address(),
+        keep: CanControl(0xFFFF_FFFF).with_txqen(false).0,
+        set: CanControl(0).with_txqen(on).0,
+    }
+}
+
+// The same is refused as of a FIFO that sends.
+pub fn queue_fits(c: TxQueueConfiguration) -> bool
+    ensures { λ r. ⌜ r ≡ queueFits c ⌝ }
+{
+    let t = TxFifo {
+        txpri: c.txpri,
+        txat: c.txat,
+        rtren: false,
+        txatie: c.txatie,
+        empty: c.empty,
+        half: false,
+        notfull: c.notfull,
+    };
+    fifo_fits(FifoConfiguration {
+        size: c.size,
+        plsize: c.plsize,
+        mode: FifoMode::Transmit(t),
+    })
+}
+
+pub fn queue_bits(c: TxQueueConfiguration) -> u32
+    requires { ⌜ queueFits c ≡ true ⌝ }
+    ensures { λ r. ⌜ r ≡ queueChange c .set ⌝ }
+{
+    FifoControl(0)
+        .with_txat(c.txat)
+        .with_txpri(c.txpri)
+        .with_fifo_size(c.size)
+        .with_plsize(c.plsize)
+        .with_txatie(c.txatie)
+        .with_tferffie(c.empty)
+        .with_tfnrfnie(c.notfull)
+        .0
+}
+
+pub fn queue_change(bits: u32) -> Change
+    ensures { λ r. ⌜ r ≡ queueTo bits ⌝ }
+{
+    Change {
+        address: FifoControl::address(0),
+        keep: FifoControl(0xFFFF_FFFF)
+            .with_txat(0)
+            .with_txpri(0)
+            .with_fsize(0)
+            .with_plsize(0)
+            .with_txatie(false)
+            .with_tferffie(false)
+            .with_tfnrfnie(false)
+            .0,
+        set: bits,
     }
 }
 

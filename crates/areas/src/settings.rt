@@ -1,4 +1,4 @@
-// What the calls of a FIFO and a filter are given. A number is any number: one that is wider than its field is refused (24).
+// What the calls of a FIFO, the transmit queue and a filter are given. A number is any number: one that is wider than its field is refused (24).
 
 // Fields of CiFIFOCON that a FIFO which sends has.
 pub struct TxFifo {
@@ -30,6 +30,23 @@ pub struct FifoConfiguration {
     pub size: u32,
     pub plsize: u32,
     pub mode: FifoMode,
+}
+
+// Fields of the queue's control; `size` and `plsize` as of a FIFO.
+pub struct TxQueueConfiguration {
+    pub size: u32,
+    pub plsize: u32,
+    pub txpri: u32,
+    pub txat: u32,
+    pub txatie: bool,
+    pub empty: bool,
+    pub notfull: bool,
+}
+
+// The queue is off, or on with this configuration.
+pub enum TxQueueSetting {
+    Off,
+    On(TxQueueConfiguration),
 }
 
 pub struct Identifier {

@@ -2,6 +2,7 @@
 -- Assumes nothing.
 use Prim.Native.Nat.{ℕ, _*_}
 use mathlib.Core.Path.{_≡_}
+use mathlib.Core.Bool.{true}
 use mathlib.Core.List.{List, [], _∷_}
 use lib.Dec.{eqb}
 use Rattle.laws.specs.If.{if_then_else_}
@@ -18,7 +19,7 @@ use Rattle.plan.specs.PlanAt.{PlanAt}
 use Rattle.plan.specs.Plan.{Plan}
 use Rattle.plan.specs.Step.{filled}
 use Rattle.changes.specs.Changes.{whenAsked, modeChange, oscillatorTo, ioTo, nominalTo, dataTo, delayTo, stefChange, txqenChange, counterChange, dncntTo, rtxatChange, interruptTo}
-use Rattle.areas.specs.Areas.{offChange, objectTo, maskTo, onTo}
+use Rattle.areas.specs.Areas.{enableChange, queueTo, offChange, objectTo, maskTo, onTo}
 use Rattle.configure.specs.declared.planned.PlanKind.{PlanKind}
 use Rattle.configure.specs.declared.planned.PlanStage.{PlanStage}
 use Rattle.configure.specs.declared.planned.PlanNumbers.{PlanNumbers}
@@ -33,6 +34,7 @@ failedIn PlanKind.Mode = Refusal.ConfigurationModeTimeout
 failedIn PlanKind.Oscillator = Refusal.ConfigurationModeTimeout
 failedIn PlanKind.Timing = Refusal.ConfigurationModeTimeout
 failedIn PlanKind.Filter = Refusal.SpiRead
+failedIn PlanKind.Queue = Refusal.ConfigurationModeTimeout
 failedIn PlanKind.Configure = Refusal.ConfigurationModeTimeout
 
 -- what it is refused by where a mode does not come
@@ -45,6 +47,7 @@ lateIn PlanKind.Mode = Refusal.ChangeOpModeTimeout
 lateIn PlanKind.Oscillator = Refusal.ChangeOpModeTimeout
 lateIn PlanKind.Timing = Refusal.ChangeOpModeTimeout
 lateIn PlanKind.Filter = Refusal.ChangeOpModeTimeout
+lateIn PlanKind.Queue = Refusal.ChangeOpModeTimeout
 lateIn PlanKind.Configure = Refusal.ConfigurationModeTimeout
 
 -- the change under way, and the poll of a mode
@@ -79,6 +82,7 @@ itemsFor PlanKind.Filter n x body =
     ∷ Item.Change (maskTo n (word 1 body))
     ∷ Item.Change (onTo n (word 2 body))
     ∷ []
+itemsFor PlanKind.Queue n x body = Item.Change (enableChange true) ∷ Item.Change (queueTo (word 0 body)) ∷ []
 itemsFor PlanKind.Configure n x body =
     Item.Change (modeChange 4)
     ∷ Item.Poll (Poll.Mode n Refusal.ConfigurationModeTimeout) 4

@@ -7,16 +7,20 @@ ghost use Rattle.plan.specs.Step.{planOf, refusedPlan};
 ghost use Rattle.spi.specs.declared.refusal.Refusal.{Refusal};
 ghost use Rattle.spi.specs.declared.refusal.Done.{Done};
 ghost use Rattle.changes.specs.Changes.{timingFits};
-ghost use Rattle.areas.specs.Areas.{filterCheck};
-ghost use Rattle.adjust.specs.Calls.{failed, setOpMode, configureOsc, configureIo, timingItems, configureBitTiming, configureFifo, disableFilter, filterItems, configureFilter};
+ghost use Rattle.areas.specs.Areas.{queueFits, filterCheck};
+ghost use Rattle.areas.specs.declared.settings.TxQueueSetting.{TxQueueSetting};
+ghost use Rattle.adjust.specs.Calls.{failed, setOpMode, configureOsc, configureIo, timingItems, configureBitTiming, configureFifo, queueItems, configureTxQueue, disableFilter, filterItems, configureFilter};
 ghost use Rattle.configure.specs.Numbers.{planIn, Stands};
 ghost use Rattle.configure.specs.Moves.{begunWith};
 use crate::PlanKind;
 use crate::PlanNumbers;
 use crate::PlanStage;
+use crate::listed::put_word;
 use crate::listed::put_words;
 use areas::FifoConfiguration;
 use areas::FilterConfiguration;
+use areas::TxQueueConfiguration;
+use areas::TxQueueSetting;
 use changes::BitTimeConfiguration;
 use changes::IoConfiguration;
 use changes::OscillatorConfiguration;
@@ -150,6 +154,29 @@ pub fn configure_fifo(n: u32, c: FifoConfiguration) -> PlanNumbers
         }
     } else {
         refused_plan(Refusal::BadNumber)
+    }
+}
+
+fn queue_plan(c: TxQueueConfiguration, body: &mut [u8; 76]) -> PlanNumbers
+    requires { ⌜ queueFits c ≡ true ⌝ }
+    ensures { λ r. ⌜ planIn r (now (body .exit)) ≡ planOf failed (queueItems (TxQueueSetting.On c)) ⌝ }
+{
+    put_word(body, 0, areas::queue_bits(c));
+    plan_with(PlanKind::Queue, 0, areas::enable_change(true))
+}
+
+pub fn configure_tx_queue(q: TxQueueSetting, body: &mut [u8; 76]) -> PlanNumbers
+    ensures { λ r. ⌜ planIn r (now (body .exit)) ≡ planFor (configureTxQueue q) ⌝ }
+{
+    match q {
+        TxQueueSetting::Off => plan_with(PlanKind::Io, 0, areas::enable_change(false)),
+        TxQueueSetting::On(c) => {
+            if areas::queue_fits(c) {
+                queue_plan(c, body)
+            } else {
+                refused_plan(Refusal::BadSetting)
+            }
+        }
     }
 }
 

@@ -1,5 +1,5 @@
 // The calls that are plans, a list of changes, polls and echoes: modify, request, the short echo test and those that set the chip
-// up. Each is a few numbers; three of them put words into the body that they are lent.
+// up. Each is a few numbers; four of them put words into the body that they are lent.
 mod calls;
 mod listed;
 mod machine;
@@ -16,11 +16,14 @@ pub use areas::FilterMode;
 pub use areas::Identifier;
 pub use areas::RxFifo;
 pub use areas::TxFifo;
+pub use areas::TxQueueConfiguration;
+pub use areas::TxQueueSetting;
 pub use calls::configure_bit_timing;
 pub use calls::configure_fifo;
 pub use calls::configure_filter;
 pub use calls::configure_io;
 pub use calls::configure_osc;
+pub use calls::configure_tx_queue;
 pub use calls::disable_filter;
 pub use calls::modify;
 pub use calls::set_op_mode;
@@ -37,6 +40,7 @@ pub use machine::plan_step;
 pub use planned::PlanKind;
 pub use planned::PlanNumbers;
 pub use planned::PlanStage;
+pub use requesting::queue_request;
 pub use requesting::request;
 pub use turns::plan_turns;
 pub use whole::configure_all;

@@ -1,5 +1,6 @@
 // The items of a plan, each worked out from its numbers and the words in the body.
 ghost use mathlib.Core.Path.{_≡_};
+ghost use mathlib.Core.Bool.{true};
 ghost use Prim.Native.Nat.{_≤_, _<_};
 ghost use lib.Dec.{eqb};
 ghost use lib.ListN.{length, getD};
@@ -11,6 +12,7 @@ ghost use Rattle.spi.specs.declared.refusal.Refusal.{Refusal};
 ghost use Rattle.plan.specs.declared.item.Poll.{Poll};
 ghost use Rattle.plan.specs.declared.item.Item.{Item};
 ghost use Rattle.changes.specs.Changes.{whenAsked, counterChange, dncntTo};
+ghost use Rattle.areas.specs.Areas.{enableChange, queueTo};
 ghost use Rattle.configure.specs.declared.planned.PlanKind.{PlanKind};
 ghost use Rattle.configure.specs.Numbers.{word, pllFor, itemsFor, itemsIn, changeIn};
 ghost use Rattle.configure.specs.Moves.{Counts, Stored, StoredAll};
@@ -63,6 +65,7 @@ pub fn count_of(c: PlanNumbers) -> u8
         PlanKind::Oscillator => 2,
         PlanKind::Timing => 3,
         PlanKind::Filter => 4,
+        PlanKind::Queue => 2,
         PlanKind::Configure => 15,
     }
 }
@@ -127,6 +130,16 @@ fn filter_item(c: PlanNumbers, i: u8, body: &[u8; 76]) -> Item
         1 => Item::Change(areas::object_change(c.n, word(body, 0))),
         2 => Item::Change(areas::mask_change(c.n, word(body, 1))),
         _ => Item::Change(areas::on_change(c.n, word(body, 2))),
+    }
+}
+
+fn queue_item(i: u8, body: &[u8; 76]) -> Item
+    ensures { λ r. ⌜ r ≡ (if eqb i 0 then Item.Change (enableChange true) else Item.Change (queueTo (word 0 (now (body .entry))))) ⌝ }
+{
+    if i == 0 {
+        Item::Change(areas::enable_change(true))
+    } else {
+        Item::Change(areas::queue_change(word(body, 0)))
     }
 }
 
@@ -210,6 +223,7 @@ pub fn item_of(c: PlanNumbers, i: u8, body: &[u8; 76]) -> Item
         PlanKind::Oscillator => oscillator_item(c, i),
         PlanKind::Timing => timing_item(c, i, body),
         PlanKind::Filter => filter_item(c, i, body),
+        PlanKind::Queue => queue_item(i, body),
         PlanKind::Configure => configure_item(c, i, body),
     }
 }

@@ -15,6 +15,7 @@ pub enum PlanKind {
     Oscillator,
     Timing,
     Filter,
+    Queue,
     Configure,
 }
 
@@ -63,6 +64,7 @@ pub fn failed_in(kind: PlanKind) -> Refusal
         PlanKind::Oscillator => Refusal::ConfigurationModeTimeout,
         PlanKind::Timing => Refusal::ConfigurationModeTimeout,
         PlanKind::Filter => Refusal::SpiRead,
+        PlanKind::Queue => Refusal::ConfigurationModeTimeout,
         PlanKind::Configure => Refusal::ConfigurationModeTimeout,
     }
 }
@@ -80,6 +82,7 @@ pub fn late_in(kind: PlanKind) -> Refusal
         PlanKind::Oscillator => Refusal::ChangeOpModeTimeout,
         PlanKind::Timing => Refusal::ChangeOpModeTimeout,
         PlanKind::Filter => Refusal::ChangeOpModeTimeout,
+        PlanKind::Queue => Refusal::ChangeOpModeTimeout,
         PlanKind::Configure => Refusal::ConfigurationModeTimeout,
     }
 }

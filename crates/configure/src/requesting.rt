@@ -1,6 +1,6 @@
-// The request call, by which a FIFO is to send what it holds: control is read, and written with TXREQ 1.
+// The request calls, by which a FIFO, or the transmit queue, is to send what it holds: control is read, and written with TXREQ 1.
 ghost use mathlib.Core.Path.{_≡_};
-ghost use Rattle.transmit.specs.Transmit.{requestStart};
+ghost use Rattle.transmit.specs.Transmit.{requestStart, queueRequestStart};
 ghost use Rattle.configure.specs.Numbers.{Stands};
 use crate::PlanKind;
 use crate::PlanNumbers;
@@ -17,4 +17,11 @@ pub fn request(fifo: u32) -> PlanNumbers
     } else {
         refused_plan(Refusal::BadNumber)
     }
+}
+
+// Of the queue, FIFO 0: nothing is tested.
+pub fn queue_request() -> PlanNumbers
+    ensures { λ r. ⌜ Stands r queueRequestStart ⌝ }
+{
+    plan_with(PlanKind::One, 0, areas::request_change(0))
 }

@@ -28,13 +28,14 @@ use Rattle.changes.specs.declared.settings.BitTimeConfiguration.{BitTimeConfigu
 use Rattle.changes.specs.declared.settings.Settings.{Settings}
 use Rattle.changes.specs.Changes.{fits, timingFits}
 use Rattle.areas.specs.declared.settings.FifoConfiguration.{FifoConfiguration}
+use Rattle.areas.specs.declared.settings.TxQueueSetting.{TxQueueSetting}
 use Rattle.areas.specs.declared.settings.FilterConfiguration.{FilterConfiguration}
-use Rattle.areas.specs.Areas.{fifoFits, isIdentifier, isFilter}
-use Rattle.adjust.specs.Calls.{setOpMode, configureOsc, configureIo, configureBitTiming, configureFifo, disableFilter, configureFilter}
+use Rattle.areas.specs.Areas.{fifoFits, settingFits, isIdentifier, isFilter}
+use Rattle.adjust.specs.Calls.{setOpMode, configureOsc, configureIo, configureBitTiming, configureFifo, configureTxQueue, disableFilter, configureFilter}
 use Rattle.configure.specs.Whole.{configureAll}
-use Rattle.tx_fifo.specs.Step.{startOf}
-use Rattle.tx_fifo.specs.Talk.{pushCall}
-use Rattle.transmit.specs.Transmit.{requestStart, requestCall, transmitStart, transmitCall}
+use Rattle.tx_fifo.specs.Step.{startOf, queueStart, queueUncheckedStart}
+use Rattle.tx_fifo.specs.Talk.{pushCall, queuePushCall, queueUncheckedCall}
+use Rattle.transmit.specs.Transmit.{requestStart, requestCall, queueRequestStart, queueRequestCall, transmitStart, transmitCall}
 use Rattle.rx_fifo.specs.Step.{hasNextStart, peekStart, getStart}
 use Rattle.rx_fifo.specs.Talk.{hasNextTalk, peekTalk, getTalk}
 use Rattle.watch.specs.declared.Watch.{Watch}
@@ -54,6 +55,7 @@ pub data Plans : Type 0 where
   Io : IoConfiguration → Plans
   BitTiming : BitTimeConfiguration → Plans
   Fifo : (fifo : ℕ) → FifoConfiguration → Plans
+  Queue : TxQueueSetting → Plans
   Filter : (filter : ℕ) → FilterConfiguration → Plans
   FilterOff : (filter : ℕ) → Plans
   Configure : Settings → Plans
@@ -68,6 +70,8 @@ pub data Start : Type 0 where
   Planned : Plans → Start
   Push Transmit : (fifo : ℕ) → Header → (seq : ℕ) → List ℕ → Start
   Request HasNext : (fifo : ℕ) → Start
+  QueuePush QueueUnchecked : Header → (seq : ℕ) → List ℕ → Start
+  QueueRequest : Start
   Peek Get : (fifo room : ℕ) → Start
   Scrub : (place : ℕ) → List Watch → (rewrite : Bool) → Start
 
@@ -81,6 +85,7 @@ prepared (Osc o) = configureOsc o
 prepared (Io c) = configureIo c
 prepared (BitTiming b) = configureBitTiming b
 prepared (Fifo n c) = configureFifo n c
+prepared (Queue q) = configureTxQueue q
 prepared (Filter f c) = configureFilter f c
 prepared (FilterOff f) = disableFilter f
 prepared (Configure s) = configureAll s
@@ -102,6 +107,9 @@ started (Planned x) = ofPlan (planFor (prepared x))
 started (Push n header seq payload) = ofPush (startOf (fifoNumber n) header seq payload)
 started (Transmit n header seq payload) = ofTransmit (transmitStart (fifoNumber n) header seq payload)
 started (Request n) = ofPlan (requestStart n)
+started (QueuePush header seq payload) = ofPush (queueStart header seq payload)
+started (QueueUnchecked header seq payload) = ofPush (queueUncheckedStart header seq payload)
+started QueueRequest = ofPlan queueRequestStart
 started (HasNext n) = ofFetch (hasNextStart (fifoNumber n))
 started (Peek n room) = ofFetch (peekStart (fifoNumber n) room)
 started (Get n room) = ofFetch (getStart (fifoNumber n) room)
@@ -120,6 +128,9 @@ wholeTalk (Planned x) = talkFor (prepared x)
 wholeTalk (Push n header seq payload) = pushCall n header seq payload
 wholeTalk (Transmit n header seq payload) = transmitCall n header seq payload
 wholeTalk (Request n) = requestCall n
+wholeTalk (QueuePush header seq payload) = queuePushCall header seq payload
+wholeTalk (QueueUnchecked header seq payload) = queueUncheckedCall header seq payload
+wholeTalk QueueRequest = queueRequestCall
 wholeTalk (HasNext n) = told (hasNextTalk n)
 wholeTalk (Peek n room) = told (peekTalk n room)
 wholeTalk (Get n room) = told (getTalk n room)
@@ -152,14 +163,17 @@ notFifo n = (20 ∷ []) when not (isFifo n)
 abbrev pub access : (address count number : ℕ) → List Test
 access address count number = (3 ∷ address ∷ []) when not (inRange address count) ∷ (number ∷ count ∷ []) when not (eqb (count % 4) 0) ∷ []
 
--- push: 20, 21, 24, 22
-abbrev pub sendable : ℕ → Header → ℕ → List ℕ → List Test
-sendable n header seq payload =
-    notFifo n
-    ∷ (21 ∷ []) when ltb (topId (header .extended)) (header .id)
+-- push to the queue: 21, 24, 22
+abbrev pub writable : Header → ℕ → List ℕ → List Test
+writable header seq payload =
+    (21 ∷ []) when ltb (topId (header .extended)) (header .id)
     ∷ (24 ∷ []) when leb (2 ^ 23) seq
     ∷ (22 ∷ []) when unmeant (dlcOf (header .fdf) (length payload))
     ∷ []
+
+-- to a FIFO: 20, 21, 24, 22
+abbrev pub sendable : ℕ → Header → ℕ → List ℕ → List Test
+sendable n header seq payload = notFifo n ∷ writable header seq payload
 
 -- peek and get: 20, 28
 abbrev pub roomy : (n room : ℕ) → List Test
@@ -178,6 +192,7 @@ planTests (Osc o) = []
 planTests (Io c) = []
 planTests (BitTiming b) = (24 ∷ []) when not (timingFits b) ∷ []
 planTests (Fifo n c) = notFifo n ∷ (24 ∷ []) when not (fifoFits c) ∷ []
+planTests (Queue q) = (24 ∷ []) when not (settingFits q) ∷ []
 planTests (Filter f c) =
     (20 ∷ []) when not (isFilter f && isFifo (c .fifo)) ∷ (21 ∷ []) when not (isIdentifier (c .object) && isIdentifier (c .mask)) ∷ []
 planTests (FilterOff f) = (20 ∷ []) when not (isFilter f) ∷ []
@@ -196,6 +211,9 @@ tests (Planned x) = planTests x
 tests (Push n header seq payload) = sendable n header seq payload
 tests (Transmit n header seq payload) = sendable n header seq payload
 tests (Request n) = notFifo n ∷ []
+tests (QueuePush header seq payload) = writable header seq payload
+tests (QueueUnchecked header seq payload) = writable header seq payload
+tests QueueRequest = []
 tests (HasNext n) = notFifo n ∷ []
 tests (Peek n room) = roomy n room
 tests (Get n room) = roomy n room

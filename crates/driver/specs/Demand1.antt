@@ -28,7 +28,7 @@ use Rattle.driver.specs.Call.{Call}
 use Rattle.driver.specs.Step.{askOf, stepOf, outcomeOf, filledBy}
 use Rattle.driver.specs.Finish.{finishedAs}
 use Rattle.driver.specs.Talk.{talkOf}
-use Rattle.driver.specs.Calls.{Start, Reset, OpMode, VerifyLong, Read, Checked, Write, ReadRam, WriteRam, Planned, Push, Transmit, Request, HasNext, Peek, Get, Scrub, started, wholeTalk, first, tests}
+use Rattle.driver.specs.Calls.{Start, Reset, OpMode, VerifyLong, Read, Checked, Write, ReadRam, WriteRam, Planned, Push, Transmit, Request, QueuePush, QueueUnchecked, QueueRequest, HasNext, Peek, Get, Scrub, started, wholeTalk, first, tests}
 
 -- a call after these answers, each with what was received
 abbrev pub after : Call → List (Answer × List ℕ) → Call
@@ -65,11 +65,15 @@ ramLeft (RamCall.Refused r) = 0
 
 -- a push with so many asks behind it, which do not come after a refusal
 abbrev pub pushLeft : PushAt → (behind : ℕ) → ℕ
+pushLeft PushAt.Enabled behind = 6 + behind
 pushLeft PushAt.Control behind = 5 + behind
 pushLeft (PushAt.Status w) behind = 4 + behind
 pushLeft (PushAt.Address w) behind = 3 + behind
 pushLeft (PushAt.Write w m) behind = 2 + behind
 pushLeft (PushAt.Commit w) behind = 1 + behind
+pushLeft PushAt.BareAddress behind = 4 + behind
+pushLeft (PushAt.BareWrite m) behind = 3 + behind
+pushLeft PushAt.BareControl behind = 2 + behind
 pushLeft PushAt.Done behind = behind
 pushLeft (PushAt.Refused r) behind = 0
 
@@ -224,6 +228,9 @@ most (Planned x) = (4, 6)
 most (Push n header seq payload) = (4, 74)
 most (Transmit n header seq payload) = (4, 74)
 most (Request n) = (4, 6)
+most (QueuePush header seq payload) = (4, 74)
+most (QueueUnchecked header seq payload) = (4, 74)
+most QueueRequest = (4, 6)
 most (HasNext n) = (4, 2)
 most (Peek n room) = (64, 2)
 most (Get n room) = (64, 6)
@@ -247,6 +254,9 @@ isRam (Planned x) = false
 isRam (Push n header seq payload) = false
 isRam (Transmit n header seq payload) = false
 isRam (Request n) = false
+isRam (QueuePush header seq payload) = false
+isRam (QueueUnchecked header seq payload) = false
+isRam QueueRequest = false
 isRam (HasNext n) = false
 isRam (Peek n room) = false
 isRam (Get n room) = false

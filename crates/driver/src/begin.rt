@@ -1,7 +1,7 @@
 // The calls: one function for each, which starts it. Any number may be given: what is refused is refused before any exchange, and the
 // call is then over.
 ghost use mathlib.Core.Path.{_≡_};
-ghost use Rattle.driver.specs.Calls.{Modify, Verify, SetOpMode, Osc, Io, BitTiming, Fifo, Filter, FilterOff, Configure, Reset, OpMode, VerifyLong, Read, Checked, Write, ReadRam, WriteRam, Planned, Push, Transmit, Request, HasNext, Peek, Get, Scrub, fifoNumber, started};
+ghost use Rattle.driver.specs.Calls.{Modify, Verify, SetOpMode, Osc, Io, BitTiming, Fifo, Queue, Filter, FilterOff, Configure, Reset, OpMode, VerifyLong, Read, Checked, Write, ReadRam, WriteRam, Planned, Push, Transmit, Request, QueuePush, QueueUnchecked, QueueRequest, HasNext, Peek, Get, Scrub, fifoNumber, started};
 ghost use Rattle.register.specs.Numbers.{registerOf};
 ghost use Rattle.ram.specs.Numbers.{ramOf};
 ghost use Rattle.configure.specs.Numbers.{planIn};
@@ -20,6 +20,7 @@ use crate::parts_of::with_scrub;
 use crate::parts_of::with_transmit;
 use areas::FifoConfiguration;
 use areas::FilterConfiguration;
+use areas::TxQueueSetting;
 use changes::BitTimeConfiguration;
 use changes::IoConfiguration;
 use changes::OscillatorConfiguration;
@@ -188,6 +189,15 @@ pub fn configure_fifo(fifo: u32, c: FifoConfiguration) -> Call
     of_plan(p, body)
 }
 
+// The transmit queue off, or on.
+pub fn configure_tx_queue(c: TxQueueSetting) -> Call
+    ensures { λ r. ⌜ callOf r ≡ started (Planned (Queue c)) ⌝ }
+{
+    let mut body = [0u8; 76];
+    let p = configure::configure_tx_queue(c, &mut body);
+    of_plan(p, body)
+}
+
 pub fn configure_filter(filter: u32, c: FilterConfiguration) -> Call
     ensures { λ r. ⌜ callOf r ≡ started (Planned (Filter filter c)) ⌝ }
 {
@@ -230,6 +240,39 @@ pub fn push(fifo: u32, header: Header, seq: u32, payload: &[u8]) -> Call
         numbers: with_push(idle(), p),
         body: body,
     }
+}
+
+// A push to the transmit queue.
+pub fn queue_push(header: Header, seq: u32, payload: &[u8]) -> Call
+    ensures { λ r. ⌜ callOf r ≡ started (QueuePush header seq (now (payload .entry))) ⌝ }
+{
+    let mut body = [0u8; 76];
+    let p = tx_fifo::queue_push_start(header, seq, payload, &mut body);
+    Call {
+        numbers: with_push(idle(), p),
+        body: body,
+    }
+}
+
+// One that tests neither whether the queue is on nor its room: a message that it holds may be overwritten.
+pub fn queue_push_unchecked(header: Header, seq: u32, payload: &[u8]) -> Call
+    ensures { λ r. ⌜ callOf r ≡ started (QueueUnchecked header seq (now (payload .entry))) ⌝ }
+{
+    let mut body = [0u8; 76];
+    let p = tx_fifo::queue_unchecked_start(header, seq, payload, &mut body);
+    Call {
+        numbers: with_push(idle(), p),
+        body: body,
+    }
+}
+
+// The queue is to send what it holds.
+pub fn queue_request() -> Call
+    ensures { λ r. ⌜ callOf r ≡ started QueueRequest ⌝ }
+{
+    let body = [0u8; 76];
+    let p = configure::queue_request();
+    of_plan(p, body)
 }
 
 // A push, and where it is done a request.

@@ -82,11 +82,15 @@ fn push_turns(c: PushNumbers, behind: u32) -> u32
 {
     let stage = c.stage;
     match stage {
+        PushStage::Enabled => 6 + behind,
         PushStage::Control => 5 + behind,
         PushStage::Status => 4 + behind,
         PushStage::Address => 3 + behind,
         PushStage::Write => 2 + behind,
         PushStage::Commit => 1 + behind,
+        PushStage::BareAddress => 4 + behind,
+        PushStage::BareWrite => 3 + behind,
+        PushStage::BareControl => 2 + behind,
         PushStage::Done => behind,
         PushStage::Refused => 0,
     }

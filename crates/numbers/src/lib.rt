@@ -33,5 +33,6 @@ pub fn number(refusal: Refusal) -> u32
         Refusal::DeviceNet => 31,
         Refusal::EmptyList => 32,
         Refusal::NotCarried => 33,
+        Refusal::TxQueueDisabled => 34,
     }
 }

@@ -32,6 +32,7 @@ numbered Refusal.NoMatch = 30 ∷ []
 numbered Refusal.DeviceNet = 31 ∷ []
 numbered Refusal.EmptyList = 32 ∷ []
 numbered Refusal.NotCarried = 33 ∷ []
+numbered Refusal.TxQueueDisabled = 34 ∷ []
 
 -- nothing where all is well
 abbrev pub doneNumbers : Done → List ℕ

@@ -26,6 +26,7 @@ pub enum Refusal {
     DeviceNet,
     EmptyList,
     NotCarried,
+    TxQueueDisabled,
 }
 
 // An answer that says only whether all is well.

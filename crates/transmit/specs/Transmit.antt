@@ -1,4 +1,4 @@
--- The request call, and transmit: push, then request.
+-- The request calls, and transmit: push, then request.
 -- Assumes nothing.
 use Prim.Native.Nat.{ℕ}
 use mathlib.Core.List.{List, [], _∷_}
@@ -32,6 +32,10 @@ unfoldable pub requestStart : ℕ → Plan
 requestStart fifo =
     if isFifo fifo then planOf Refusal.SpiRead (Item.Change (requestChange fifo) ∷ []) else refusedPlan Refusal.BadNumber
 
+-- of the transmit queue, which is FIFO 0: nothing is tested
+unfoldable pub queueRequestStart : Plan
+queueRequestStart = planOf Refusal.SpiRead (Item.Change (requestChange 0) ∷ [])
+
 -- ---- transmit, step by step: the push until it is done, then the request
 
 -- both calls from the start; the request is not looked at before the push is done. Where it is refused then, the message was accepted
@@ -53,11 +57,14 @@ transmitStep s a rx =
 unfoldable pub transmitOutcome : Transmit → Outcome
 transmitOutcome s = if isDone (s .push) then planOutcome (s .request) else outcomeOf (s .push)
 
--- ---- both as the line sees them
+-- ---- as the line sees them
 
 -- 20 before any exchange; control is read, and written with TXREQ 1
 unfoldable pub requestCall : ℕ → Talk Outcome
 requestCall fifo = if isFifo fifo then changeTalk Refusal.SpiRead (requestChange fifo) (done Outcome.Done) else refused Refusal.BadNumber
+
+unfoldable pub queueRequestCall : Talk Outcome
+queueRequestCall = changeTalk Refusal.SpiRead (requestChange 0) (done Outcome.Done)
 
 -- push, then request
 unfoldable pub transmitCall : ℕ → Header → ℕ → List ℕ → Talk Outcome

@@ -1,4 +1,4 @@
-// The call by which a FIFO that sends is given a message.
+// The calls by which a FIFO that sends, or the transmit queue, is given a message.
 mod push;
 
 pub use push::PushNumbers;
@@ -8,3 +8,5 @@ pub use push::push_done;
 pub use push::push_outcome;
 pub use push::push_start;
 pub use push::push_step;
+pub use push::queue_push_start;
+pub use push::queue_unchecked_start;
