@@ -9,6 +9,7 @@ use Rattle.field.specs.Field.{digit}
 use Rattle.field.specs.Settings.{Setting, _:=_}
 use Rattle.configuration.specs.CanControl.{CiCON, TXQEN}
 use Rattle.fifo.specs.Control.{CiFIFOCON, TFNRFNIE, TFHRFHIE, TFERFFIE, RXOVIE, TXATIE, RXTSEN, RTREN, TXEN, TXPRI, TXAT, FSIZE, PLSIZE, storedSize, isFifo}
+use Rattle.fifo.specs.TxQueueControl.{CiTXQCON, TXQNIE, TXQEIE}
 use Rattle.filter.specs.Control.{CiFLTCON, FBP, FLTEN}
 use Rattle.filter.specs.Object.{CiFLTOBJ, SID, EID, EXIDE}
 use Rattle.filter.specs.Mask.{CiMASK, MSID, MEID, MIDE}
@@ -50,7 +51,7 @@ directionFits (FifoMode.Receive r) = true
 unfoldable pub fifoFits : FifoConfiguration → Bool
 fifoFits c = leb 1 (c .size) && (fits PLSIZE (c .plsize) && directionFits (c .mode))
 
--- ---- the transmit queue: TXQEN of CiCON, then, where it is on, control of the queue, which is FIFO 0's
+-- ---- the transmit queue: TXQEN of CiCON, and, where it is on, the queue's control
 
 abbrev pub enableSettings : Bool → List Setting
 enableSettings on = TXQEN := digit on ∷ []
@@ -61,13 +62,13 @@ enableChange on = changeOf (CiCON .address 0) (enableSettings on)
 abbrev pub queueSettings : TxQueueConfiguration → List Setting
 queueSettings c =
     TXAT := c .txat ∷ TXPRI := c .txpri ∷ FSIZE := storedSize (c .size) ∷ PLSIZE := c .plsize
-    ∷ TXATIE := digit (c .txatie) ∷ TFERFFIE := digit (c .empty) ∷ TFNRFNIE := digit (c .notfull) ∷ []
+    ∷ TXATIE := digit (c .txatie) ∷ TXQEIE := digit (c .empty) ∷ TXQNIE := digit (c .notfull) ∷ []
 
 abbrev pub queueChange : TxQueueConfiguration → Change
-queueChange c = changeOf (CiFIFOCON .address 0) (queueSettings c)
+queueChange c = changeOf (CiTXQCON .address 0) (queueSettings c)
 
 abbrev pub queueTo : ℕ → Change
-queueTo bits = changeTo (CiFIFOCON .address 0) (TXAT ∷ TXPRI ∷ FSIZE ∷ PLSIZE ∷ TXATIE ∷ TFERFFIE ∷ TFNRFNIE ∷ []) bits
+queueTo bits = changeTo (CiTXQCON .address 0) (TXAT ∷ TXPRI ∷ FSIZE ∷ PLSIZE ∷ TXATIE ∷ TXQEIE ∷ TXQNIE ∷ []) bits
 
 -- what is refused 24: size 0, or a field wider than its bits
 unfoldable pub queueFits : TxQueueConfiguration → Bool

@@ -23,6 +23,7 @@ use crate::TxFifo;
 use crate::TxQueueConfiguration;
 use configuration::CanControl;
 use fifo::FifoControl;
+use fifo::TxQueueControl;
 use fifo::is_fifo;
 use filter::FilterControl;
 use filter::FilterMask;
@@ -174,14 +175,14 @@ pub fn queue_bits(c: TxQueueConfiguration) -> u32
     requires { ⌜ queueFits c ≡ true ⌝ }
     ensures { λ r. ⌜ r ≡ queueChange c .set ⌝ }
 {
-    FifoControl(0)
+    TxQueueControl(0)
         .with_txat(c.txat)
         .with_txpri(c.txpri)
         .with_fifo_size(c.size)
         .with_plsize(c.plsize)
         .with_txatie(c.txatie)
-        .with_tferffie(c.empty)
-        .with_tfnrfnie(c.notfull)
+        .with_txqeie(c.empty)
+        .with_txqnie(c.notfull)
         .0
 }
 
@@ -189,15 +190,15 @@ pub fn queue_change(bits: u32) -> Change
     ensures { λ r. ⌜ r ≡ queueTo bits ⌝ }
 {
     Change {
-        address: FifoControl::address(0),
-        keep: FifoControl(0xFFFF_FFFF)
+        address: TxQueueControl::address(),
+        keep: TxQueueControl(0xFFFF_FFFF)
             .with_txat(0)
             .with_txpri(0)
             .with_fsize(0)
             .with_plsize(0)
             .with_txatie(false)
-            .with_tferffie(false)
-            .with_tfnrfnie(false)
+            .with_txqeie(false)
+            .with_txqnie(false)
             .0,
         set: bits,
     }

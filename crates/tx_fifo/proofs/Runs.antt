@@ -6,7 +6,7 @@ use mathlib.Core.Bool.{Bool, true, false, not, false≢true}
 use mathlib.Core.List.{List, [], _∷_, _++_}
 use lib.ListN.{length}
 use lib.Seq.{take-append-seam}
-use lib.Dec.{ltb}
+use lib.Dec.{eqb·suc-zero, ltb}
 use Rattle.laws.specs.If.{if_then_else_}
 use Rattle.field.specs.Field.{flag}
 use Rattle.configuration.specs.CanControl.{TXQEN}
@@ -161,7 +161,7 @@ done-exactly s = says (s .fifo) (s .size) (s .object .len) (s .at) .2
 pub fifo-sends : (fifo w : ℕ) → isFifo fifo ≡ true → sends fifo w ≡ flag TXEN w
 unfolding isFifo
 fifo-sends zero w e = absurd (false≢true e)
-fifo-sends (suc n) w e = refl
+fifo-sends (suc n) w e = ap (λ b. if b then true else flag TXEN w) (eqb·suc-zero n)
 
 -- ---- five exchanges at most, to the queue six, unchecked four
 

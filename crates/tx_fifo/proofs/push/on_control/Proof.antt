@@ -13,7 +13,7 @@ on-control-spec =
     tie.close
     (tie.spec (search needs) (λ c κs. search needs) (λ c κs. search needs) (λ c κs. search needs) (λ c κs. search needs) (λ c κs. search needs) (search needs)
     (λ c κs. search needs)
-    (λ c body. let b = c .before in let t = b .before .before .before in c .refused .ensures body ∙ simp (lt-ltb _ _ (rw (b .before .before .payload-size .ensures) at (b .if2 .taken)), sym (t .before .txen .ensures) ∙ t .if1 .taken, t .before .before .before .reply .given .1))
-    (λ c body. let b = c .before in let t = b .before .before .before in simp (c .moved .ensures, le-ltb _ _ (rw (b .before .before .payload-size .ensures) at (b .if2 .left)), sym (t .before .txen .ensures) ∙ t .if1 .taken, t .before .before .before .reply .given .1))
-    (λ c body. let b = c .before in c .refused2 .ensures body ∙ simp (sym (b .before .txen .ensures) ∙ b .if1 .left, b .before .before .before .reply .given .1))
+    (λ c body. let b = c .before in let t = b .before .before .before in c .refused .ensures body ∙ simp (lt-ltb _ _ (rw (b .before .before .payload-size .ensures) at (b .if2 .taken)), sym (t .before .sends .ensures) ∙ t .if1 .taken, t .before .before .before .reply .given .1))
+    (λ c body. let b = c .before in let t = b .before .before .before in simp (c .moved .ensures, le-ltb _ _ (rw (b .before .before .payload-size .ensures) at (b .if2 .left)), sym (t .before .sends .ensures) ∙ t .if1 .taken, t .before .before .before .reply .given .1))
+    (λ c body. let b = c .before in c .refused2 .ensures body ∙ simp (sym (b .before .sends .ensures) ∙ b .if1 .left, b .before .before .before .reply .given .1))
     (λ c body. c .refused3 .ensures body ∙ simp (c .before .before .reply2 .given .1)))

@@ -9,12 +9,17 @@ pub push-ask-spec : {M : Type 1} → statement M
 unfolding askOf
 push-ask-spec =
     tie.close
-    (tie.spec (search needs) (λ c κs. search needs) (search needs) (λ c κs. search needs) (search needs) (λ c κs. search needs) (search needs) (search needs)
-    (λ c κs. search needs) (λ c κs. search needs) (search needs) (search needs)
+    (tie.spec (search needs) (λ c κs. search needs) (search needs) (λ c κs. search needs) (search needs) (λ c κs. search needs) (search needs)
+    (λ c κs. search needs) (search needs) (search needs) (λ c κs. search needs) (λ c κs. search needs) (search needs) (λ c κs. search needs)
+    (search needs) (search needs) (λ c κs. search needs) (search needs) (search needs)
     (λ c. simp (c .address .ensures, c .before .enum-told .given .1))
     (λ c. simp (c .address2 .ensures, c .before .enum-told2 .given .1))
     (λ c. simp (c .address3 .ensures, c .before .enum-told3 .given .1))
-    (λ c. simp (c .enum-told4 .given .1))
-    (λ c. simp (c .with-uinc .ensures, c .before .address4 .ensures, c .before .before .enum-told5 .given .1))
-    (λ c. simp (c .enum-told6 .given .1))
-    (λ c. simp (c .enum-told7 .given .1)))
+    (λ c. simp (c .address4 .ensures, c .before .enum-told4 .given .1))
+    (λ c. simp (c .enum-told5 .given .1))
+    (λ c. simp (c .with-uinc .ensures, c .before .address5 .ensures, c .before .before .enum-told6 .given .1))
+    (λ c. simp (c .address6 .ensures, c .before .enum-told7 .given .1))
+    (λ c. simp (c .enum-told8 .given .1))
+    (λ c. simp (c .address7 .ensures, c .before .enum-told9 .given .1))
+    (λ c. simp (c .enum-told10 .given .1))
+    (λ c. simp (c .enum-told11 .given .1)))
