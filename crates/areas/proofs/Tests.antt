@@ -18,8 +18,9 @@ use Rattle.changes.proofs.Tests.{fits-told}
 use Rattle.areas.specs.declared.settings.TxFifo.{TxFifo}
 use Rattle.areas.specs.declared.settings.FifoMode.{FifoMode}
 use Rattle.areas.specs.declared.settings.FifoConfiguration.{FifoConfiguration}
+use Rattle.areas.specs.declared.settings.TxQueueConfiguration.{TxQueueConfiguration}
 use Rattle.areas.specs.declared.settings.FilterConfiguration.{FilterConfiguration}
-use Rattle.areas.specs.Areas.{directionFits, fifoFits, isIdentifier, isFilter, filterCheck}
+use Rattle.areas.specs.Areas.{directionFits, fifoFits, queueFits, isIdentifier, isFilter, filterCheck}
 
 pub transmit-told : (t : TxFifo) → directionFits (FifoMode.Transmit t) ≡ true → Fits TXPRI (t .txpri) × Fits TXAT (t .txat)
 transmit-told t e = let (a, b) = both (fits TXPRI (t .txpri)) (fits TXAT (t .txat)) e in (fits-told TXPRI (t .txpri) a, fits-told TXAT (t .txat) b)
@@ -30,6 +31,15 @@ fifo-told c e =
     let (a, r) = both (leb 1 (c .size)) (fits PLSIZE (c .plsize) && directionFits (c .mode)) e in
     let (b, d) = both (fits PLSIZE (c .plsize)) (directionFits (c .mode)) r in
     (leb-true 1 (c .size) a, fits-told PLSIZE (c .plsize) b, d)
+
+-- the queue's are those of a FIFO that sends
+pub queue-told : (c : TxQueueConfiguration) → queueFits c ≡ true → (1 ≤ c .size) × Fits PLSIZE (c .plsize) × Fits TXPRI (c .txpri) × Fits TXAT (c .txat)
+unfolding queueFits fifoFits
+queue-told c e =
+    let t : TxFifo = record { txpri = c .txpri; txat = c .txat; rtren = false; txatie = c .txatie; empty = c .empty; half = false; notfull = c .notfull } in
+    let (a, b, d) = fifo-told (record { size = c .size; plsize = c .plsize; mode = FifoMode.Transmit t }) e in
+    let (p, q) = transmit-told t d in
+    (a, b, p, q)
 
 abbrev good : Done → ℕ
 good Done.Good = 1

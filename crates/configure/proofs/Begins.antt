@@ -21,6 +21,7 @@ use Rattle.bit_timing.specs.Delay.{CiTDC}
 use Rattle.interrupt.specs.Interrupt.{IE}
 use Rattle.interrupt.specs.declared.Cause.{Cause}
 use Rattle.fifo.specs.Control.{isFifo}
+use Rattle.fifo.specs.TxQueueControl.{CiTXQCON}
 use Rattle.filter.specs.Control.{CiFLTCON}
 use Rattle.filter.specs.Object.{CiFLTOBJ}
 use Rattle.filter.specs.Mask.{CiMASK}
@@ -36,11 +37,13 @@ use Rattle.plan.proofs.Changes.{change-is}
 use Rattle.changes.specs.declared.settings.OscillatorConfiguration.{OscillatorConfiguration}
 use Rattle.changes.specs.declared.settings.BitTimeConfiguration.{BitTimeConfiguration}
 use Rattle.changes.specs.declared.settings.Settings.{Settings}
+use Rattle.areas.specs.declared.settings.TxQueueConfiguration.{TxQueueConfiguration}
+use Rattle.areas.specs.declared.settings.TxQueueSetting.{TxQueueSetting}
 use Rattle.areas.specs.declared.settings.FilterConfiguration.{FilterConfiguration}
 use Rattle.changes.specs.Changes.{whenAsked, modeChange, oscillatorChange, oscillatorSettings, ioChange, ioSettings, nominalChange, nominalSettings, nominalTo, dataChange, dataSettings, dataTo, delayChange, delaySettings, delayTo, stefChange, txqenChange, counterChange, dncntChange, dncntSettings, rtxatChange, interruptChange, interruptTo}
 use Rattle.changes.proofs.Enables.{enables-is, interrupt-to}
-use Rattle.areas.specs.Areas.{offChange, objectChange, objectSettings, objectTo, maskChange, maskSettings, maskTo, onChange, onSettings, onTo, isIdentifier, isFilter, filterCheck}
-use Rattle.adjust.specs.Calls.{timingItems, filterItems}
+use Rattle.areas.specs.Areas.{enableChange, queueChange, queueSettings, queueTo, offChange, objectChange, objectSettings, objectTo, maskChange, maskSettings, maskTo, onChange, onSettings, onTo, isIdentifier, isFilter, filterCheck}
+use Rattle.adjust.specs.Calls.{timingItems, queueItems, filterItems}
 use Rattle.configure.specs.Whole.{configureItems}
 use Rattle.configure.specs.declared.planned.PlanKind.{PlanKind}
 use Rattle.configure.specs.Numbers.{failedIn, word, itemsFor, planIn}
@@ -112,6 +115,10 @@ module _ (b : BitTimeConfiguration) (u v w : ℕ) (p : u ≡ nominalChange (b .n
       let d = made (CiDBTCFG .address 0) (dataSettings (b .data)) v q in
       let t = made (CiTDC .address 0) (delaySettings (b .data)) w r in
       λ i. Item.Change (n i) ∷ Item.Change (d i) ∷ Item.Change (t i) ∷ []
+
+pub queue-made : (c : TxQueueConfiguration) (u : ℕ) → u ≡ queueChange c .set
+    → (Item.Change (enableChange true) ∷ Item.Change (queueTo u) ∷ []) ≡ queueItems (TxQueueSetting.On c)
+queue-made c u p = ap (λ x. Item.Change (enableChange true) ∷ Item.Change x ∷ []) (made (CiTXQCON .address 0) (queueSettings c) u p)
 
 module _ (f : ℕ) (c : FilterConfiguration) (u v w : ℕ) (p : u ≡ objectChange f (c .object) (c .mode) .set) (q : v ≡ maskChange f (c .mask) (c .mode) .set) (r : w ≡ onChange f (c .fifo) .set) where
   pub filter-made : (Item.Change (offChange f) ∷ Item.Change (objectTo f u) ∷ Item.Change (maskTo f v) ∷ Item.Change (onTo f w) ∷ []) ≡ filterItems f c

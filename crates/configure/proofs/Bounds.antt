@@ -22,10 +22,11 @@ use Rattle.changes.specs.declared.settings.IoConfiguration.{IoConfiguration}
 use Rattle.changes.specs.declared.settings.BitTimeConfiguration.{BitTimeConfiguration}
 use Rattle.changes.specs.declared.settings.Settings.{Settings}
 use Rattle.areas.specs.declared.settings.FifoConfiguration.{FifoConfiguration}
+use Rattle.areas.specs.declared.settings.TxQueueSetting.{TxQueueSetting}
 use Rattle.areas.specs.declared.settings.FilterConfiguration.{FilterConfiguration}
 use Rattle.changes.specs.Changes.{fits, timingFits, counterChange, dncntChange}
-use Rattle.areas.specs.Areas.{fifoFits, isFilter, filterCheck}
-use Rattle.adjust.specs.Calls.{filterItems, setOpMode, configureOsc, configureIo, configureBitTiming, configureFifo, disableFilter, configureFilter}
+use Rattle.areas.specs.Areas.{fifoFits, queueFits, isFilter, filterCheck}
+use Rattle.adjust.specs.Calls.{filterItems, setOpMode, configureOsc, configureIo, configureBitTiming, configureFifo, configureTxQueue, disableFilter, configureFilter}
 use Rattle.configure.specs.Whole.{configureItems, configureAll}
 
 -- a choice of two items
@@ -62,6 +63,11 @@ unfolding configureFifo
 configure-fifo-bound n c =
     let P : Prepared → Type 0 = λ p. Within 2 (talkFor p) in
     by-if P (not (isFifo n)) (λ e. tt) (λ e. by-if P (not (fifoFits c)) (λ d. tt) (λ d. call-bound (ready _ _)))
+
+pub configure-tx-queue-bound : (q : TxQueueSetting) → Within 4 (talkFor (configureTxQueue q))
+unfolding configureTxQueue
+configure-tx-queue-bound TxQueueSetting.Off = call-within 4 (ready _ _) (omega arith)
+configure-tx-queue-bound (TxQueueSetting.On c) = test-within 4 (queueFits c) (ready _ _) _ (call-bound (ready _ _))
 
 pub disable-filter-bound : (f : ℕ) → Within 2 (talkFor (disableFilter f))
 unfolding disableFilter

@@ -1,7 +1,7 @@
 -- What is proved of the words that the calls write which set the chip up, in one.
 -- Assumes nothing.
 use Rattle.configure.specs.Laws.{Laws}
-use Rattle.configure.proofs.Writes.{mode-writes, oscillator-writes, io-writes, timing-writes, offset-reads, configure-writes, fifo-writes, off-writes, filter-writes}
+use Rattle.configure.proofs.Writes.{mode-writes, oscillator-writes, io-writes, timing-writes, offset-reads, configure-writes, fifo-writes, enable-writes, queue-writes, off-writes, filter-writes}
 
 pub laws : Laws
 laws = record {
@@ -12,6 +12,8 @@ laws = record {
   offsetReads = offset-reads;
   configureWrites = configure-writes;
   fifoWrites = fifo-writes;
+  enableWrites = enable-writes;
+  queueWrites = queue-writes;
   offWrites = off-writes;
   filterWrites = filter-writes;
 }

@@ -77,6 +77,7 @@ module _ (n : ℕ) (x : Change) (body : List ℕ) where
   all-own PlanKind.Oscillator = search either depth 9
   all-own PlanKind.Timing = search
   all-own PlanKind.Filter = search
+  all-own PlanKind.Queue = search
   all-own PlanKind.Configure = search either depth 20
 
 -- so the plan at its beginning has the items that it had
@@ -132,6 +133,7 @@ few PlanKind.Mode n x body = omega arith
 few PlanKind.Oscillator n x body = omega arith
 few PlanKind.Timing n x body = omega arith
 few PlanKind.Filter n x body = omega arith
+few PlanKind.Queue n x body = omega arith
 few PlanKind.Configure n x body = omega arith
 
 module _ (c : PlanNumbers) (body : List ℕ) where

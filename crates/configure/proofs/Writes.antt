@@ -23,6 +23,7 @@ use Rattle.bit_timing.specs.Signed.{numberOf}
 use Rattle.bit_timing.proofs.Twos.{seven-lt, number-seven}
 use Rattle.interrupt.specs.Interrupt.{CiINT}
 use Rattle.fifo.specs.Control.{CiFIFOCON}
+use Rattle.fifo.specs.TxQueueControl.{CiTXQCON}
 use Rattle.filter.specs.Control.{CiFLTCON}
 use Rattle.filter.specs.Object.{CiFLTOBJ, SID, EID, EXIDE}
 use Rattle.filter.specs.Mask.{CiMASK}
@@ -32,10 +33,10 @@ use Rattle.plan.specs.Change.{modified, changeOf}
 use Rattle.plan.proofs.Changes.{change-sets}
 use Rattle.areas.specs.declared.settings.FifoMode.{FifoMode}
 use Rattle.changes.specs.Changes.{delayChange, modeSettings, oscillatorSettings, ioSettings, nominalSettings, dataSettings, delaySettings, stefSettings, txqenSettings, counterSettings, dncntSettings, rtxatSettings, asked, interruptSettings}
-use Rattle.areas.specs.Areas.{directionSettings, directionFits, fifoSettings, offSettings, objectSettings, maskSettings, onSettings}
-use Rattle.configure.specs.Laws.{Writes, ModeWrites, OscillatorWrites, IoWrites, TimingWrites, OffsetReads, ConfigureWrites, FifoWrites, OffWrites, FilterWrites}
+use Rattle.areas.specs.Areas.{directionSettings, directionFits, fifoSettings, enableSettings, queueSettings, offSettings, objectSettings, maskSettings, onSettings}
+use Rattle.configure.specs.Laws.{Writes, ModeWrites, OscillatorWrites, IoWrites, TimingWrites, OffsetReads, ConfigureWrites, FifoWrites, EnableWrites, QueueWrites, OffWrites, FilterWrites}
 use Rattle.changes.proofs.Tests.{fits-told, timing-told}
-use Rattle.areas.proofs.Tests.{transmit-told, fifo-told, filter-told}
+use Rattle.areas.proofs.Tests.{transmit-told, fifo-told, queue-told, filter-told}
 
 -- settings that fit their fields are written
 writes : (address : ℕ) (ss : List Setting) → AllFit ss → Writes (changeOf address ss) ss
@@ -112,6 +113,12 @@ configure-writes s e =
 
 pub fifo-writes : FifoWrites
 fifo-writes n c e = let h = fifo-told c e in writes (CiFIFOCON .address n) (fifoSettings c) (search fitting)
+
+pub enable-writes : EnableWrites
+enable-writes on = writes (CiCON .address 0) (enableSettings on) (search fitting)
+
+pub queue-writes : QueueWrites
+queue-writes c e = let h = queue-told c e in writes (CiTXQCON .address 0) (queueSettings c) (search fitting depth 9)
 
 pub off-writes : OffWrites
 off-writes f = writes (CiFLTCON .address (f / 4)) (offSettings f) (search fitting)

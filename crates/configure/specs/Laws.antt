@@ -2,7 +2,7 @@
 -- Assumes nothing.
 use Prim.Native.Nat.{ℕ, _^_, _<_}
 use mathlib.Core.Path.{_≡_}
-use mathlib.Core.Bool.{true}
+use mathlib.Core.Bool.{Bool, true}
 use mathlib.Core.List.{List}
 use Rattle.field.specs.Field.{read}
 use Rattle.field.specs.Settings.{Setting, settings, AllFit}
@@ -17,9 +17,10 @@ use Rattle.changes.specs.declared.settings.IoConfiguration.{IoConfiguration}
 use Rattle.changes.specs.declared.settings.BitTimeConfiguration.{BitTimeConfiguration}
 use Rattle.changes.specs.declared.settings.Settings.{Settings}
 use Rattle.areas.specs.declared.settings.FifoConfiguration.{FifoConfiguration}
+use Rattle.areas.specs.declared.settings.TxQueueConfiguration.{TxQueueConfiguration}
 use Rattle.areas.specs.declared.settings.FilterConfiguration.{FilterConfiguration}
 use Rattle.changes.specs.Changes.{fits, modeChange, modeSettings, oscillatorChange, oscillatorSettings, ioChange, ioSettings, timingFits, nominalChange, nominalSettings, dataChange, dataSettings, delayChange, delaySettings, stefChange, stefSettings, txqenChange, txqenSettings, counterChange, counterSettings, dncntChange, dncntSettings, rtxatChange, rtxatSettings, interruptChange, interruptSettings}
-use Rattle.areas.specs.Areas.{fifoFits, fifoChange, fifoSettings, offChange, offSettings, objectChange, objectSettings, maskChange, maskSettings, onChange, onSettings, filterCheck}
+use Rattle.areas.specs.Areas.{fifoFits, fifoChange, fifoSettings, enableChange, enableSettings, queueFits, queueChange, queueSettings, offChange, offSettings, objectChange, objectSettings, maskChange, maskSettings, onChange, onSettings, filterCheck}
 
 -- no value is wider than its field, and for every word read the change writes what these settings make of it
 abbrev pub Writes : Change → List Setting → Type 0
@@ -63,6 +64,12 @@ ConfigureWrites =
 abbrev pub FifoWrites : Type 0
 FifoWrites = (n : ℕ) (c : FifoConfiguration) → fifoFits c ≡ true → Writes (fifoChange n c) (fifoSettings c)
 
+abbrev pub EnableWrites : Type 0
+EnableWrites = (on : Bool) → Writes (enableChange on) (enableSettings on)
+
+abbrev pub QueueWrites : Type 0
+QueueWrites = (c : TxQueueConfiguration) → queueFits c ≡ true → Writes (queueChange c) (queueSettings c)
+
 abbrev pub OffWrites : Type 0
 OffWrites = (f : ℕ) → Writes (offChange f) (offSettings f)
 
@@ -83,5 +90,7 @@ pub record Laws : Type 0 where
   pub offsetReads : OffsetReads
   pub configureWrites : ConfigureWrites
   pub fifoWrites : FifoWrites
+  pub enableWrites : EnableWrites
+  pub queueWrites : QueueWrites
   pub offWrites : OffWrites
   pub filterWrites : FilterWrites

@@ -11,6 +11,7 @@ use lib.Dec.{ltb}
 use borrow.Author.Tests.{ltb-true}
 use Rattle.laws.proofs.Choice.{by-if}
 use Rattle.field.specs.Field.{flag}
+use Rattle.configuration.specs.CanControl.{TXQEN}
 use Rattle.fifo.specs.Control.{TXEN, RXTSEN, payloadOf}
 use Rattle.fifo.specs.Status.{TFNRFNIF}
 use Rattle.words.specs.Words.{roundUp}
@@ -110,43 +111,63 @@ module _ (n : ℕ) where
   abbrev Pushes : ℕ → PushAt → Type 0
   Pushes = Falls (λ at. pushLeft at n)
 
-  push-falls : (size len : ℕ) (at : PushAt) (a : Answer) (rx : List ℕ) → Pushes (pushLeft at n) (push.nextAt size len at a rx)
-  unfolding push.afterControl push.afterStatus push.afterAddress
-  push-falls size len PushAt.Control a rx =
-      let P = Pushes (pushLeft PushAt.Control n) in
-      by-word P (λ r. omega arith) (wordReply Refusal.SpiRead a rx)
-      (λ w. by-if P (flag TXEN w) (λ e. by-if P (ltb (payloadOf w) size) (λ d. omega arith) (λ d. omega arith)) (λ e. omega arith))
-  push-falls size len (PushAt.Status w) a rx =
-      let P = Pushes (pushLeft (PushAt.Status w) n) in
-      by-word P (λ r. omega arith) (wordReply Refusal.SpiRead a rx) (λ v. by-if P (flag TFNRFNIF v) (λ e. omega arith) (λ e. omega arith))
-  push-falls size len (PushAt.Address w) a rx =
-      let P = Pushes (pushLeft (PushAt.Address w) n) in
-      by-word P (λ r. omega arith) (wordReply Refusal.SpiRead a rx)
-      (λ u. by-if P (ltb 0xFBFF u) (λ e. omega arith) (λ e. by-if P (inRange _ len) (λ d. omega arith) (λ d. omega arith)))
-  push-falls size len (PushAt.Write w m) a rx =
-      by-done (Pushes (pushLeft (PushAt.Write w m) n)) (λ r. omega arith) (doneReply Refusal.SpiWrite a (length rx) 0) (omega arith)
-  push-falls size len (PushAt.Commit w) a rx =
-      by-done (Pushes (pushLeft (PushAt.Commit w) n)) (λ r. omega arith) (doneReply Refusal.SpiRead a (length rx) 0) (omega arith)
-  push-falls size len PushAt.Done a rx = omega arith
-  push-falls size len (PushAt.Refused r) a rx = omega arith
+  -- where a word is read, by what is told of every word
+  module _ (m : ℕ) (a : Answer) (rx : List ℕ) where
+    to-word : (k : ℕ → PushAt) → ((w : ℕ) → Pushes m (k w)) → Pushes m (onWord PushAt.Refused (wordReply Refusal.SpiRead a rx) k)
+    to-word k h = by-word (Pushes m) (λ r. omega arith) (wordReply Refusal.SpiRead a rx) h
+
+    to-ram : (len : ℕ) (to : ℕ → PushAt) → ((x : ℕ) → Pushes m (to x)) → Pushes m (onWord PushAt.Refused (wordReply Refusal.SpiRead a rx) (push.afterAddress len to))
+    unfolding push.afterAddress
+    to-ram len to h =
+        to-word _ (λ u. by-if (Pushes m) (ltb 0xFBFF u) (λ e. omega arith) (λ e. by-if (Pushes m) (inRange (u + 0x400) len) (λ d. h (u + 0x400)) (λ d. omega arith)))
+
+    to-done : (failed : Refusal) (at : PushAt) → Pushes m at → Pushes m (onDone PushAt.Refused (doneReply failed a (length rx) 0) at)
+    to-done failed at h = by-done (Pushes m) (λ r. omega arith) (doneReply failed a (length rx) 0) h
+
+  push-falls : (fifo size len : ℕ) (at : PushAt) (a : Answer) (rx : List ℕ) → Pushes (pushLeft at n) (push.nextAt fifo size len at a rx)
+  unfolding push.afterEnabled push.afterControl push.afterStatus
+  push-falls fifo size len PushAt.Enabled a rx =
+      let m = pushLeft PushAt.Enabled n in to-word m a rx _ (λ w. by-if (Pushes m) (flag TXQEN w) (λ e. omega arith) (λ e. omega arith))
+  push-falls fifo size len PushAt.Control a rx =
+      let m = pushLeft PushAt.Control n in
+      to-word m a rx _
+      (λ w. by-if (Pushes m) (push.sends fifo w) (λ e. by-if (Pushes m) (ltb (payloadOf w) size) (λ d. omega arith) (λ d. omega arith)) (λ e. omega arith))
+  push-falls fifo size len (PushAt.Status w) a rx =
+      let m = pushLeft (PushAt.Status w) n in to-word m a rx _ (λ v. by-if (Pushes m) (flag TFNRFNIF v) (λ e. omega arith) (λ e. omega arith))
+  push-falls fifo size len (PushAt.Address w) a rx = to-ram (pushLeft (PushAt.Address w) n) a rx len (PushAt.Write w) (λ x. omega arith)
+  push-falls fifo size len (PushAt.Write w m) a rx = to-done (pushLeft (PushAt.Write w m) n) a rx Refusal.SpiWrite (PushAt.Commit w) (omega arith)
+  push-falls fifo size len (PushAt.Commit w) a rx = to-done (pushLeft (PushAt.Commit w) n) a rx Refusal.SpiRead PushAt.Done (omega arith)
+  push-falls fifo size len PushAt.BareAddress a rx = to-ram (pushLeft PushAt.BareAddress n) a rx len PushAt.BareWrite (λ x. omega arith)
+  push-falls fifo size len (PushAt.BareWrite m) a rx = to-done (pushLeft (PushAt.BareWrite m) n) a rx Refusal.SpiWrite PushAt.BareControl (omega arith)
+  push-falls fifo size len PushAt.BareControl a rx = to-word (pushLeft PushAt.BareControl n) a rx PushAt.Commit (λ w. omega arith)
+  push-falls fifo size len PushAt.Done a rx = omega arith
+  push-falls fifo size len (PushAt.Refused r) a rx = omega arith
 
   -- where nothing stands behind a push that is done
   push-over : (fifo len : ℕ) (at : PushAt) → (push.doneAt at ≡ true → n ≡ 0) → (pushLeft at n ≡ 0) ↔ (push.askAt fifo len at ≡ Ask.Nothing)
+  push-over fifo len PushAt.Enabled h = still-asks (omega arith) refl
   push-over fifo len PushAt.Control h = still-asks (omega arith) refl
   push-over fifo len (PushAt.Status w) h = still-asks (omega arith) refl
   push-over fifo len (PushAt.Address w) h = still-asks (omega arith) refl
   push-over fifo len (PushAt.Write w m) h = still-asks (omega arith) refl
   push-over fifo len (PushAt.Commit w) h = still-asks (omega arith) refl
+  push-over fifo len PushAt.BareAddress h = still-asks (omega arith) refl
+  push-over fifo len (PushAt.BareWrite m) h = still-asks (omega arith) refl
+  push-over fifo len PushAt.BareControl h = still-asks (omega arith) refl
   push-over fifo len PushAt.Done h = (λ e. refl, λ e. h refl)
   push-over fifo len (PushAt.Refused r) h = (λ e. refl, λ e. refl)
 
   -- a push that is done leaves what is behind it
   pushed : (at : PushAt) → push.doneAt at ≡ true → pushLeft at n ≡ n
+  pushed PushAt.Enabled e = absurd (false≢true e)
   pushed PushAt.Control e = absurd (false≢true e)
   pushed (PushAt.Status w) e = absurd (false≢true e)
   pushed (PushAt.Address w) e = absurd (false≢true e)
   pushed (PushAt.Write w m) e = absurd (false≢true e)
   pushed (PushAt.Commit w) e = absurd (false≢true e)
+  pushed PushAt.BareAddress e = absurd (false≢true e)
+  pushed (PushAt.BareWrite m) e = absurd (false≢true e)
+  pushed PushAt.BareControl e = absurd (false≢true e)
   pushed PushAt.Done e = refl
   pushed (PushAt.Refused r) e = absurd (false≢true e)
 
@@ -160,7 +181,7 @@ transmit-falls t a rx =
     (λ e.
     omega
     (arith, pushed (planLeft (t .request)) (t .push .at) e, pushed (planLeft (plan.stepOf (t .request) a rx)) (t .push .at) e, plan-falls (t .request) a rx))
-    (λ e. push-falls _ (t .push .size) (t .push .object .len) (t .push .at) a rx)
+    (λ e. push-falls _ (t .push .fifo) (t .push .size) (t .push .object .len) (t .push .at) a rx)
 
 transmit-over : (t : Transmit) → (transmitLeft t ≡ 0) ↔ (transmitAsk t ≡ Ask.Nothing)
 unfolding transmitAsk push.askOf
@@ -262,7 +283,7 @@ unfolding push.stepOf fetch.stepOf scrub.stepOf
 falls-at (CallAt.Register r) call a rx = register-falls r a rx
 falls-at (CallAt.Ram r) call a rx = ram-falls r a rx
 falls-at CallAt.Plan call a rx = plan-falls (call .plan) a rx
-falls-at CallAt.Push call a rx = push-falls 0 (call .push .size) (call .push .object .len) (call .push .at) a rx
+falls-at CallAt.Push call a rx = push-falls 0 (call .push .fifo) (call .push .size) (call .push .object .len) (call .push .at) a rx
 falls-at CallAt.Transmit call a rx = transmit-falls (transmitOf call) a rx
 falls-at CallAt.Fetch call a rx = fetch-falls (call .fetch .want) a rx (call .fetch .at)
 falls-at (CallAt.Scrub x) call a rx = scrub-falls (x .at) x a rx

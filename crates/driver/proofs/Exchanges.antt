@@ -13,7 +13,7 @@ use Rattle.laws.proofs.Choice.{by-if}
 use Rattle.laws.proofs.Table.{both}
 use Rattle.field.specs.Field.{place, read, flag}
 use Rattle.field.specs.Settings.{Setting, _:=_}
-use Rattle.configuration.specs.CanControl.{REQOP, DNCNT}
+use Rattle.configuration.specs.CanControl.{CiCON, REQOP, TXQEN, DNCNT}
 use Rattle.interrupt.specs.Interrupt.{CiINT}
 use Rattle.fifo.specs.Control.{CiFIFOCON, TXEN, RXTSEN, payloadOf, isFifo}
 use Rattle.fifo.specs.Status.{CiFIFOSTA, TFNRFNIF}
@@ -31,7 +31,7 @@ use Rattle.spi.specs.Ask.{headOf, bodyOf, wanted, sent}
 use Rattle.spi.specs.Instruction.{commandOf}
 use Rattle.spi.specs.Ram.{inRange, accessOf}
 use Rattle.spi.specs.Reply.{doneReply, crcReply}
-use Rattle.spi.specs.Talk.{Talk, done, refused, onDone, asks, answered, run, readWord, writeWord, pause}
+use Rattle.spi.specs.Talk.{Talk, done, refused, onDone, asks, answered, run, readWord, writeWord, writeBody, pause}
 use Rattle.spi.proofs.Talks.{by-done, by-checked}
 use Rattle.call.specs.declared.Found.{Found}
 use Rattle.call.specs.declared.Outcome.{Outcome}
@@ -49,12 +49,13 @@ use Rattle.plan.specs.Talk.{pollTalk, echoRest, itemTalk, planTalk}
 use Rattle.changes.specs.declared.settings.Settings.{Settings}
 use Rattle.changes.specs.Changes.{fits, timingFits, counterChange, dncntChange, interruptSettings}
 use Rattle.areas.specs.declared.settings.FilterConfiguration.{FilterConfiguration}
-use Rattle.areas.specs.Areas.{fifoFits, fifoSettings, isIdentifier, isFilter, filterCheck}
-use Rattle.adjust.specs.Calls.{filterItems, setOpMode, configureBitTiming, configureFifo, disableFilter, configureFilter}
+use Rattle.areas.specs.declared.settings.TxQueueSetting.{TxQueueSetting}
+use Rattle.areas.specs.Areas.{fifoFits, fifoSettings, queueFits, isIdentifier, isFilter, filterCheck}
+use Rattle.adjust.specs.Calls.{filterItems, setOpMode, configureBitTiming, configureFifo, configureTxQueue, disableFilter, configureFilter}
 use Rattle.configure.specs.Whole.{configureItems, configureAll}
-use Rattle.tx_fifo.specs.Step.{toSend}
+use Rattle.tx_fifo.specs.Step.{toSend, sends}
 use Rattle.tx_fifo.specs.Talk as push-talks
-use Rattle.transmit.specs.Transmit.{requestCall, transmitCall}
+use Rattle.transmit.specs.Transmit.{requestCall, queueRequestCall, transmitCall}
 use Rattle.fetch.specs.declared.Want.{Want}
 use Rattle.fetch.specs.Step.{foundBy, stamped}
 use Rattle.rx_fifo.specs.Outcome.{messageOf}
@@ -66,7 +67,7 @@ use Rattle.scrub.specs.Step.{agrees}
 use Rattle.scrub.specs.Talk.{checkedBy, rewriteTalk, seenTalk, visitTalk, scrubCall}
 use Rattle.driver.specs.Step.{askOf, stepOf}
 use Rattle.driver.specs.Talk.{told}
-use Rattle.driver.specs.Calls.{Plans, Modify, Verify, SetOpMode, Osc, Io, BitTiming, Fifo, Filter, FilterOff, Configure, Start, Reset, OpMode, VerifyLong, Read, Checked, Write, ReadRam, WriteRam, Planned, Push, Transmit, Request, HasNext, Peek, Get, Scrub, prepared, started, wholeTalk}
+use Rattle.driver.specs.Calls.{Plans, Modify, Verify, SetOpMode, Osc, Io, BitTiming, Fifo, Queue, Filter, FilterOff, Configure, Start, Reset, OpMode, VerifyLong, Read, Checked, Write, ReadRam, WriteRam, Planned, Push, Transmit, Request, QueuePush, QueueUnchecked, QueueRequest, HasNext, Peek, Get, Scrub, prepared, started, wholeTalk}
 use Rattle.driver.specs.Demand1.{Narrow, Below, AddressesBelow, Fits, most, ExchangesFit, isRam, RoomEnough}
 use Rattle.driver.proofs.Runs.{follows, run-talk}
 use Rattle.driver.proofs.Starts.{starts-as-talk}
@@ -78,19 +79,19 @@ ram-below : (a n : ℕ) → inRange a n ≡ true → Narrow a
 unfolding inRange
 ram-below a n e = let (low, high) = both (leb 0x400 a) (leb (a + n) 0xC00) e in omega (arith, leb-true (a + n) 0xC00 high)
 
-module _ (n : ℕ) (f : isFifo n ≡ true) where
-  fifo-most : n ≤ 31
-  unfolding isFifo
-  fifo-most = leb-true n 31 (both (leb 1 n) (leb n 31) f .1)
+fifo-most : (n : ℕ) → isFifo n ≡ true → n ≤ 31
+unfolding isFifo
+fifo-most n f = leb-true n 31 (both (leb 1 n) (leb n 31) f .1)
 
+module _ (n : ℕ) (l : n ≤ 31) where
   control-below : Narrow (CiFIFOCON .address n)
-  control-below = omega (arith, fifo-most)
+  control-below = omega arith
 
   status-below : Narrow (CiFIFOSTA .address n)
-  status-below = omega (arith, fifo-most)
+  status-below = omega arith
 
   user-below : Narrow (CiFIFOUA .address n)
-  user-below = omega (arith, fifo-most)
+  user-below = omega arith
 
 abbrev ItemBelow : Item → Type 0
 ItemBelow (Item.Change c) = Narrow (c .address)
@@ -173,10 +174,14 @@ module _ (P : Ask → Type 0) (may-read : MayRead P) (may-write : MayWrite P) wh
   request-always : (n : ℕ) → Always P (requestCall n)
   unfolding requestCall
   request-always n =
-      choice P (isFifo n) _ _ (λ f. changed Refusal.SpiRead (CiFIFOCON .address n) _ _ (control-below n f) tt) (λ f. tt)
+      choice P (isFifo n) _ _ (λ f. changed Refusal.SpiRead (CiFIFOCON .address n) _ _ (control-below n (fifo-most n f)) tt) (λ f. tt)
+
+  queue-request-always : Always P queueRequestCall
+  unfolding queueRequestCall
+  queue-request-always = changed Refusal.SpiRead (CiFIFOCON .address 0) _ _ (control-below 0 (omega arith)) tt
 
   next-always : (n : ℕ) → isFifo n ≡ true → (m : Message) → Always P (fetch-talks.nextTalk n m)
-  next-always n f m = changed Refusal.SpiRead (CiFIFOCON .address n) _ (done (fetch-talks.message m)) (control-below n f) tt
+  next-always n f m = changed Refusal.SpiRead (CiFIFOCON .address n) _ (done (fetch-talks.message m)) (control-below n (fifo-most n f)) tt
 
 -- ---- plans
 
@@ -227,7 +232,7 @@ module _ (P : Ask → Type 0) (may-read : MayRead P) (may-write : MayWrite P) (m
       p = ready Refusal.SpiRead (filterItems f c)
 
   plan-always : (x : Plans) → Always P (talkFor (prepared x))
-  unfolding modify setOpMode configureBitTiming configureFifo disableFilter configureAll
+  unfolding modify setOpMode configureBitTiming configureFifo configureTxQueue disableFilter configureAll
   plan-always (Modify address clear set) =
       tested (ltb address (2 ^ 12)) (ready _ _) _ (λ e. items-always Refusal.SpiRead _ (ltb-true address (2 ^ 12) e, tt))
   plan-always Verify = items-always _ _ (tt, tt)
@@ -238,7 +243,9 @@ module _ (P : Ask → Type 0) (may-read : MayRead P) (may-write : MayWrite P) (m
   plan-always (Fifo n c) =
       by-if (λ q. Always P (talkFor q)) (not (isFifo n)) (λ e. tt)
       (λ e. by-if (λ q. Always P (talkFor q)) (not (fifoFits c)) (λ d. tt)
-      (λ d. items-always _ _ (change-below (CiFIFOCON .address n) (fifoSettings c) (control-below n (not-false _ e)), tt)))
+      (λ d. items-always _ _ (change-below (CiFIFOCON .address n) (fifoSettings c) (control-below n (fifo-most n (not-false _ e))), tt)))
+  plan-always (Queue TxQueueSetting.Off) = items-always _ _ (omega arith, tt)
+  plan-always (Queue (TxQueueSetting.On c)) = tested (queueFits c) (ready _ _) _ (λ e. items-always _ _ (omega arith & omega arith & tt))
   plan-always (Filter f c) = filter-always f c
   plan-always (FilterOff f) = tested (isFilter f) (ready _ _) _ (λ e. let l : f < 32 = ltb-true f 32 e in items-always _ _ (omega arith, tt))
   plan-always (Configure s) =
@@ -249,31 +256,59 @@ module _ (P : Ask → Type 0) (may-read : MayRead P) (may-write : MayWrite P) (m
 
 module _ (P : Ask → Type 0) (may-read : MayRead P) (may-write : MayWrite P)
     (may-send : (a len : ℕ) → Narrow a → len ≤ 72 → P (Ask.Body a len)) where
-  module _ (n : ℕ) (f : isFifo n ≡ true) where
-    to-write : (len w : ℕ) → len ≤ 72 → Always P (push-talks.addressTalk n len w)
-    to-write len w l =
-        reads P Refusal.SpiRead (CiFIFOUA .address n) _ (may-read _ (user-below n f))
+  module _ (n : ℕ) (few : n ≤ 31) where
+    -- what comes behind the user address, by the RAM address
+    ram-always : (len : ℕ) (k : ℕ → Talk Outcome) → ((a : ℕ) → Narrow a → Always P (k a)) → Always P (push-talks.ramTalk n len k)
+    ram-always len k h =
+        reads P Refusal.SpiRead (CiFIFOUA .address n) _ (may-read _ (user-below n few))
         (λ u. choice P (ltb 0xFBFF u) _ _ (λ e. tt)
-        (λ e. choice P (not (inRange (u + 0x400) len)) _ _ (λ i. tt)
-        (λ i. puts P Refusal.SpiWrite (Ask.Body (u + 0x400) len) _ (may-send (u + 0x400) len (ram-below (u + 0x400) len (not-false _ i)) l)
-        (word-written P may-read may-write Refusal.SpiRead (CiFIFOCON .address n) _ _ (control-below n f) tt))))
+        (λ e. choice P (not (inRange (u + 0x400) len)) _ _ (λ i. tt) (λ i. h (u + 0x400) (ram-below (u + 0x400) len (not-false _ i)))))
 
-    push-always : (size len : ℕ) → len ≤ 72 → Always P (push-talks.pushTalk n size len)
-    push-always size len l =
-        reads P Refusal.SpiRead (CiFIFOCON .address n) _ (may-read _ (control-below n f))
-        (λ w. choice P (not (flag TXEN w)) _ _ (λ e. tt)
-        (λ e. choice P (ltb (payloadOf w) size) _ _ (λ i. tt)
-        (λ i. reads P Refusal.SpiRead (CiFIFOSTA .address n) _ (may-read _ (status-below n f)) (λ v. choice P (not (flag TFNRFNIF v)) _ _ (λ j. tt) (λ j. to-write len w l)))))
+    commit-always : (w : ℕ) → Always P (push-talks.commitTalk n w)
+    commit-always w = word-written P may-read may-write Refusal.SpiRead (CiFIFOCON .address n) _ _ (control-below n few) tt
 
-    encoded-always : (size : ℕ) (e : Encoding) → ((bs : List ℕ) → e ≡ Encoding.object bs → length bs ≤ 72) → Always P (push-talks.withEncoding n size e)
-    encoded-always size (Encoding.refused r) l = tt
-    encoded-always size (Encoding.object bs) l = push-always size (length bs) (l bs refl)
+    module _ (len : ℕ) (l : len ≤ 72) where
+      write-always : (k : Talk Outcome) (a : ℕ) → Narrow a → Always P k → Always P (writeBody Refusal.SpiWrite a len k)
+      write-always k a s h = puts P Refusal.SpiWrite (Ask.Body a len) k (may-send a len s l) h
 
-  pushed-always : (n : ℕ) (header : Header) (seq : ℕ) (payload : List ℕ) → Always P (push-talks.pushCall n header seq payload)
-  unfolding push-talks.pushCall
-  pushed-always n header seq payload =
-      choice P (not (isFifo n)) _ _ (λ f. tt)
-      (λ f. encoded-always n (not-false _ f) (length payload) (encoding (toSend header seq payload)) (λ bs e. omega (arith, object-le (toSend header seq payload) bs e)))
+      push-always : (size : ℕ) → Always P (push-talks.pushTalk n size len)
+      push-always size =
+          reads P Refusal.SpiRead (CiFIFOCON .address n) _ (may-read _ (control-below n few))
+          (λ w. choice P (not (sends n w)) _ _ (λ e. tt)
+          (λ e. choice P (ltb (payloadOf w) size) _ _ (λ i. tt)
+          (λ i. reads P Refusal.SpiRead (CiFIFOSTA .address n) _ (may-read _ (status-below n few))
+          (λ v. choice P (not (flag TFNRFNIF v)) _ _ (λ j. tt) (λ j. ram-always len _ (λ a s. write-always _ a s (commit-always w)))))))
+
+      enabled-always : (size : ℕ) → Always P (push-talks.enabledTalk n size len)
+      enabled-always size =
+          reads P Refusal.SpiRead (CiCON .address 0) _ (may-read _ (omega arith)) (λ w. choice P (not (flag TXQEN w)) _ _ (λ e. tt) (λ e. push-always size))
+
+      bare-always : Always P (push-talks.bareTalk n len)
+      bare-always =
+          ram-always len _ (λ a s. write-always _ a s (reads P Refusal.SpiRead (CiFIFOCON .address n) _ (may-read _ (control-below n few)) commit-always))
+
+  -- an object has at most 72 bytes
+  encoded-always : (k : ℕ → Talk Outcome) (m : Message) → ((len : ℕ) → len ≤ 72 → Always P (k len)) → Always P (push-talks.withEncoding k (encoding m))
+  encoded-always k m h = go (encoding m) (λ bs e. omega (arith, object-le m bs e))
+    where
+      go : (e : Encoding) → ((bs : List ℕ) → e ≡ Encoding.object bs → length bs ≤ 72) → Always P (push-talks.withEncoding k e)
+      go (Encoding.refused r) l = tt
+      go (Encoding.object bs) l = h (length bs) (l bs refl)
+
+  module _ (header : Header) (seq : ℕ) (payload : List ℕ) where
+    pushed-always : (n : ℕ) → Always P (push-talks.pushCall n header seq payload)
+    unfolding push-talks.pushCall
+    pushed-always n =
+        choice P (not (isFifo n)) _ _ (λ f. tt)
+        (λ f. encoded-always _ (toSend header seq payload) (λ len l. push-always n (fifo-most n (not-false _ f)) len l (length payload)))
+
+    queue-always : Always P (push-talks.queuePushCall header seq payload)
+    unfolding push-talks.queuePushCall
+    queue-always = encoded-always _ (toSend header seq payload) (λ len l. enabled-always 0 (omega arith) len l (length payload))
+
+    unchecked-always : Always P (push-talks.queueUncheckedCall header seq payload)
+    unfolding push-talks.queueUncheckedCall
+    unchecked-always = encoded-always _ (toSend header seq payload) (λ len l. bare-always 0 (omega arith) len l)
 
 -- ---- has-next, peek and get
 
@@ -281,7 +316,7 @@ told-always : (P : Ask → Type 0) (t : Talk fetch-talks.Fetched) → Always P t
 told-always P t h = then-always P t _ h (λ x. tt)
 
 module _ (P : Ask → Type 0) (may-read : MayRead P) where
-  module _ (n : ℕ) (f : isFifo n ≡ true) where
+  module _ (n : ℕ) (f : n ≤ 31) where
     control-always : (want : Want) → ((b : Bool) → Always P (fetch-talks.heldTalk want n b)) → Always P (fetch-talks.controlTalk want n)
     control-always want h =
         reads P Refusal.SpiRead (CiFIFOCON .address n) _ (may-read _ (control-below n f))
@@ -328,7 +363,7 @@ lent-always P may-get want n room e last =
     let may-read : MayRead P = λ a l. may-get a 4 l (omega arith) in
     told-always P _
     (choice P (isFifo n) _ _
-    (λ f. choice P (ltb room 64) _ _ (λ d. tt) (λ d. control-always P may-read n f want (λ b. rw e (or-none P may-read n f may-get want (last f) b))))
+    (λ f. choice P (ltb room 64) _ _ (λ d. tt) (λ d. control-always P may-read n (fifo-most n f) want (λ b. rw e (or-none P may-read n (fifo-most n f) may-get want (last f) b))))
     (λ f. tt))
 
 -- ---- scrub
@@ -393,8 +428,25 @@ module _ (m : ℕ × ℕ) where
 requested : (m : ℕ × ℕ) → 4 ≤ m .0 → 6 ≤ m .1 → (n : ℕ) → Always (Small m) (requestCall n)
 requested m h k = request-always (Small m) (read-small m 4 h (omega arith)) (word-small m k)
 
-pushed : (m : ℕ × ℕ) → 4 ≤ m .0 → 74 ≤ m .1 → (n : ℕ) (header : Header) (seq : ℕ) (payload : List ℕ) → Always (Small m) (push-talks.pushCall n header seq payload)
-pushed m h k = pushed-always (Small m) (read-small m 4 h (omega arith)) (word-small m (omega arith)) (λ a len l d. body-small m len (omega arith) a l)
+-- what a push may ask for, where there is room for its object
+module _ (m : ℕ × ℕ) (h : 4 ≤ m .0) (k : 74 ≤ m .1) where
+  word-read : MayRead (Small m)
+  word-read = read-small m 4 h (omega arith)
+
+  word-sent : MayWrite (Small m)
+  word-sent = word-small m (omega arith)
+
+  object-sent : (a len : ℕ) → Narrow a → len ≤ 72 → Small m (Ask.Body a len)
+  object-sent a len l d = body-small m len (omega arith) a l
+
+  pushed : (header : Header) (seq : ℕ) (payload : List ℕ) (n : ℕ) → Always (Small m) (push-talks.pushCall n header seq payload)
+  pushed = pushed-always (Small m) word-read word-sent object-sent
+
+  queue-pushed : (header : Header) (seq : ℕ) (payload : List ℕ) → Always (Small m) (push-talks.queuePushCall header seq payload)
+  queue-pushed = queue-always (Small m) word-read word-sent object-sent
+
+  queue-unchecked : (header : Header) (seq : ℕ) (payload : List ℕ) → Always (Small m) (push-talks.queueUncheckedCall header seq payload)
+  queue-unchecked = unchecked-always (Small m) word-read word-sent object-sent
 
 whole-always : (x : Start) → Always (Small (most x)) (wholeTalk x)
 unfolding readCall checkedCall writeCall readRamTalk writeRamTalk verifyLongTalk transmitCall fetch-talks.hasNextTalk scrubCall
@@ -427,15 +479,19 @@ whole-always (WriteRam address count) =
 whole-always (Planned x) =
     let m = most (Planned x) in
     plan-always (Small m) (read-small m 4 (omega arith) (omega arith)) (word-small m (omega arith)) (small m Ask.Wait tt (omega arith) (omega arith)) x
-whole-always (Push n header seq payload) = pushed (most (Push n header seq payload)) (omega arith) (omega arith) n header seq payload
+whole-always (Push n header seq payload) = pushed (most (Push n header seq payload)) (omega arith) (omega arith) header seq payload n
 whole-always (Transmit n header seq payload) =
     let m = most (Transmit n header seq payload) in
-    then-always (Small m) _ _ (pushed m (omega arith) (omega arith) n header seq payload) (λ x. requested m (omega arith) (omega arith) n)
+    then-always (Small m) _ _ (pushed m (omega arith) (omega arith) header seq payload n) (λ x. requested m (omega arith) (omega arith) n)
 whole-always (Request n) = requested (most (Request n)) (omega arith) (omega arith) n
+whole-always (QueuePush header seq payload) = queue-pushed (most (QueuePush header seq payload)) (omega arith) (omega arith) header seq payload
+whole-always (QueueUnchecked header seq payload) = queue-unchecked (most (QueueUnchecked header seq payload)) (omega arith) (omega arith) header seq payload
+whole-always QueueRequest =
+    let m = most QueueRequest in queue-request-always (Small m) (read-small m 4 (omega arith) (omega arith)) (word-small m (omega arith))
 whole-always (HasNext n) =
     let m = most (HasNext n) in
     told-always (Small m) _
-    (choice (Small m) (isFifo n) _ _ (λ f. control-always (Small m) (read-small m 4 (omega arith) (omega arith)) n f Want.HasNext (λ b. tt)) (λ f. tt))
+    (choice (Small m) (isFifo n) _ _ (λ f. control-always (Small m) (read-small m 4 (omega arith) (omega arith)) n (fifo-most n f) Want.HasNext (λ b. tt)) (λ f. tt))
 whole-always (Peek n room) =
     let m = most (Peek n room) in
     lent-always (Small m) (λ a count l h. read-small m count (omega arith) (omega arith) a l) Want.Peek n room (λ b. refl) (λ f x. tt)
@@ -477,6 +533,9 @@ most-le (Planned x) e = (omega arith, omega arith)
 most-le (Push n header seq payload) e = (omega arith, omega arith)
 most-le (Transmit n header seq payload) e = (omega arith, omega arith)
 most-le (Request n) e = (omega arith, omega arith)
+most-le (QueuePush header seq payload) e = (omega arith, omega arith)
+most-le (QueueUnchecked header seq payload) e = (omega arith, omega arith)
+most-le QueueRequest e = (omega arith, omega arith)
 most-le (HasNext n) e = (omega arith, omega arith)
 most-le (Peek n room) e = (omega arith, omega arith)
 most-le (Get n room) e = (omega arith, omega arith)

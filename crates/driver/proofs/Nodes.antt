@@ -143,11 +143,15 @@ plan-stands failed PlanAt.Done k = refl
 plan-stands failed (PlanAt.Refused r) k = tt
 
 push-stands : (fifo size len : ℕ) (at : PushAt) → Stands Over (push-talks.talkAt fifo size len at)
+push-stands fifo size len PushAt.Enabled = by-word Refusal.SpiRead _
 push-stands fifo size len PushAt.Control = by-word Refusal.SpiRead _
 push-stands fifo size len (PushAt.Status w) = by-word Refusal.SpiRead _
 push-stands fifo size len (PushAt.Address w) = by-word Refusal.SpiRead _
 push-stands fifo size len (PushAt.Write w m) = by-done Refusal.SpiWrite 0 _
 push-stands fifo size len (PushAt.Commit w) = by-done Refusal.SpiRead 0 _
+push-stands fifo size len PushAt.BareAddress = by-word Refusal.SpiRead _
+push-stands fifo size len (PushAt.BareWrite m) = by-done Refusal.SpiWrite 0 _
+push-stands fifo size len PushAt.BareControl = by-word Refusal.SpiRead _
 push-stands fifo size len PushAt.Done = refl
 push-stands fifo size len (PushAt.Refused r) = tt
 

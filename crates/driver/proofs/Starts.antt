@@ -32,12 +32,14 @@ use Rattle.plan.specs.Prepared.{talkFor, modify}
 use Rattle.plan.specs.Talk.{planTalk}
 use Rattle.plan.proofs.Runs as plan
 use Rattle.changes.specs.Changes.{fits, timingFits}
-use Rattle.areas.specs.Areas.{fifoFits, isIdentifier, isFilter, filterCheck}
-use Rattle.adjust.specs.Calls.{setOpMode, configureBitTiming, configureFifo, disableFilter, configureFilter}
+use Rattle.areas.specs.declared.settings.TxQueueSetting.{TxQueueSetting}
+use Rattle.areas.specs.Areas.{fifoFits, queueFits, isIdentifier, isFilter, filterCheck}
+use Rattle.adjust.specs.Calls.{setOpMode, configureBitTiming, configureFifo, configureTxQueue, disableFilter, configureFilter}
 use Rattle.configure.specs.Whole.{configureAll}
-use Rattle.tx_fifo.specs.Talk.{pushCall}
+use Rattle.tx_fifo.specs.Step.{toSend}
+use Rattle.tx_fifo.specs.Talk.{pushTalk, withEncoding, pushCall, enabledTalk, queuePushCall, bareTalk, queueUncheckedCall}
 use Rattle.tx_fifo.proofs.Runs as push
-use Rattle.transmit.specs.Transmit.{requestCall, transmitCall}
+use Rattle.transmit.specs.Transmit.{requestCall, queueRequestCall, transmitCall}
 use Rattle.transmit.proofs.Transmits as transmit
 use Rattle.fetch.specs.declared.Want.{Want}
 use Rattle.rx_fifo.specs.Talk.{hasNextTalk, lentTalk}
@@ -46,7 +48,7 @@ use Rattle.watch.specs.Watch.{allCarried}
 use Rattle.scrub.specs.Talk.{checkedBy, scrubCall}
 use Rattle.scrub.proofs.Runs as scrub
 use Rattle.driver.specs.Talk.{told}
-use Rattle.driver.specs.Calls.{Plans, Modify, Verify, SetOpMode, Osc, Io, BitTiming, Fifo, Filter, FilterOff, Configure, Start, Reset, OpMode, VerifyLong, Read, Checked, Write, ReadRam, WriteRam, Planned, Push, Transmit, Request, HasNext, Peek, Get, Scrub, prepared, fifoNumber, started, wholeTalk, first, sendable, roomy, planTests, tests}
+use Rattle.driver.specs.Calls.{Plans, Modify, Verify, SetOpMode, Osc, Io, BitTiming, Fifo, Queue, Filter, FilterOff, Configure, Start, Reset, OpMode, VerifyLong, Read, Checked, Write, ReadRam, WriteRam, Planned, Push, Transmit, Request, QueuePush, QueueUnchecked, QueueRequest, HasNext, Peek, Get, Scrub, prepared, fifoNumber, started, wholeTalk, first, writable, sendable, roomy, planTests, tests}
 use Rattle.driver.specs.Demand1.{StartsAsTalk, RefusesFirst}
 use Rattle.driver.proofs.Runs.{outcome-talk, register-talk, ram-talk, plan-talk, push-talk, transmit-talk, fetch-talk, scrub-talk}
 
@@ -98,6 +100,9 @@ starts-as-talk (Planned x) = plan-talk _ ∙ plan.call-talk (prepared x)
 starts-as-talk (Push n header seq payload) = push-talk _ ∙ push.start-talk (fifoNumber n) header seq payload ∙ push-kept n header seq payload
 starts-as-talk (Transmit n header seq payload) = transmit-talk _ ∙ transmit.start-talk (fifoNumber n) header seq payload ∙ transmit-kept n header seq payload
 starts-as-talk (Request n) = plan-talk _ ∙ transmit.request-talk n
+starts-as-talk (QueuePush header seq payload) = push-talk _ ∙ push.queue-start-talk header seq payload
+starts-as-talk (QueueUnchecked header seq payload) = push-talk _ ∙ push.unchecked-start-talk header seq payload
+starts-as-talk QueueRequest = plan-talk _ ∙ transmit.queue-request-talk
 starts-as-talk (HasNext n) = fetch-talk _ ∙ ap told (fetch.has-next-start-talk (fifoNumber n) ∙ next-kept n)
 starts-as-talk (Peek n room) = fetch-talk _ ∙ ap told (fetch.lent-start-talk Want.Peek (fifoNumber n) room ∙ lent-kept Want.Peek n room)
 starts-as-talk (Get n room) = fetch-talk _ ∙ ap told (fetch.lent-start-talk Want.Get (fifoNumber n) room ∙ lent-kept Want.Get n room)
@@ -113,7 +118,7 @@ by-dlc (Dlc.Is d) f g = f d refl
 by-dlc Dlc.Bad f g = g refl
 
 plan-first : (x : Plans) → answer (talkFor (prepared x)) ≡ first (planTests x)
-unfolding modify setOpMode configureBitTiming configureFifo configureFilter filterCheck disableFilter configureAll planTalk
+unfolding modify setOpMode configureBitTiming configureFifo configureTxQueue configureFilter filterCheck disableFilter configureAll planTalk
 plan-first (Modify address clear set) = by-bool (ltb address (2 ^ 12)) (λ e. simp e) (λ e. simp e)
 plan-first Verify = refl
 plan-first (SetOpMode mode) = by-bool (fits REQOP mode) (λ e. simp e) (λ e. simp e)
@@ -121,6 +126,8 @@ plan-first (Osc o) = refl
 plan-first (Io c) = refl
 plan-first (BitTiming b) = by-bool (timingFits b) (λ e. simp e) (λ e. simp e)
 plan-first (Fifo n c) = by-bool (isFifo n) (λ e. by-bool (fifoFits c) (λ d. simp (e, d)) (λ d. simp (e, d))) (λ e. simp e)
+plan-first (Queue TxQueueSetting.Off) = refl
+plan-first (Queue (TxQueueSetting.On c)) = by-bool (queueFits c) (λ e. simp e) (λ e. simp e)
 plan-first (Filter f c) =
     by-bool (isFilter f)
     (λ e. by-bool (isFifo (c .fifo)) (λ d. by-bool (isIdentifier (c .object) && isIdentifier (c .mask)) (λ i. simp (e, d, i)) (λ i. simp (e, d, i))) (λ d. simp (e, d)))
@@ -130,22 +137,27 @@ plan-first (Configure s) =
     by-bool (timingFits (s .bittime)) (λ e. by-bool (fits DNCNT (s .dncnt)) (λ d. simp (e, d)) (λ d. simp (e, d))) (λ e. simp e)
 
 -- a push, and whatever it is the beginning of
-push-first : (f : Talk Outcome → Talk Outcome) → ((r : Refusal) → f (refused r) ≡ refused r) → ((q : Ask) (k : Answer → List ℕ → Talk Outcome) → answer (f (ask q k)) ≡ [])
-    → (n : ℕ) (header : Header) (seq : ℕ) (payload : List ℕ) → answer (f (pushCall n header seq payload)) ≡ first (sendable n header seq payload)
-unfolding pushCall encoding checkOf
-push-first f stops goes n header seq payload =
-    by-bool (isFifo n)
-    (λ e. by-bool (ltb (topId (header .extended)) (header .id)) (λ i. simp (e, i, stops))
-    (λ i. by-bool (leb (2 ^ 23) seq) (λ s. simp (e, i, s, stops))
-    (λ s. by-dlc (dlcOf (header .fdf) (length payload)) (λ d p. simp (e, i, s, p, goes)) (λ p. simp (e, i, s, p, stops)))))
-    (λ e. simp (e, stops))
+module _ (f : Talk Outcome → Talk Outcome) (stops : (r : Refusal) → f (refused r) ≡ refused r) where
+  message-first : (k : ℕ → Talk Outcome) → ((len : ℕ) → answer (f (k len)) ≡ []) → (header : Header) (seq : ℕ) (payload : List ℕ)
+      → answer (f (withEncoding k (encoding (toSend header seq payload)))) ≡ first (writable header seq payload)
+  unfolding encoding checkOf
+  message-first k goes header seq payload =
+      by-bool (ltb (topId (header .extended)) (header .id)) (λ i. simp (i, stops))
+      (λ i. by-bool (leb (2 ^ 23) seq) (λ s. simp (i, s, stops))
+      (λ s. by-dlc (dlcOf (header .fdf) (length payload)) (λ d p. simp (i, s, p, goes)) (λ p. simp (i, s, p, stops))))
+
+  push-first : ((q : Ask) (k : Answer → List ℕ → Talk Outcome) → answer (f (ask q k)) ≡ [])
+      → (n : ℕ) (header : Header) (seq : ℕ) (payload : List ℕ) → answer (f (pushCall n header seq payload)) ≡ first (sendable n header seq payload)
+  unfolding pushCall
+  push-first goes n header seq payload =
+      by-bool (isFifo n) (λ e. simp e (message-first (pushTalk n (length payload)) (λ len. goes _ _) header seq payload)) (λ e. simp (e, stops))
 
 lent-first : (want : Want) (n room : ℕ) → answer (told (lentTalk want n room)) ≡ first (roomy n room)
 unfolding lentTalk andThen
 lent-first want n room = by-bool (isFifo n) (λ e. by-bool (ltb room 64) (λ l. simp (e, l)) (λ l. simp (e, l))) (λ e. simp e)
 
 talk-first : (x : Start) → answer (wholeTalk x) ≡ first (tests x)
-unfolding verifyLongTalk readCall checkedCall checkedTalk writeCall readRamTalk writeRamTalk accessOf requestCall transmitCall hasNextTalk andThen scrubCall checkedBy
+unfolding verifyLongTalk readCall checkedCall checkedTalk writeCall readRamTalk writeRamTalk accessOf requestCall queueRequestCall transmitCall queuePushCall queueUncheckedCall hasNextTalk andThen scrubCall checkedBy
 talk-first Reset = refl
 talk-first OpMode = refl
 talk-first VerifyLong = refl
@@ -161,6 +173,9 @@ talk-first (Planned x) = plan-first x
 talk-first (Push n header seq payload) = push-first (λ t. t) (λ r. refl) (λ q k. refl) n header seq payload
 talk-first (Transmit n header seq payload) = push-first (λ t. andThen t (λ x. requestCall n)) (λ r. refl) (λ q k. refl) n header seq payload
 talk-first (Request n) = by-bool (isFifo n) (λ e. simp e) (λ e. simp e)
+talk-first (QueuePush header seq payload) = message-first (λ t. t) (λ r. refl) (enabledTalk 0 (length payload)) (λ len. refl) header seq payload
+talk-first (QueueUnchecked header seq payload) = message-first (λ t. t) (λ r. refl) (bareTalk 0) (λ len. refl) header seq payload
+talk-first QueueRequest = refl
 talk-first (HasNext n) = by-bool (isFifo n) (λ e. simp e) (λ e. simp e)
 talk-first (Peek n room) = lent-first Want.Peek n room
 talk-first (Get n room) = lent-first Want.Get n room

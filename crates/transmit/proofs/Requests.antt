@@ -26,11 +26,15 @@ begun s = record { push = s; request = requestStart (s .fifo) }
 
 -- where a push that is done stands
 done-at : (at : PushAt) → at ≡ (if doneAt at then PushAt.Done else at)
+done-at PushAt.Enabled = refl
 done-at PushAt.Control = refl
 done-at (PushAt.Status w) = refl
 done-at (PushAt.Address w) = refl
 done-at (PushAt.Write w m) = refl
 done-at (PushAt.Commit w) = refl
+done-at PushAt.BareAddress = refl
+done-at (PushAt.BareWrite m) = refl
+done-at PushAt.BareControl = refl
 done-at PushAt.Done = refl
 done-at (PushAt.Refused r) = refl
 

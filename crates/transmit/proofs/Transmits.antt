@@ -24,7 +24,7 @@ use Rattle.plan.specs.Talk.{planTalk, talkOf as planTalkOf}
 use Rattle.plan.specs.declared.item.Item.{Item}
 use Rattle.plan.proofs.Changes.{change-sets}
 use Rattle.plan.proofs.Runs as machine
-use Rattle.transmit.specs.Transmit.{Transmit, requestChange, requestStart, requestCall, transmitStart, transmitAsk, transmitStep, transmitOutcome, transmitCall, transmitTalkOf}
+use Rattle.transmit.specs.Transmit.{Transmit, requestChange, requestStart, requestCall, queueRequestStart, queueRequestCall, transmitStart, transmitAsk, transmitStep, transmitOutcome, transmitCall, transmitTalkOf}
 use Rattle.tx_fifo.specs.Step.{toSend, stepOf, isDone}
 use Rattle.tx_fifo.specs.Talk.{pushCall, talkOf}
 use Rattle.tx_fifo.proofs.Runs as push
@@ -65,6 +65,14 @@ request-talk fifo =
 pub request-bound : (fifo : ℕ) → Within 2 (requestCall fifo)
 unfolding requestCall planTalk
 request-bound fifo = if-within 2 (isFifo fifo) _ _ (machine.bound Refusal.SpiRead (Item.Change (requestChange fifo) ∷ [])) tt
+
+pub queue-request-talk : planTalkOf queueRequestStart ≡ queueRequestCall
+unfolding queueRequestStart queueRequestCall planTalk
+queue-request-talk = machine.start-talk Refusal.SpiRead (Item.Change (requestChange 0) ∷ [])
+
+pub queue-request-bound : Within 2 queueRequestCall
+unfolding queueRequestCall planTalk
+queue-request-bound = machine.bound Refusal.SpiRead (Item.Change (requestChange 0) ∷ [])
 
 -- the word that is written is the word read, with TXREQ 1
 pub request-word : (fifo w : ℕ) → w < 2 ^ 32 → modified (requestChange fifo) w ≡ mark TXREQ true w

@@ -9,7 +9,7 @@ pub count-of-spec : {M : Type 1} → statement M
 unfolding itemsFor
 count-of-spec =
     tie.close
-    (tie.spec (search needs) (search needs) (search needs) (search needs) (search needs) (search needs) (search needs) (search needs) (search needs)
+    (tie.spec (search needs) (search needs) (search needs) (search needs) (search needs) (search needs) (search needs) (search needs) (search needs) (search needs)
     (λ c body. simp (c .enum-told .given .1))
     (λ c body. simp (c .enum-told2 .given .1))
     (λ c body. simp (c .enum-told3 .given .1))
@@ -18,4 +18,5 @@ count-of-spec =
     (λ c body. simp (c .enum-told6 .given .1))
     (λ c body. simp (c .enum-told7 .given .1))
     (λ c body. simp (c .enum-told8 .given .1))
-    (λ c body. simp (c .enum-told9 .given .1)))
+    (λ c body. simp (c .enum-told9 .given .1))
+    (λ c body. simp (c .enum-told10 .given .1)))
