@@ -15,9 +15,9 @@ unfolding itemsFor
 returns c =
     let put = c .before .before in
     simp (c .plan-with .ensures, c .before .enable-change .ensures)
-    (begins-with PlanKind.Queue 0 (enableChange true) _ _ (queue-made _ _ (put .put-word .ensures 0 ∙ put .before .queue-bits .ensures)))
+    (begins-with PlanKind.Queue 0 (enableChange true) _ _ (queue-made (put .before .before .before .args .c) _ (put .put-word .ensures 0 ∙ put .before .queue-bits .ensures)))
 
 pub queue-plan-spec : {M : Type 1} → statement M
 queue-plan-spec =
     tie.close
-    (tie.spec (λ c κs. c .pre) (λ c κs. search needs) (λ c κs. search needs) (λ c κs. search needs) returns)
+    (tie.spec (λ c κs. c .before .pre) (λ c κs. search needs) (λ c κs. search needs) (λ c κs. search needs) returns)
