@@ -277,7 +277,7 @@ module _ (P : Ask → Type 0) (may-read : MayRead P) (may-write : MayWrite P)
           (λ w. choice P (not (sends n w)) _ _ (λ e. tt)
           (λ e. choice P (ltb (payloadOf w) size) _ _ (λ i. tt)
           (λ i. reads P Refusal.SpiRead (CiFIFOSTA .address n) _ (may-read _ (status-below n few))
-          (λ v. choice P (not (flag TFNRFNIF v)) _ _ (λ j. tt) (λ j. ram-always len _ (λ a s. write-always _ a s (commit-always w)))))))
+          (λ v. choice P (not (flag TFNRFNIF v)) _ _ (λ j. tt) (λ j. ram-always len (push-talks.writeTalk n len w) (λ a s. write-always (push-talks.commitTalk n w) a s (commit-always w)))))))
 
       enabled-always : (size : ℕ) → Always P (push-talks.enabledTalk n size len)
       enabled-always size =
@@ -285,30 +285,33 @@ module _ (P : Ask → Type 0) (may-read : MayRead P) (may-write : MayWrite P)
 
       bare-always : Always P (push-talks.bareTalk n len)
       bare-always =
-          ram-always len _ (λ a s. write-always _ a s (reads P Refusal.SpiRead (CiFIFOCON .address n) _ (may-read _ (control-below n few)) commit-always))
-
-  -- an object has at most 72 bytes
-  encoded-always : (k : ℕ → Talk Outcome) (m : Message) → ((len : ℕ) → len ≤ 72 → Always P (k len)) → Always P (push-talks.withEncoding k (encoding m))
-  encoded-always k m h = go (encoding m) (λ bs e. omega (arith, object-le m bs e))
-    where
-      go : (e : Encoding) → ((bs : List ℕ) → e ≡ Encoding.object bs → length bs ≤ 72) → Always P (push-talks.withEncoding k e)
-      go (Encoding.refused r) l = tt
-      go (Encoding.object bs) l = h (length bs) (l bs refl)
+          ram-always len (push-talks.bareWriteTalk n len)
+          (λ a s. write-always (push-talks.bareControlTalk n) a s (reads P Refusal.SpiRead (CiFIFOCON .address n) _ (may-read _ (control-below n few)) commit-always))
 
   module _ (header : Header) (seq : ℕ) (payload : List ℕ) where
+    abbrev sending : Message
+    sending = toSend header seq payload
+
+    encoded-always : (k : ℕ → Talk Outcome) → ((len : ℕ) → len ≤ 72 → Always P (k len)) → Always P (push-talks.withEncoding k (encoding sending))
+    encoded-always k h = go (encoding sending) (λ bs e. omega (arith, object-le sending bs e))
+      where
+        go : (e : Encoding) → ((bs : List ℕ) → e ≡ Encoding.object bs → length bs ≤ 72) → Always P (push-talks.withEncoding k e)
+        go (Encoding.refused r) l = tt
+        go (Encoding.object bs) l = h (length bs) (l bs refl)
+
     pushed-always : (n : ℕ) → Always P (push-talks.pushCall n header seq payload)
     unfolding push-talks.pushCall
     pushed-always n =
         choice P (not (isFifo n)) _ _ (λ f. tt)
-        (λ f. encoded-always _ (toSend header seq payload) (λ len l. push-always n (fifo-most n (not-false _ f)) len l (length payload)))
+        (λ f. encoded-always (push-talks.pushTalk n (length payload)) (λ len l. push-always n (fifo-most n (not-false _ f)) len l (length payload)))
 
     queue-always : Always P (push-talks.queuePushCall header seq payload)
     unfolding push-talks.queuePushCall
-    queue-always = encoded-always _ (toSend header seq payload) (λ len l. enabled-always 0 (omega arith) len l (length payload))
+    queue-always = encoded-always (push-talks.enabledTalk 0 (length payload)) (λ len l. enabled-always 0 (omega arith) len l (length payload))
 
     unchecked-always : Always P (push-talks.queueUncheckedCall header seq payload)
     unfolding push-talks.queueUncheckedCall
-    unchecked-always = encoded-always _ (toSend header seq payload) (λ len l. bare-always 0 (omega arith) len l)
+    unchecked-always = encoded-always (push-talks.bareTalk 0) (λ len l. bare-always 0 (omega arith) len l)
 
 -- ---- has-next, peek and get
 
