@@ -11,8 +11,8 @@ use borrow.Author.Tests.{leb-true, eqb-true, not-false}
 use Rattle.laws.specs.If.{if_then_else_}
 use Rattle.laws.proofs.Choice.{by-if}
 use Rattle.laws.proofs.Table.{both}
-use Rattle.field.specs.Field.{read, flag}
-use Rattle.field.proofs.Laws.{field-lt, read-write, write-other}
+use Rattle.field.specs.Field.{Field, read, flag, digit, write, apart}
+use Rattle.field.proofs.Laws.{field-lt, read-write, write-other, digit-lt}
 use Rattle.configuration.specs.CanControl.{OPMOD, REQOP, TXQEN, STEF}
 use Rattle.chip.specs.OscillatorControl.{PLLEN, PLLRDY}
 use Rattle.fifo.specs.Status.{RXOVIF}
@@ -24,7 +24,7 @@ use Rattle.state.specs.declared.Fixed.{Fixed}
 use Rattle.state.specs.declared.Model.{Model}
 use Rattle.state.specs.Model.{blank, fifoAt}
 use Rattle.bank.specs.declared.writing.Written.{Written}
-use Rattle.bank.specs.Registers.{modeOf, wordOf, granted, conSet, settled, denied, turnedAll, conWritten, controlWritten, statusWritten, registerWritten}
+use Rattle.bank.specs.Registers.{modeOf, wordOf, granted, conSet, settled, denied, turnedAll, conWritten, controlWritten, statusWritten, queueWritten, registerWritten}
 use Rattle.bank.specs.Laws.{FrozenOutside, Laid, Leaving, OpmodShows, ModeTaken, Silent, UincInside, PllrdyFollows}
 
 -- CiCON's write changes no control word
@@ -37,7 +37,7 @@ con-frozen m w =
     (λ e. by-if P (m .fixed .configuring) (λ c. refl) (λ c. refl)))
 
 pub frozen-outside : FrozenOutside
-unfolding registerWritten controlWritten statusWritten
+unfolding registerWritten controlWritten statusWritten queueWritten
 frozen-outside m Register.Con w c = con-frozen m w
 frozen-outside m Register.Osc w c = refl
 frozen-outside m (Register.Plain k) w c = refl
@@ -47,12 +47,14 @@ frozen-outside m (Register.Mask k) w c = refl
 frozen-outside m (Register.Control n) w c = rw c
 frozen-outside m (Register.Status n) w c = by-if (λ (x : Model). x .fixed .frozen ≡ m .fixed .frozen) (flag RXOVIF w) (λ e. refl) (λ e. refl)
 frozen-outside m (Register.Address n) w c = refl
+frozen-outside m Register.QueueControl w c = rw c
+frozen-outside m Register.QueueStatus w c = refl
+frozen-outside m Register.QueueAddress w c = refl
 
 -- what a grant tells
-granted-fits : (x : Fixed) (w : ℕ) → granted x w ≡ true → end (x .queue) (x .frozen) 31 ≤ 2048
+pub granted-fits : (x : Fixed) (w : ℕ) → granted x w ≡ true → end (flag TXQEN w) (x .frozen) 31 ≤ 2048
 unfolding granted
-granted-fits x w e =
-    leb-true (end (x .queue) (x .frozen) 31) 2048 (both (not (flag TXQEN w) && not (flag STEF w)) (leb (end (x .queue) (x .frozen) 31) 2048) e .1)
+granted-fits x w e = leb-true _ _ (both (not (flag STEF w)) (leb (end (flag TXQEN w) (x .frozen) 31) 2048) e .1)
 
 -- the write that leaves
 left-is : (m : Model) (w : ℕ) → m .fixed .configuring ≡ true → eqb (read REQOP w) 4 ≡ false
@@ -70,7 +72,7 @@ leaving m w c e =
     subst P (sym (left-is m w c e))
     (by-if P (not (granted (m .fixed) w))
     (λ g. (λ t. cc, λ t n k. let z : _≡_ {A = ℕ} 0 1 = cc in absurd (omega (arith, z)), λ t. refl))
-    (λ g. (λ t. refl, λ t n k. in-ram (m .fixed .queue) (m .fixed .frozen) n k (granted-fits (m .fixed) w (not-false (granted (m .fixed) w) g)), λ t. cc)))
+    (λ g. (λ t. refl, λ t n k. rw c (in-ram (flag TXQEN w) (m .fixed .frozen) n k (granted-fits (m .fixed) w (not-false (granted (m .fixed) w) g))), λ t. cc)))
     in
     record { outside = p .0; laid = p .1; denied = p .2 }
 
@@ -81,14 +83,20 @@ pub mode-fits : (m : Model) → modeOf m < 2 ^ 3
 unfolding modeOf
 mode-fits m = by-if (λ (n : ℕ). n < 2 ^ 3) (m .fixed .configuring) (λ e. omega arith) (λ e. field-lt (m .setup .con) 24 3)
 
-pub opmod-is : (m : Model) → read OPMOD (wordOf m Register.Con) ≡ modeOf m
+-- a field of CiCON that is not TXQEN reads as if this were not shown
+txqen-off : (m : Model) (f : Field) → apart TXQEN f ≡ true → read f (wordOf m Register.Con) ≡ read f (write OPMOD (modeOf m) (m .setup .con))
 unfolding wordOf
-opmod-is m = read-write OPMOD (modeOf m) (m .setup .con) (mode-fits m)
+txqen-off m f e = write-other TXQEN f (digit (m .fixed .queue)) (write OPMOD (modeOf m) (m .setup .con)) (digit-lt (m .fixed .queue)) e
+
+pub opmod-is : (m : Model) → read OPMOD (wordOf m Register.Con) ≡ modeOf m
+opmod-is m = txqen-off m OPMOD refl ∙ read-write OPMOD (modeOf m) (m .setup .con) (mode-fits m)
 
 pub opmod-shows : OpmodShows
-unfolding wordOf modeOf
+unfolding modeOf
 opmod-shows m =
-    opmod-is m ∙ ap (λ (n : ℕ). if m .fixed .configuring then 4 else n) (sym (write-other OPMOD REQOP (modeOf m) (m .setup .con) (mode-fits m) refl))
+    opmod-is m
+    ∙ ap (λ (n : ℕ). if m .fixed .configuring then 4 else n)
+    (sym (txqen-off m REQOP refl ∙ write-other OPMOD REQOP (modeOf m) (m .setup .con) (mode-fits m) refl))
 
 -- the mode that a write of w leaves
 abbrev Takes : ℕ → Written → Type 0

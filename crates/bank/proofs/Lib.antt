@@ -1,3 +1,4 @@
 mod Turns
 pub mod Laws
+pub mod QueueLaws
 pub mod AllLaws

@@ -2,7 +2,7 @@
 ghost use mathlib.Core.Path.{_≡_};
 ghost use Prim.Native.Nat.{_≤_, _<_};
 ghost use Rattle.place.specs.declared.Register.{Register};
-ghost use Rattle.bank.specs.Registers.{modeOf, shownAt, wordOf};
+ghost use Rattle.bank.specs.Registers.{modeOf, shownAt, queueActs, queueShown, wordOf};
 use chip::OscillatorControl;
 use configuration::CanControl;
 use place::Register;
@@ -23,7 +23,10 @@ fn mode(m: Model) -> u32
 fn con_word(m: Model) -> u32
     ensures { λ r. ⌜ r ≡ wordOf m Register.Con ⌝ }
 {
-    CanControl(m.setup.con).with_opmod(mode(m)).0
+    CanControl(m.setup.con)
+        .with_opmod(mode(m))
+        .with_txqen(m.fixed.queue)
+        .0
 }
 
 fn osc_word(m: Model) -> u32
@@ -64,6 +67,42 @@ fn address_word(m: Model, n: u8) -> u32
     shown_at(m, n) as u32
 }
 
+// Where the slot that the queue shows begins in RAM.
+fn queue_shown(m: Model) -> usize
+    ensures { λ r. ⌜ (r ≡ queueShown m) × (r ≤ 1000000) ⌝ }
+{
+    let frozen = m.fixed.frozen;
+    ring::slot_at(m.fixed.queue, frozen, 0, m.queue.shown as u32)
+}
+
+fn queue_acts(m: Model) -> bool
+    ensures { λ r. ⌜ r ≡ queueActs (m .fixed) ⌝ }
+{
+    if m.fixed.configuring {
+        return false;
+    }
+    m.fixed.queue
+}
+
+fn queue_status_word(m: Model) -> u32
+    ensures { λ r. ⌜ r ≡ wordOf m Register.QueueStatus ⌝ }
+{
+    if queue_acts(m) {
+        let q = m.queue;
+        return ring::queue::status(frozen_at(m, 0), q);
+    }
+    0
+}
+
+fn queue_address_word(m: Model) -> u32
+    ensures { λ r. ⌜ r ≡ wordOf m Register.QueueAddress ⌝ }
+{
+    if queue_acts(m) {
+        return queue_shown(m) as u32;
+    }
+    0
+}
+
 pub fn word(m: Model, r: Register) -> u32
     ensures { λ w. ⌜ w ≡ wordOf m r ⌝ }
 {
@@ -77,5 +116,8 @@ pub fn word(m: Model, r: Register) -> u32
         Register::Control(n) => ring::control(frozen_at(m, n), fifo_at(m, n)),
         Register::Status(n) => status_word(m, n),
         Register::Address(n) => address_word(m, n),
+        Register::QueueControl => ring::control_word(frozen_at(m, 0), m.queue.control),
+        Register::QueueStatus => queue_status_word(m),
+        Register::QueueAddress => queue_address_word(m),
     }
 }

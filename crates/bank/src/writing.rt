@@ -1,9 +1,13 @@
 // Registers written.
 ghost use mathlib.Core.Path.{_≡_};
+ghost use Rattle.laws.specs.If.{if_then_else_};
+ghost use Rattle.field.specs.Field.{flag};
+ghost use Rattle.configuration.specs.CanControl.{TXQEN};
 ghost use Rattle.place.specs.declared.Register.{Register};
-ghost use Rattle.bank.specs.Registers.{granted, turnedAll, conSet, settled, conWritten, frozenSet, controlWritten, statusWritten, oscSet, plainSet, filterSet, objectSet, maskSet, registerWritten};
+ghost use Rattle.bank.specs.Registers.{granted, turnedAll, conSet, settled, conWritten, frozenSet, controlWritten, statusWritten, queueWritten, oscSet, plainSet, filterSet, objectSet, maskSet, registerWritten};
 use configuration::CanControl;
 use fifo::FifoStatus;
+use fifo::TxQueueControl;
 use place::Register;
 use state::Fixed;
 use state::Model;
@@ -12,6 +16,7 @@ use state::frozen_at;
 use state::set_word;
 use state::with_fifo;
 use state::with_fixed;
+use state::with_queue;
 use state::with_setup;
 
 // The next chip, and whether a change of mode that was asked for was granted; 27 where it wasn't.
@@ -23,17 +28,14 @@ pub struct Written {
 fn granted(x: Fixed, w: u32) -> bool
     ensures { λ r. ⌜ r ≡ granted x w ⌝ }
 {
-    if CanControl(w).txqen() {
-        return false;
-    }
     if CanControl(w).stef() {
         return false;
     }
     let frozen = x.frozen;
-    ring::end(x.queue, frozen, 31) <= 2048
+    ring::end(CanControl(w).txqen(), frozen, 31) <= 2048
 }
 
-// Each FIFO's part of entering Configuration or leaving it.
+// Each FIFO's part of entering Configuration or leaving it, and the queue's.
 fn turned(m: Model, entering: bool) -> Model
     ensures { λ r. ⌜ r ≡ turnedAll entering m ⌝ }
 {
@@ -43,14 +45,28 @@ fn turned(m: Model, entering: bool) -> Model
         d.fifo[n] = ring::turned(entering, d.fifo[n]);
         n += 1;
     }
+    let q = m.queue;
+    d.queue = ring::queue::turned(entering, q);
     d
+}
+
+// TXQEN counts by the mode that a write finds.
+fn queue_after(configuring: bool, queue: bool, w: u32) -> bool
+    ensures { λ r. ⌜ r ≡ (if configuring then flag TXQEN w else queue) ⌝ }
+{
+    if configuring {
+        return CanControl(w).txqen();
+    }
+    queue
 }
 
 fn with_con(m: Model, w: u32, configuring: bool) -> Model
     ensures { λ r. ⌜ r ≡ conSet m w configuring ⌝ }
 {
+    let queue = queue_after(m.fixed.configuring, m.fixed.queue, w);
     let mut d = m;
     d.setup.con = w;
+    d.fixed.queue = queue;
     d.fixed.configuring = configuring;
     d
 }
@@ -120,6 +136,20 @@ fn status_written(m: Model, n: u8, w: u32) -> Model
     with_fifo(m, n, ring::overflowed(false, fifo_at(m, n)))
 }
 
+fn queue_written(m: Model, w: u32) -> Model
+    ensures { λ r. ⌜ r ≡ queueWritten m w ⌝ }
+{
+    let q = m.queue;
+    if m.fixed.configuring {
+        let frozen = TxQueueControl(w).with_txen(true).0;
+        return with_queue(with_frozen(m, 0, frozen), ring::queue::configured(w, q));
+    }
+    with_queue(
+        m,
+        ring::queue::commanded(m.fixed.queue, frozen_at(m, 0), w, q),
+    )
+}
+
 fn with_osc(m: Model, w: u32) -> Model
     ensures { λ r. ⌜ r ≡ oscSet m w ⌝ }
 {
@@ -181,5 +211,8 @@ pub fn registered(m: Model, r: Register, w: u32) -> Written
         Register::Control(n) => settled(control_written(m, n, w)),
         Register::Status(n) => settled(status_written(m, n, w)),
         Register::Address(_) => settled(m),
+        Register::QueueControl => settled(queue_written(m, w)),
+        Register::QueueStatus => settled(m),
+        Register::QueueAddress => settled(m),
     }
 }

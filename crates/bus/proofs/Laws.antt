@@ -54,24 +54,31 @@ row-next A f g d n h =
 
 -- ---- send
 
+-- a message taken is no quiet answer, whatever it was read as
+pub quiet-if : (b : Bool) (x : Decoding) (y m : Model) → Quiet (if b then outputOf x else nothing) → (if b then y else m) ≡ m
+quiet-if true (holds x) y m q = absurd q
+quiet-if true Decoding.noFrame y m q = absurd q
+quiet-if true short y m q = absurd q
+quiet-if false x y m q = refl
+
 quiet : (a b : Bool) (x : Decoding) (y m : Model)
     → Quiet (if a then if b then outputOf x else nothing else refused Refusal.BadNumber) → (if a && b then y else m) ≡ m
-quiet true true (holds x) y m q = absurd q
-quiet true true Decoding.noFrame y m q = absurd q
-quiet true true short y m q = absurd q
-quiet true false x y m q = refl
+quiet true b x y m q = quiet-if b x y m q
 quiet false b x y m q = refl
 
 pub nothing-sent : NothingSent
 unfolding sendOutput sendModel
 nothing-sent m n = quiet (isFifo n) (sends m n) (itemAt m n 0) _ m
 
+pub taken-told : (x : Decoding) → outputNumbers (outputOf x) ≡ takenNumbers x
+taken-told (holds x) = refl
+taken-told Decoding.noFrame = refl
+taken-told short = refl
+
 answered : (a b : Bool) (x : Decoding)
     → outputNumbers (if a then if b then outputOf x else nothing else refused Refusal.BadNumber)
     ≡ (if not a then 20 ∷ [] else if not b then 0 ∷ 0 ∷ [] else takenNumbers x)
-answered true true (holds x) = refl
-answered true true Decoding.noFrame = refl
-answered true true short = refl
+answered true true x = taken-told x
 answered true false x = refl
 answered false b x = refl
 

@@ -18,11 +18,14 @@ use Rattle.message.specs.Message.{Decoding, holds, short}
 use Rattle.filters.specs.Filters.{filterCount}
 use Rattle.ring.specs.Ring.{sending, depth, claimed, overflowed}
 use Rattle.ring.specs.Layout.{size}
+use Rattle.ring.specs.Queue.{isHeld}
+use Rattle.ring.specs.QueueLaws.{Best}
 use Rattle.state.specs.declared.Model.{Model}
 use Rattle.state.specs.Model.{fifoAt, frozenAt, withFifo, written}
 use Rattle.bus.specs.declared.arrival.Delivery.{Delivery}
 use Rattle.bus.specs.Held.{slotOf, itemAt, row, held}
 use Rattle.bus.specs.Bus.{Output, frame, noFrame, nothing, refused, sends, sendOutput, sendModel, receives, deliverOf}
+use Rattle.bus.specs.Queue.{queueDepth, queueItem, heldQueue, queueRank, winner, queueSends, queueOutput, queueModel}
 use Rattle.bus.specs.Sort.{filterFor, targetFor, sortOf}
 use Rattle.bus.specs.Numbers.{messageNumbers, outputNumbers, deliveryNumbers, sortedNumbers}
 
@@ -58,6 +61,29 @@ SendAnswers =
     (m : Model) (n : ℕ)
     → outputNumbers (sendOutput m n)
     ≡ (if not (isFifo n) then 20 ∷ [] else if not (sends m n) then 0 ∷ 0 ∷ [] else takenNumbers (itemAt m n 0))
+
+-- ---- send from the transmit queue
+
+-- a send that sent nothing leaves the model as it was
+abbrev pub QueueNothingSent : Type 0
+QueueNothingSent = (m : Model) → Quiet (queueOutput m) → queueModel m ≡ m
+
+-- what it answers: what the winner comes to, or nothing sent
+abbrev pub QueueAnswers : Type 0
+QueueAnswers = (m : Model) → outputNumbers (queueOutput m) ≡ (if queueSends m then takenNumbers (queueItem m (winner m)) else 0 ∷ 0 ∷ [])
+
+-- the winner is a slot held; its rank is the smallest of those held, and of several it is the lowest
+abbrev pub QueueWinner : Type 0
+QueueWinner = (m : Model) → queueSends m ≡ true → Best (isHeld (m .queue)) (queueRank m) (queueDepth m) (winner m)
+
+-- with TXQEN at 0 nothing is sent, and nothing is held
+pub record Idle (m : Model) : Type 0 where
+  pub sent : queueOutput m ≡ nothing
+  pub left : queueModel m ≡ m
+  pub held : heldQueue m ≡ []
+
+abbrev pub QueueIdle : Type 0
+QueueIdle = (m : Model) → m .fixed .queue ≡ false → Idle m
 
 -- ---- deliver
 
@@ -191,6 +217,10 @@ pub record Laws : Type 1 where
   pub nothingSent : NothingSent
   pub oldestSent : OldestSent
   pub sendAnswers : SendAnswers
+  pub queueNothingSent : QueueNothingSent
+  pub queueAnswers : QueueAnswers
+  pub queueWinner : QueueWinner
+  pub queueIdle : QueueIdle
   pub deliverAnswers : DeliverAnswers
   pub deliver22 : Deliver22
   pub deliveredIff : DeliveredIff

@@ -27,6 +27,10 @@ queueDepth m = depth (frozenAt m 0)
 unfoldable pub queueSlot : Model → ℕ → ℕ
 queueSlot m k = slotAt (m .fixed .queue) (m .fixed .frozen) 0 k
 
+-- slot k is held: there is none with TXQEN at 0, nor beyond the depth
+unfoldable pub queueHolds : Model → ℕ → Bool
+queueHolds m k = m .fixed .queue && ltb k (queueDepth m) && isHeld (m .queue) k
+
 -- what stands in that slot, an object to send without a timestamp: a payload beyond PLSIZE is longer than the slot
 unfoldable pub queueItem : Model → ℕ → Decoding
 queueItem m k = decoding true false (part (m .ram) (queueSlot m k) (size (frozenAt m 0)))
@@ -37,9 +41,12 @@ heldQueue m = if m .fixed .queue then gather (isHeld (m .queue)) (queueItem m) 0
 
 -- ---- send
 
--- a slot's rank in arbitration, by its identifier bits: a slot that is no frame takes part too
+-- the rank in arbitration of the object at a place of RAM, by its identifier bits: one that is no frame takes part too
+abbrev pub rankAt : List ℕ → ℕ → ℕ
+rankAt ram a = rankOf (leAt ram a) (leAt ram (a + 4))
+
 unfoldable pub queueRank : Model → ℕ → ℕ
-queueRank m k = rankOf (leAt (m .ram) (queueSlot m k)) (leAt (m .ram) (queueSlot m k + 4))
+queueRank m k = rankAt (m .ram) (queueSlot m k)
 
 -- the slot held whose message wins arbitration
 unfoldable pub winner : Model → ℕ

@@ -41,7 +41,7 @@ fn sends(m: Model, n: u8) -> bool
     0 < f.count
 }
 
-fn answered(sending: Sending, frame: Frame, m: Model) -> Sent
+pub fn answered(sending: Sending, frame: Frame, m: Model) -> Sent
     ensures { λ r. ⌜ r ≡ record { sending = sending; frame = frame; model = m } ⌝ }
 {
     Sent {
@@ -51,7 +51,7 @@ fn answered(sending: Sending, frame: Frame, m: Model) -> Sent
     }
 }
 
-fn no_frame() -> Frame
+pub fn no_frame() -> Frame
     ensures { λ r. ⌜ r ≡ frameOf blank ⌝ }
 {
     let none = [0u8; 1];
@@ -59,8 +59,8 @@ fn no_frame() -> Frame
     d.frame
 }
 
-// The answer for the message that was the oldest. Whatever it was read from, its reading and its frame say which.
-fn taken(item: Decoded, m: Model) -> Sent
+// The answer for the message that was taken. Whatever it was read from, its reading and its frame say which.
+pub fn taken(item: Decoded, m: Model) -> Sent
     ensures { λ r. ⌜ ((d : Decoding) → item ≡ decodedAs d → r ≡ sentAs (outputOf d) m) ⌝ }
 {
     let reading = item.reading;

@@ -19,7 +19,7 @@ fn within(at: usize) -> usize
 }
 
 // So many bytes of RAM, read as an object; what lies behind the RAM's end is not there.
-fn decoded(sending: bool, stamped: bool, ram: [u8; 2048], at: usize, size: usize) -> Decoded
+pub fn decoded(sending: bool, stamped: bool, ram: [u8; 2048], at: usize, size: usize) -> Decoded
     requires { ⌜ (at ≤ 1000000) × (size ≤ 76) ⌝ }
     ensures { λ r. ⌜ r ≡ decodedAs (decoding sending stamped (part ram at size)) ⌝ }
 {

@@ -55,6 +55,11 @@ pub ram-in : (x k : ℕ) → x + k ≤ 2048 → k % 4 ≡ 0 → inRam (x + 0x400
 unfolding inRam
 ram-in x k h e = rw (range-in x k h, eq-eqb (k % 4) 0 e)
 
+-- a FIFO is one of 1 to 31
+pub fifo-is : (n : ℕ) → 1 ≤ n → n ≤ 31 → isFifo n ≡ true
+unfolding isFifo
+fifo-is n l h = rw (le-leb 1 n l, le-leb n 31 h)
+
 -- ---- what an ask is carried out as
 
 -- without a body the head is all that is sent
@@ -115,6 +120,39 @@ module _ (b : List ℕ) (c : Model) where
     tell-control =
         let (l, h) = fifo-told n f in
         tell-register (CiFIFOCON .address n) (Register.Control n) (all-carried .control n l h) (ram-low (CiFIFOCON .address n) 4 (omega arith)) (omega arith)
+
+  -- the queue's registers and CiCON
+  module _ (a : ℕ) (r : Register) (is : registerAt a ≡ Place.Is r) (low : a < 0x400) where
+    pub hear-low : spoken (Ask.Read a 4) b c ≡ hears Answer.Exchanged (leBytes (wordOf c r)) c
+    hear-low = hear-register a r is (ram-low a 4 low) (omega arith)
+
+    pub tell-low : (w : ℕ) → w < 2 ^ 32 → spoken (Ask.Word a w) b c ≡ hearing (doneWriting (registerWritten c r w))
+    tell-low = tell-register a r is (ram-low a 4 low) (omega arith)
+
+  pub hear-enabled : spoken (Ask.Read (CiCON .address 0) 4) b c ≡ hears Answer.Exchanged (leBytes (wordOf c Register.Con)) c
+  hear-enabled = hear-low (CiCON .address 0) Register.Con (all-carried .con) (omega arith)
+
+  pub hear-queue : spoken (Ask.Read (CiFIFOCON .address 0) 4) b c ≡ hears Answer.Exchanged (leBytes (wordOf c Register.QueueControl)) c
+  hear-queue = hear-low (CiFIFOCON .address 0) Register.QueueControl (all-carried .queueControl) (omega arith)
+
+  pub hear-queue-status : spoken (Ask.Read (CiFIFOSTA .address 0) 4) b c ≡ hears Answer.Exchanged (leBytes (wordOf c Register.QueueStatus)) c
+  hear-queue-status = hear-low (CiFIFOSTA .address 0) Register.QueueStatus (all-carried .queueStatus) (omega arith)
+
+  pub hear-queue-address : spoken (Ask.Read (CiFIFOUA .address 0) 4) b c ≡ hears Answer.Exchanged (leBytes (wordOf c Register.QueueAddress)) c
+  hear-queue-address = hear-low (CiFIFOUA .address 0) Register.QueueAddress (all-carried .queueAddress) (omega arith)
+
+  pub tell-queue : (w : ℕ) → w < 2 ^ 32 → spoken (Ask.Word (CiFIFOCON .address 0) w) b c ≡ hears Answer.Exchanged [] (queueWritten c w)
+  unfolding registerWritten
+  tell-queue = tell-low (CiFIFOCON .address 0) Register.QueueControl (all-carried .queueControl) (omega arith)
+
+  -- a FIFO's control word, or the queue's
+  pub hear-any : (n : ℕ) → n ≤ 31 → (x : ℕ) × (spoken (Ask.Read (CiFIFOCON .address n) 4) b c ≡ hears Answer.Exchanged (leBytes x) c)
+  hear-any zero h = (_, hear-queue)
+  hear-any (suc n) h = (_, hear-control (suc n) (fifo-is (suc n) (omega arith) h))
+
+  pub tell-any : (n : ℕ) → n ≤ 31 → (w : ℕ) → w < 2 ^ 32 → (d : Model) × (spoken (Ask.Word (CiFIFOCON .address n) w) b c ≡ hears Answer.Exchanged [] d)
+  tell-any zero h w l = (_, tell-queue w l)
+  tell-any (suc n) h w l = (_, tell-control (suc n) (fifo-is (suc n) (omega arith) h) w l)
 
   module _ (x k : ℕ) (h : x + k ≤ 2048) (four : k % 4 ≡ 0) where
     pub hear-ram : spoken (Ask.Read (x + 0x400) k) b c ≡ hears Answer.Exchanged (part (c .ram) x k) c

@@ -13,6 +13,7 @@ use borrow.Author.Tests.{ltb-false, leb-false}
 use Rattle.laws.specs.If.{if_then_else_}
 use Rattle.laws.proofs.Choice.{by-if}
 use Rattle.laws.proofs.Table.{both}
+use Rattle.parts.specs.Parts.{part}
 use Rattle.field.specs.Field.{flag}
 use Rattle.fifo.specs.Control.{TXREQ, isFifo}
 use Rattle.spi.specs.declared.refusal.Refusal.{Refusal}
@@ -22,8 +23,14 @@ use Rattle.message.specs.Message.{Message, arrivalCheck, Decoding, holds, decod
 use Rattle.ring.specs.declared.ring.Fifo.{Fifo}
 use Rattle.ring.specs.Ring.{sending, depth, place, claimed, taken, controlled, overflowed, sent}
 use Rattle.ring.specs.Layout.{stamped, size}
+use Rattle.ring.specs.declared.queue.Queue.{Queue}
+use Rattle.ring.specs.Queue as queue
+use Rattle.ring.specs.Queue.{full}
+use Rattle.ring.proofs.Gathers.{sent-shown}
+use Rattle.ring.proofs.Queues.{shows}
 use Rattle.state.specs.declared.Model.{Model}
-use Rattle.state.specs.Model.{fifoAt, frozenAt, withFifo, written}
+use Rattle.state.specs.Model.{fifoAt, frozenAt, withFifo, withQueue, written}
+use Rattle.bank.specs.Registers.{queueShown}
 use Rattle.bus.specs.declared.arrival.Delivery.{Delivery}
 use Rattle.bus.specs.declared.arrival.Delivered.{Delivered}
 use Rattle.bus.specs.Held.{slotOf, itemAt, held}
@@ -31,16 +38,19 @@ use Rattle.bus.specs.Bus.{nothing, refused, outputOf, sends, sendOutput, sendMo
 use Rattle.bus.proofs.Laws.{sends-one}
 use Rattle.filters.specs.Filters.{filterCount}
 use Rattle.bus.specs.Sort.{filterFor, targetFor, sortOf}
+use Rattle.bus.specs.Queue.{winner, queueSends, queueOutput, queueModel}
+use Rattle.bus.proofs.QueueLaws.{queue-winner}
 use Rattle.bus.proofs.Arriving.{by-deliver, by-give, receives-is}
 use Rattle.bus.proofs.Fitting.{object-fits}
 use Rattle.bus.proofs.Sorts.{by-sort}
-use Rattle.reach.specs.Bus.{Bus, Send, Deliver, Sort, stepped}
+use Rattle.reach.specs.Bus.{Bus, Send, SendQueue, Deliver, Sort, stepped}
 use Rattle.reach.proofs.Arrivals.{coming-back}
 pub use Rattle.bus.proofs.Fitting.{payload-whole}
-use Rattle.history.specs.History.{Said, left, arrived, says}
+use Rattle.history.specs.History.{Said, left, leftQueue, arrived, says}
 use Rattle.history.specs.Lists.{accepted, acceptedIn, handedOut, handedOutIn, only}
 use Rattle.history.proofs.Sound.{Sound}
 use Rattle.history.proofs.Slots.{same?, SlotStays, slot-like, item-like, filled, filled-part, filled-held, filled-item, filled-sound, next-head, next-count}
+use Rattle.history.proofs.QueueSlots.{queue-held, queue-slot-of, queue-item-at, filled-shown, sent-open}
 use Rattle.history.proofs.Slots.{other-head, other-count, kept-head, kept-count, kept-held, more-held, less-count, less-slot, less-own, less-held}
 
 -- ---- the lists
@@ -88,6 +98,16 @@ oldest c s t l n h some =
 
 -- ---- what a bus step leaves
 
+-- of a queue that is not full: a free slot, the same one shown, and that one's bytes
+pub record ShownStays (c d : Model) : Type 0 where
+  pub free : full (frozenAt d 0) (d .queue) ≡ false
+  pub shown : d .queue .shown ≡ c .queue .shown
+  pub bytes : part (d .ram) (queueShown c) (size (frozenAt c 0)) ≡ part (c .ram) (queueShown c) (size (frozenAt c 0))
+
+-- the queue and RAM as they were
+same-shown : (c : Model) → full (frozenAt c 0) (c .queue) ≡ false → ShownStays c c
+same-shown c f = record { free = f; shown = refl; bytes = refl }
+
 pub record Later (c d : Model) : Type 0 where
   pub fixed : d .fixed ≡ c .fixed
   pub setup : d .setup ≡ c .setup
@@ -101,6 +121,7 @@ pub record Later (c d : Model) : Type 0 where
   pub get-some : (n : ℕ) → isFifo n ≡ true → sending (frozenAt c n) ≡ false → fifoAt c n .count ≤ fifoAt d n .count
   pub get-slot : (n : ℕ) → isFifo n ≡ true → sending (frozenAt c n) ≡ false → slotOf d n 0 ≡ slotOf c n 0
   pub get-part : (n : ℕ) → isFifo n ≡ true → sending (frozenAt c n) ≡ false → 0 < fifoAt c n .count → SlotStays c d n 0
+  pub queue : c .fixed .queue ≡ true → full (frozenAt c 0) (c .queue) ≡ false → ShownStays c d
 
 pub later-same : (c : Model) → Later c c
 later-same c = record {
@@ -112,6 +133,7 @@ later-same c = record {
   get-some = λ n h e. omega arith;
   get-slot = λ n h e. refl;
   get-part = λ n h e f. refl;
+  queue = λ on f. same-shown c f;
 }
 
 -- one FIFO becomes another with the same ring
@@ -131,6 +153,7 @@ later-kept c s k h g eh ec =
       get-some = λ n i e. omega (arith, count n);
       get-slot = λ n i e. slot n 0;
       get-part = λ n i e f. refl;
+      queue = λ on f. record { free = f; shown = refl; bytes = refl };
     }
 
 -- a FIFO does not both send and receive
@@ -166,6 +189,7 @@ module _ (c : Model) (s : Sound c) (k : ℕ) (h : isFifo k ≡ true) (t : sendin
     get-some = λ n i e. omega (arith, other-count c s k h g n (λ j. differ c k n t e (sym j)));
     get-slot = λ n i e. slot-like c less n refl 0 (other-head c s k h g n (λ j. differ c k n t e (sym j)));
     get-part = λ n i e f. refl;
+    queue = λ on f. record { free = f; shown = refl; bytes = refl };
   }
 
 -- an object is appended to a FIFO that receives
@@ -195,6 +219,7 @@ module _ (c : Model) (s : Sound c) (k : ℕ) (h : isFifo k ≡ true) (t : sendin
             slot-like c more n refl 0 (same? n k (λ j. rw j (next-head c s k h g)) (other-head c s k h g n));
         get-part = λ n i e f.
             filled-part c s k h free bs fits n 0 i (omega (arith, s .valid .fifo n .count)) (λ j x. let f′ : 0 < fifoAt c k .count = rw j at f in omega arith);
+        queue = λ on f. record { free = f; shown = refl; bytes = filled-shown c s k h free bs fits on };
       }
 
 -- ---- each bus step
@@ -309,8 +334,30 @@ module _ (c : Model) (s : Sound c) where
       (λ t e z. unmoved 0 header dlc time payload _ (λ j. only-none j 0)) (λ t e z g. unmoved 0 header dlc time payload _ (λ j. only-none j 0))
       (λ t e z g. give-step n header dlc time payload small (filterFor c header) (leb-false filterCount (filterFor c header) g))
 
+-- a send from the queue: no FIFO changes, and where a slot is free the one shown stays
+queue-step : (c : Model) → Sound c → (b : Bool) → queueSends c ≡ b
+    → Step c (leftQueue (queueOutput c)) (if b then withQueue c (queue.sent (frozenAt c 0) (winner c) (c .queue)) else c)
+queue-step c s false e = quiet-step c c _ (λ j. refl) (λ j. refl) (λ j. refl) (later-same c)
+queue-step c s true e =
+    let b = queue-winner c e in
+    let g : Queue = queue.sent (frozenAt c 0) (winner c) (c .queue) in
+    let d : Model = withQueue c g in
+    quiet-step c d _ (λ j. refl) (λ j. refl) (λ j. queue-held c g j)
+    (record {
+      fixed = refl;
+      setup = refl;
+      send-room = λ n h x. omega arith;
+      send-slot = λ n h x f. queue-slot-of c g n _;
+      send-item = λ n h x f. queue-item-at c g n _;
+      get-some = λ n h x. omega arith;
+      get-slot = λ n h x. queue-slot-of c g n 0;
+      get-part = λ n h x f. refl;
+      queue = λ on f. record { free = sent-open c s (winner c) (b .lt) f; shown = sent-shown (frozenAt c 0) (winner c) (c .queue) ∙ shows (frozenAt c 0) (c .queue) .stays f (winner c); bytes = refl };
+    })
+
 pub bus-good : (c : Model) → Sound c → (t : List Said) → Listed c t → (b : Bus) → Good c b
-unfolding stepped sendOutput sendModel
+unfolding stepped sendOutput sendModel queueModel
 bus-good c s t l (Send n) = send-step c s t l n (isFifo n) (sends c n) refl refl
+bus-good c s t l SendQueue = queue-step c s (queueSends c) refl
 bus-good c s t l (Deliver n header dlc time payload) = deliver-step c s n header dlc (time % 2 ^ 32) payload (mod-lt time (omega arith))
 bus-good c s t l (Sort header dlc time payload) = sort-step c s header dlc (time % 2 ^ 32) payload (mod-lt time (omega arith))

@@ -10,10 +10,10 @@ use Rattle.call.specs.declared.Outcome.{Outcome}
 use Rattle.tx_fifo.specs.PushAt.{PushAt}
 use Rattle.state.specs.declared.Fixed.{Fixed}
 use Rattle.state.specs.declared.Model.{Model}
-use Rattle.reach.specs.Bus.{Bus, Send, Deliver, Sort, stepped}
+use Rattle.reach.specs.Bus.{Bus, Send, SendQueue, Deliver, Sort, stepped}
 use Rattle.reach.proofs.Kept.{bus-valid}
 use Rattle.history.specs.Command.{Command}
-use Rattle.history.specs.History.{Event, Exchange, On, Said, called, left, arrived, Doing, idle, World, says, event, after}
+use Rattle.history.specs.History.{Event, Exchange, On, Said, called, left, leftQueue, arrived, Doing, idle, World, says, event, after}
 use Rattle.history.specs.Demand.{buses, calm, atStatus, calls}
 use Rattle.history.proofs.Sound.{Sound}
 use Rattle.history.proofs.Bus.{Listed, lists-snoc, Later, bus-good}
@@ -51,12 +51,14 @@ unfolding calls
 calls-append [] t = refl
 calls-append (called k o buf ∷ s) t = ap (λ (r : List Said). called k o buf ∷ r) (calls-append s t)
 calls-append (left k o ∷ s) t = calls-append s t
+calls-append (leftQueue o ∷ s) t = calls-append s t
 calls-append (arrived k m d ∷ s) t = calls-append s t
 
 -- a bus step is no call
 no-call : (b : Bus) (c : Model) (t : List Said) → calls (says b c ∷ t) ≡ calls t
 unfolding calls
 no-call (Send n) c t = refl
+no-call SendQueue c t = refl
 no-call (Deliver n header dlc time payload) c t = refl
 no-call (Sort header dlc time payload) c t = refl
 

@@ -37,7 +37,7 @@ use Rattle.driver.specs.Step.{askAt, askOf, stepAt, stepOf, outcomeAt, outcomeO
 use Rattle.driver.specs.Send.{bodyOf}
 use Rattle.driver.specs.Start.{ofRegister, ofRam, ofPlan, ofPush, ofTransmit, ofFetch, ofScrub}
 use Rattle.state.specs.declared.Model.{Model}
-use Rattle.reach.specs.Bus.{Bus, Send, Deliver, Sort}
+use Rattle.reach.specs.Bus.{Bus, Send, SendQueue, Deliver, Sort}
 use Rattle.history.specs.Command.{Look, Command, looks, started}
 use Rattle.history.specs.History.{Event, Begin, Exchange, Fail, On, Said, Heard, Doing, idle, busy, World, heard, halfway, isOver, settled, goesOn, says, event, after}
 use Rattle.history.specs.Demand.{Each}
@@ -194,6 +194,10 @@ push-tells (PushAt.Status w) = refl
 push-tells (PushAt.Address w) = refl
 push-tells (PushAt.Write w m) = refl
 push-tells (PushAt.Commit w) = refl
+push-tells PushAt.Enabled = refl
+push-tells PushAt.BareAddress = refl
+push-tells (PushAt.BareWrite m) = refl
+push-tells PushAt.BareControl = refl
 push-tells PushAt.Done = refl
 push-tells (PushAt.Refused r) = refl
 
@@ -281,6 +285,7 @@ module _ (t : List Said) (e : Each TellsNone t) where
 
 bus-none : (b : Bus) (c : Model) → TellsNone (says b c)
 bus-none (Send n) c = tt
+bus-none SendQueue c = tt
 bus-none (Deliver n header dlc time payload) c = tt
 bus-none (Sort header dlc time payload) c = tt
 

@@ -19,6 +19,7 @@ sets-at-door (Setting.FilterOff f) = refl
 sets-at-door (Setting.Osc o) = refl
 sets-at-door (Setting.Io c) = refl
 sets-at-door (Setting.BitTiming b) = refl
+sets-at-door (Setting.TxQueue q) = refl
 
 pub starts-at-door : StartsAtDoor
 starts-at-door (Command.Push n header seq payload) = refl

@@ -51,7 +51,9 @@ use Rattle.history.proofs.Fetching.{plain}
 use Rattle.history.proofs.Fetching as reading
 use Rattle.history.proofs.Fetchings.{fetched, fetching, turned, failed, still, over}
 use Rattle.history.proofs.Mid.{Receives, Some, Oldest, Has, FetchMid}
-use Rattle.history.proofs.Inv.{Lent, FetchAsked, fetches, Inv, goes-on, says-more, silent-out}
+use Rattle.history.proofs.QueueLists.{queue-quiet}
+use Rattle.history.proofs.QueueSlots.{fifo-queue}
+use Rattle.history.proofs.Inv.{Lent, FetchAsked, fetches, Tale, Inv, goes-on, says-more, silent-out}
 use Rattle.history.proofs.Kept.{spoken-sound}
 
 -- ---- what is said
@@ -67,6 +69,12 @@ accepts-none : (want : Want) (n : ℕ) (buf : List ℕ) (o : Outcome) (b : List 
 accepts-none Want.HasNext n buf o b j = refl
 accepts-none Want.Peek n buf o b j = refl
 accepts-none Want.Get n buf o b j = refl
+
+-- nothing is queued
+queues-none : (want : Want) (n : ℕ) (buf : List ℕ) (o : Outcome) (b : List ℕ) → queuedIn (called (fetched want n buf) o b) ≡ []
+queues-none Want.HasNext n buf o b = refl
+queues-none Want.Peek n buf o b = refl
+queues-none Want.Get n buf o b = refl
 
 -- nothing is handed out
 abbrev GivesNone : Want → ℕ → List ℕ → Outcome → Type 0
@@ -106,7 +114,7 @@ increased-taken frozen g r some = rw (r, lt-ltb 0 (g .count) some)
 
 -- ---- each exchange
 
-module _ (X : ℕ → Type 0) (c : Model) (o : Sound c) (q : Asked X c) (t : List Said) (l : Listed c t) (e : Each TellsWell t)
+module _ (X : ℕ → Type 0) {U : Type 0} (c : Model) (o : Sound c) (q : Asked X c) (t : List Said) (l : Listed c t) (e : Tale U c t)
     (want : Want) (n : ℕ) (buf : List ℕ) (p : Plan) (u : Pushes) where
   abbrev k : Command
   k = fetched want n buf
@@ -115,24 +123,24 @@ module _ (X : ℕ → Type 0) (c : Model) (o : Sound c) (q : Asked X c) (t : Lis
   at held a = fetching want n held a p u
 
   abbrev After : Model → List ℕ → List ℕ → FetchAt → Type 0
-  After d held rx a = Inv X (settled d t k (at held a) rx)
+  After d held rx a = Inv X U (settled d t k (at held a) rx)
 
   abbrev saidAt : List ℕ → FetchAt → Said
   saidAt held a = called k (found.outcomeAt a held) (found.filled held (found.sizeAt a) (lent k))
 
   -- it is over
-  ends : (d : Model) (held rx : List ℕ) (a : FetchAt) → Sound d → Asked X d → isOver (found.outcomeAt a held) ≡ true → Moves c (saidAt held a) d
+  ends : (d : Model) (held rx : List ℕ) (a : FetchAt) → Sound d → Asked X d → isOver (found.outcomeAt a held) ≡ true → Moves c (saidAt held a) d → heldQueue d ≡ heldQueue c
       → Ordinary (found.outcomeAt a held) → After d held rx a
-  ends d held rx a s y x m w =
+  ends d held rx a s y x m hq w =
       rw (over want n buf held a p u t d rx x)
-      (says-more X c t l e d idle (saidAt held a) s y m (told-ordinary want n buf (found.outcomeAt a held) w) tt)
+      (says-more X c t l e d idle (saidAt held a) s y m (λ v. queue-quiet c d (saidAt held a) hq (queues-none want n buf (found.outcomeAt a held) _) refl) (told-ordinary want n buf (found.outcomeAt a held) w) tt)
 
   -- and nothing was handed out
   shows : (held rx : List ℕ) (a : FetchAt) → isOver (found.outcomeAt a held) ≡ true → GivesNone want n buf (found.outcomeAt a held)
       → Ordinary (found.outcomeAt a held) → After c held rx a
   shows held rx a x y w =
       let filled : List ℕ = found.filled held (found.sizeAt a) (lent k) in
-      ends c held rx a o q x (quiet c c (saidAt held a) (accepts-none want n buf (found.outcomeAt a held) filled) (y filled) (λ j. refl)) w
+      ends c held rx a o q x (quiet c c (saidAt held a) (accepts-none want n buf (found.outcomeAt a held) filled) (y filled) (λ j. refl)) refl w
 
   refuses : (held rx : List ℕ) (r : Refusal) → NotCaused r → After c held rx (FetchAt.Refused r)
   refuses held rx r w = shows held rx (FetchAt.Refused r) refl (λ b j. silent-out j k (Outcome.Refused r) b refl) w
@@ -149,7 +157,7 @@ module _ (X : ℕ → Type 0) (c : Model) (o : Sound c) (q : Asked X c) (t : Lis
     stays : (held : List ℕ) → length held ≡ 64 → (rx : List ℕ) (a : FetchAt) → found.outcomeAt a held ≡ Outcome.Running → FetchMid c want n held a → FetchAsked (X n) a → After c held rx a
     stays held h rx a x g z =
         rw (still want n buf held a p u t c rx x)
-        (goes-on X c t l e c k (at held a) o q (λ j. refl) (fetches want n buf held a p u i b h g z refl refl))
+        (goes-on X c t l e c k (at held a) o q (λ j. refl) refl (fetches want n buf held a p u i b h g z refl refl))
 
     -- the oldest slot is in RAM
     room : slotOf c n 0 + size (frozenAt c n) ≤ 2048
@@ -161,7 +169,7 @@ module _ (X : ℕ → Type 0) (c : Model) (o : Sound c) (q : Asked X c) (t : Lis
 
     module _ (held : List ℕ) (h : length held ≡ 64) where
       abbrev Exchanged : FetchAt → Type 0
-      Exchanged a = Inv X (goesOn t k (at held a) (heard true (at held a) c))
+      Exchanged a = Inv X U (goesOn t k (at held a) (heard true (at held a) c))
 
       reads-control : Exchanged FetchAt.Control
       reads-control =
@@ -258,7 +266,7 @@ module _ (X : ℕ → Type 0) (c : Model) (o : Sound c) (q : Asked X c) (t : Lis
               rw (turned want n held (FetchAt.Commit w f) p u t k c [] d _ tells (fetch-commit want f w))
               (ends d held [] (FetchAt.Done f) (spoken-sound _ [] c o _ tells refl) (next-asked c o n i one X q (λ x. ea ∙ z x)) refl
               (λ j x. rw (accepts-none want n buf _ _ j, hands-out j, map-only j n m)
-              (append-nil _ ∙ less-held c o n i one (ap (λ (x : ℕ). place (depth fr) x 1) eh) (ap (λ (x : ℕ). x - 1) ec) (old .some) j ∙ rw (old .item))) tt)
+              (append-nil _ ∙ less-held c o n i one (ap (λ (x : ℕ). place (depth fr) x 1) eh) (ap (λ (x : ℕ). x - 1) ec) (old .some) j ∙ rw (old .item))) (fifo-queue c n one) tt)
 
       -- ---- all of them
 
@@ -302,12 +310,12 @@ module _ (X : ℕ → Type 0) (c : Model) (o : Sound c) (q : Asked X c) (t : Lis
       failed-at (FetchAt.Told next) g = absurd g
       failed-at (FetchAt.Refused r) g = absurd g
 
-      pub fetch-failed : (a : FetchAt) → FetchMid c want n held a → Inv X (goesOn t k (at held a) (heard false (at held a) c))
+      pub fetch-failed : (a : FetchAt) → FetchMid c want n held a → Inv X U (goesOn t k (at held a) (heard false (at held a) c))
       fetch-failed a g = rw (failed want n held a p u t k c, failed-at a g) (refuses (fetch.heldAt a held []) [] Refusal.SpiRead refl)
 
 -- ---- the beginning, refused or not
 
-module _ (X : ℕ → Type 0) (c : Model) (o : Sound c) (q : Asked X c) (t : List Said) (l : Listed c t) (e : Each TellsWell t) where
+module _ (X : ℕ → Type 0) {U : Type 0} (c : Model) (o : Sound c) (q : Asked X c) (t : List Said) (l : Listed c t) (e : Tale U c t) where
   abbrev Begun : Want → ℕ → List ℕ → FetchAt → Type 0
   Begun want n buf a = After X c o q t l e want n buf idlePlan idlePush c (replicate 64 0) [] a
 
@@ -325,7 +333,7 @@ module _ (X : ℕ → Type 0) (c : Model) (o : Sound c) (q : Asked X c) (t : Lis
       (λ i. by-if (Begun want n buf) (ltb (length buf) 64) (λ x. refused want n buf Refusal.BufferTooSmall refl) (λ x. begins want n buf i (b buf (ltb-false _ _ x))))
       (λ i. refused want n buf Refusal.BadNumber refl)
 
-  pub fetch-begins : (want : Want) (n : ℕ) (buf : List ℕ) → Inv X (settled c t (fetched want n buf) (started (fetched want n buf)) [])
+  pub fetch-begins : (want : Want) (n : ℕ) (buf : List ℕ) → Inv X U (settled c t (fetched want n buf) (started (fetched want n buf)) [])
   unfolding ofFetch fetch.hasNextStart fetch.lentStart fetch.firstAt
   fetch-begins Want.HasNext n buf =
       by-if (Begun Want.HasNext n buf) (isFifo n) (λ i. begins Want.HasNext n buf i tt) (λ i. refused Want.HasNext n buf Refusal.BadNumber refl)

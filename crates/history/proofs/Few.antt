@@ -27,6 +27,14 @@ module _ {A : Type 0} where
       first 4 P (λ a. first 3 (λ r. P (a ∷ r)) (λ b. first 2 (λ r. P (a ∷ b ∷ r)) (λ c. first 1 (λ r. P (a ∷ b ∷ c ∷ r))
       (λ d. first 0 (λ r. P (a ∷ b ∷ c ∷ d ∷ r)) (λ e r h. f a b c d e r)))))
 
+  pub just-six : (P : List A → Type 0) → ((a b c d e f : A) → P (a ∷ b ∷ c ∷ d ∷ e ∷ f ∷ [])) → (s : List A) → length s ≡ 6 → P s
+  just-six P h s l = five (λ r. length r ≡ 6 → P r) go s (omega (arith, l)) l
+    where
+      go : (a b c d e : A) (r : List A) → length (a ∷ b ∷ c ∷ d ∷ e ∷ r) ≡ 6 → P (a ∷ b ∷ c ∷ d ∷ e ∷ r)
+      go a b c d e [] m = let z : 5 ≡ 6 = m in absurd (omega (arith, z))
+      go a b c d e (f ∷ []) m = h a b c d e f
+      go a b c d e (f ∷ x ∷ r) m = let z : suc (suc (suc (suc (suc (suc (suc (length r))))))) ≡ 6 = m in absurd (omega (arith, z))
+
   pub seven : (P : List A → Type 0) → ((a b c d e f g : A) → P (a ∷ b ∷ c ∷ d ∷ e ∷ f ∷ g ∷ [])) → (s : List A) → length s ≡ 7 → P s
   seven P h s l =
       five (λ r. length r ≡ 7 → P r) (λ a b c d e r m. just-two (λ q. P (a ∷ b ∷ c ∷ d ∷ e ∷ q)) (h a b c d e) r (omega (arith, m))) s (omega (arith, l)) l

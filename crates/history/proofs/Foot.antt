@@ -1,4 +1,5 @@
--- Two chips that are the same but for the bytes of one place in RAM: a bus step keeps them so, since no step looks at a byte of RAM.
+-- Two chips that are the same but for the bytes of one place in RAM: a bus step keeps them so. Of RAM a step looks only at the identifiers
+-- of the messages that the queue holds.
 -- Assumes nothing.
 use Prim.Native.Nat.{ℕ, _+_, _-_, _%_, _^_, _≤_, _<_, min}
 use mathlib.Core.Path.{_≡_, refl, sym, ap, _∙_, subst}
@@ -26,7 +27,7 @@ use Rattle.bus.specs.declared.sorting.Sorted.{Sorted}
 use Rattle.bus.specs.Sort.{filterFor, targetFor, sortedBy, sortOf}
 use Rattle.bus.specs.Held.{slotOf}
 use Rattle.bus.specs.Bus.{sends, sendModel, receives, appended, give, byCheck, deliverOf}
-use Rattle.reach.specs.Bus.{Bus, Send, Deliver, Sort, stepped}
+use Rattle.reach.specs.Bus.{Bus, Send, SendQueue, Deliver, Sort, stepped}
 use Rattle.history.specs.Demand.{buses, ButFor}
 use Rattle.history.proofs.Bytes.{length-put, put-inside, byte-before, byte-within, byte-behind}
 use Rattle.history.proofs.Slots.{split}
@@ -37,8 +38,12 @@ by-both P true f g = f
 by-both P false f g = g
 
 module _ (a n : ℕ) where
+  -- the place is apart from the identifier of every message that the queue holds
+  abbrev pub Clear : Model → Type 0
+  Clear c = c .fixed .queue ≡ true → (k : ℕ) → k < queueDepth c → isHeld (c .queue) k ≡ true → Apart (queueSlot c k) 8 a n
+
   pub but-same : (c : Model) → ButFor a n c c
-  but-same c = record { fixed = refl; setup = refl; fifo = refl; long = refl; below = λ x h. refl; above = λ x h. refl }
+  but-same c = record { fixed = refl; setup = refl; fifo = refl; queue = refl; long = refl; below = λ x h. refl; above = λ x h. refl }
 
   -- bytes written into the place
   pub but-written : (c : Model) (p : ℕ) (bs : List ℕ) → a ≤ p → p + length bs ≤ a + n → a + n ≤ length (c .ram) → ButFor a n c (written c p bs)
@@ -49,6 +54,7 @@ module _ (a n : ℕ) where
         fixed = refl;
         setup = refl;
         fifo = refl;
+        queue = refl;
         long = ap length e ∙ length-put (c .ram) p bs f;
         below = λ x h. ap (λ (l : List ℕ). getD l x 0) e ∙ byte-before (c .ram) p bs f x (omega arith);
         above = λ x h. ap (λ (l : List ℕ). getD l x 0) e ∙ byte-behind (c .ram) p bs f x (omega arith);
@@ -94,11 +100,12 @@ module _ (a n : ℕ) where
   }
 
   -- the rest the same
-  near-but : (c d : Model) → d .fixed ≡ c .fixed → d .setup ≡ c .setup → d .fifo ≡ c .fifo → Near (c .ram) (d .ram) → ButFor a n c d
-  near-but c d ex es ef b = record {
+  near-but : (c d : Model) → d .fixed ≡ c .fixed → d .setup ≡ c .setup → d .fifo ≡ c .fifo → d .queue ≡ c .queue → Near (c .ram) (d .ram) → ButFor a n c d
+  near-but c d ex es ef eq b = record {
     fixed = ex;
     setup = es;
     fifo = ef;
+    queue = eq;
     long = b .long;
     below = λ x h. b .at x (λ lo hi. omega arith);
     above = λ x h. b .at x (λ lo hi. omega arith);
@@ -108,7 +115,7 @@ module _ (a n : ℕ) where
 
   module _ (c : Model) (r : List ℕ) (s : Near (c .ram) r) where
     abbrev other : Model
-    other = record { fixed = c .fixed; setup = c .setup; fifo = c .fifo; ram = r }
+    other = record { fixed = c .fixed; setup = c .setup; fifo = c .fifo; queue = c .queue; ram = r }
 
     -- answers of the two chips
     abbrev Told : (x y : Delivered) → Type 0
@@ -116,10 +123,10 @@ module _ (a n : ℕ) where
 
     -- the same change of a FIFO
     fifo-but : (j : ℕ) (g : Fifo) → ButFor a n (withFifo c j g) (withFifo other j g)
-    fifo-but j g = near-but (withFifo c j g) (withFifo other j g) refl refl refl s
+    fifo-but j g = near-but (withFifo c j g) (withFifo other j g) refl refl refl refl s
 
     same-but : ButFor a n c other
-    same-but = near-but c other refl refl refl s
+    same-but = near-but c other refl refl refl refl s
 
     sends-same : (j : ℕ) → sends other j ≡ sends c j
     unfolding sends
@@ -136,7 +143,7 @@ module _ (a n : ℕ) where
         (by-both Told (not (receives c j)) same-but
         (by-both Told (ltb (payloadOf (frozenAt c j)) len) same-but
         (by-both Told (leb (depth (frozenAt c j)) (fifoAt c j .count)) (fifo-but j (overflowed true (fifoAt c j)))
-        (near-but _ _ refl refl refl (stored-near (c .ram) r s (slotOf c j (fifoAt c j .count)) bs)))))
+        (near-but _ _ refl refl refl refl (stored-near (c .ram) r s (slotOf c j (fifoAt c j .count)) bs)))))
 
     give-but : (j hit d : ℕ) (header : Header) (time : ℕ) (payload : List ℕ) → Told (give c j hit d header time payload) (give other j hit d header time payload)
     unfolding give
@@ -164,18 +171,73 @@ module _ (a n : ℕ) where
     unfolding sortOf
     sort-but header dlc time payload = sorts-but (arrivalCheck header dlc (length payload)) header dlc time payload
 
-    step-near : (b : Bus) → ButFor a n (stepped b c) (stepped b other)
+    -- the identifier's bytes at a place apart are the same
+    rank-near : (p : ℕ) → Apart p 8 a n → rankAt r p ≡ rankAt (c .ram) p
+    unfolding leAt
+    rank-near p o =
+        let f : (i : ℕ) → i < 8 → getD r (p + i) 0 ≡ getD (c .ram) (p + i) 0 = λ i h. s .at (p + i) (off p i h o) in
+        let g : getD r p 0 ≡ getD (c .ram) p 0 = rw add-zero at (f 0 (omega arith)) in
+        let e : (i : ℕ) → p + 4 + i ≡ p + (4 + i) = λ i. omega arith in
+        rw (g, f 1 (omega arith), f 2 (omega arith), f 3 (omega arith), f 4 (omega arith), e 1, f 5 (omega arith), e 2, f 6 (omega arith), e 3, f 7 (omega arith))
+      where
+        off : (p i : ℕ) → i < 8 → Apart p 8 a n → a ≤ p + i → p + i < a + n → ⊥
+        off p i h (before x) lo hi = omega arith
+        off p i h (behind x) lo hi = omega arith
+
+    module _ (clear : Clear c) where
+      winner-near : c .fixed .queue ≡ true → winner other ≡ winner c
+      unfolding winner queueRank queueSlot
+      winner-near on =
+          best-same (isHeld (c .queue)) (queueRank other) (queueRank c) 0 (queueDepth c) (λ j x y z. rank-near (queueSlot c j) (clear on j (omega arith) z))
+
+      queue-but : (b : Bool) → c .fixed .queue ≡ b → ButFor a n (queueModel c) (queueModel other)
+      unfolding queueModel queueSends
+      queue-but false e = rw e same-but
+      queue-but true e =
+          rw (winner-near e)
+          (by-both (ButFor a n) (c .fixed .queue && flag TXREQ (c .queue .control) && ltb (winner c) noSlot)
+          (near-but (withQueue c (queue.sent (frozenAt c 0) (winner c) (c .queue))) (withQueue other (queue.sent (frozenAt c 0) (winner c) (c .queue))) refl refl refl refl s) same-but)
+
+    step-near : Clear c → (b : Bus) → ButFor a n (stepped b c) (stepped b other)
     unfolding stepped
-    step-near (Send j) = send-but j
-    step-near (Deliver j header dlc time payload) = deliver-but j header dlc (time % 2 ^ 32) payload
-    step-near (Sort header dlc time payload) = sort-but header dlc (time % 2 ^ 32) payload
+    step-near clear SendQueue = queue-but clear (c .fixed .queue) refl
+    step-near clear (Send j) = send-but j
+    step-near clear (Deliver j header dlc time payload) = deliver-but j header dlc (time % 2 ^ 32) payload
+    step-near clear (Sort header dlc time payload) = sort-but header dlc (time % 2 ^ 32) payload
 
-  pub but-step : (c d : Model) → ButFor a n c d → (b : Bus) → ButFor a n (stepped b c) (stepped b d)
-  but-step c d x b =
-      let e : other c (d .ram) (ram-near c d x) ≡ d = λ i. record { fixed = sym (x .fixed) i; setup = sym (x .setup) i; fifo = sym (x .fifo) i; ram = d .ram } in
-      subst (λ (y : Model). ButFor a n (stepped b c) (stepped b y)) e (step-near c (d .ram) (ram-near c d x) b)
+  -- no step holds another slot of the queue
+  module _ (c : Model) (clear : Clear c) where
+    abbrev Well : Delivered → Type 0
+    Well d = Clear (d .model)
 
-  pub but-buses : (bs : List Bus) (c d : Model) → ButFor a n c d → ButFor a n (buses bs c) (buses bs d)
+    give-clear : (j hit d : ℕ) (header : Header) (time : ℕ) (payload : List ℕ) → Well (give c j hit d header time payload)
+    unfolding queueSlot
+    give-clear j hit d header time payload =
+        by-give c j header d time payload Well hit (λ a. clear) (λ a b. clear) (λ a b x. clear) (λ a b x y. clear) (λ a b x y. clear)
+
+    sent-clear : Clear (withQueue c (queue.sent (frozenAt c 0) (winner c) (c .queue)))
+    unfolding queueSlot
+    sent-clear on k l h =
+        clear on k l
+        (at-set (λ i x. eqb x 1 ≡ true → isHeld (c .queue) i ≡ true) (c .queue .held) (winner c) 0 0 (λ z. absurd (false≢true z)) (λ i z. z) k
+        (ap (λ (x : List ℕ). eqb (getD x k 0) 1) (sym (sent-flags (frozenAt c 0) (c .queue) (winner c))) ∙ h))
+
+    step-clear : (b : Bus) → Clear (stepped b c)
+    unfolding stepped sendModel queueModel queueSlot
+    step-clear (Send j) = by-if Clear (isFifo j && sends c j) (λ e. clear) (λ e. clear)
+    step-clear SendQueue = by-if Clear (queueSends c) (λ e. sent-clear) (λ e. clear)
+    step-clear (Deliver j header dlc time payload) =
+        by-deliver c j header dlc (time % 2 ^ 32) payload Well (λ i. clear) (λ i t. clear) (λ i t d. clear) (λ i t e w. give-clear j 0 dlc header (time % 2 ^ 32) payload)
+    step-clear (Sort header dlc time payload) =
+        by-sort c header dlc (time % 2 ^ 32) payload (λ x. Clear (x .model)) (λ t. clear) (λ t e. clear) (λ t e z. clear) (λ t e z g. clear)
+        (λ t e z g w. give-clear (targetFor c (filterFor c header)) (filterFor c header) dlc header (time % 2 ^ 32) payload)
+
+  pub but-step : (c d : Model) → Clear c → ButFor a n c d → (b : Bus) → ButFor a n (stepped b c) (stepped b d)
+  but-step c d clear x b =
+      let e : other c (d .ram) (ram-near c d x) ≡ d = λ i. record { fixed = sym (x .fixed) i; setup = sym (x .setup) i; fifo = sym (x .fifo) i; queue = sym (x .queue) i; ram = d .ram } in
+      subst (λ (y : Model). ButFor a n (stepped b c) (stepped b y)) e (step-near c (d .ram) (ram-near c d x) clear b)
+
+  pub but-buses : (bs : List Bus) (c d : Model) → Clear c → ButFor a n c d → ButFor a n (buses bs c) (buses bs d)
   unfolding buses
-  but-buses [] c d x = x
-  but-buses (b ∷ bs) c d x = but-buses bs (stepped b c) (stepped b d) (but-step c d x b)
+  but-buses [] c d clear x = x
+  but-buses (b ∷ bs) c d clear x = but-buses bs (stepped b c) (stepped b d) (step-clear c clear b) (but-step c d clear x b)

@@ -36,10 +36,10 @@ use Rattle.bus.proofs.Laws.{oldest-sent}
 use Rattle.bus.specs.Sort.{filterFor, targetFor}
 use Rattle.bus.proofs.Arriving.{by-deliver, by-give, receives-is}
 use Rattle.bus.proofs.Sorts.{by-sort}
-use Rattle.reach.specs.Bus.{Bus, Send, Deliver, Sort, stepped}
+use Rattle.reach.specs.Bus.{Bus, Send, SendQueue, Deliver, Sort, stepped}
 use Rattle.history.specs.Command.{Command, Request, Transmit, started}
 use Rattle.history.specs.History.{Event, Begin, On, Said, idle, World, event, after}
-use Rattle.history.specs.Demand.{world, calm, buses, atStatus, Takes, Requested, NoRewrite, SendsOldest, OldestGoes, TakesLast, LastStays, GoesOut, RequestSends, TransmitSends}
+use Rattle.history.specs.Demand.{world, calm, buses, atStatus, Takes, Requested, Lasts, SendsOldest, OldestGoes, TakesLast, LastStays, GoesOut, RequestSends, TransmitSends}
 use Rattle.history.proofs.Sound.{Sound, Asked}
 use Rattle.history.proofs.Few.{just-two, seven}
 use Rattle.history.proofs.Slots.{next-fifo, next-asked}
@@ -84,8 +84,9 @@ module _ (n : ℕ) (c : Model) (o : Sound c) (q : Asked (Only n) c) where
       (λ a b x y. next-asked c o k (receives-is c k b .0) (claimed (fifoAt c k)) (Only n) q (q k))
 
   bus-asked : (b : Bus) → (TakesLast n (On b) c → ⊥) → Asked (Only n) (stepped b c)
-  unfolding stepped
+  unfolding stepped queueModel
   bus-asked (Send k) last = send-asked k last
+  bus-asked SendQueue last = by-if (Asked (Only n)) (queueSends c) (λ e. q) (λ e. q)
   bus-asked (Deliver k header dlc time payload) last =
       by-deliver c k header dlc (time % 2 ^ 32) payload Well (λ i. q) (λ i t. q) (λ i t d. q) (λ i t e w. give-asked k 0 dlc header (time % 2 ^ 32) payload)
   bus-asked (Sort header dlc time payload) last =
@@ -94,12 +95,12 @@ module _ (n : ℕ) (c : Model) (o : Sound c) (q : Asked (Only n) c) where
 
 -- ---- any events of which none is
 
-run-stands : (n : ℕ) (es : List Event) (v : World) → NoRewrite es v → Inv (Only n) v → LastStays n es v → Inv (Only n) (after es v)
+run-stands : (n : ℕ) (es : List Event) (v : World) → Lasts es v → Inv (Only n) ⊥ v → LastStays n es v → Inv (Only n) ⊥ (after es v)
 unfolding after
 run-stands n [] v r i l = i
 run-stands n (e ∷ es) v r i (last, l) =
     run-stands n es _ (r .1)
-    (event-keeps (Only n) e (v .doing) (v .chip) (v .said) (r .0) i
+    (event-keeps (Only n) ⊥ e (v .doing) (v .chip) (v .said) (r .0) i
     (λ b x. bus-asked n (v .chip) (i .sound) (i .asked) b (subst (λ (y : Event). TakesLast n y (v .chip) → ⊥) x last)))
     l
 
@@ -109,7 +110,7 @@ requested-is : (c : Model) (n : ℕ) → read TXREQ (wordOf c (Register.Control 
 unfolding wordOf
 requested-is c n = control-off TXREQ (frozenAt c n) (fifoAt c n) refl
 
-module _ (X : ℕ → Type 0) (v : World) (inv : Inv X v) (n : ℕ) (i : isFifo n ≡ true) (tx : sending (frozenAt (v .chip) n) ≡ true)
+module _ (X : ℕ → Type 0) (U : Type 0) (v : World) (inv : Inv X U v) (n : ℕ) (i : isFifo n ≡ true) (tx : sending (frozenAt (v .chip) n) ≡ true)
     (asked : Requested (v .chip) n) (some : 0 < fifoAt (v .chip) n .count) where
   abbrev c : Model
   c = v .chip
@@ -131,25 +132,25 @@ module _ (X : ℕ → Type 0) (v : World) (inv : Inv X v) (n : ℕ) (i : isFifo 
       )
 
 pub oldest-goes : OldestGoes
-oldest-goes c w g es r n i tx asked some = sends-oldest None (world c w es) (holds-always c w g es r) n i tx asked some
+oldest-goes c w g es r n i tx asked some = sends-oldest None ⊥ (world c w es) (holds-always c w g es r) n i tx asked some
 
 -- ---- where no call is under way
 
-module _ (n : ℕ) (i : isFifo n ≡ true) (v : World) (inv : Inv None v) (e : v .doing ≡ idle) (one : read TXREQ (fifoAt (v .chip) n .control) ≡ 1) where
-  asked-now : Inv (Only n) v
+module _ (n : ℕ) (i : isFifo n ≡ true) (v : World) (inv : Inv None ⊥ v) (e : v .doing ≡ idle) (one : read TXREQ (fifoAt (v .chip) n .control) ≡ 1) where
+  asked-now : Inv (Only n) ⊥ v
   asked-now = record {
     sound = inv .sound;
     asked = λ j x. subst (λ (k : ℕ). read TXREQ (fifoAt (v .chip) k .control) ≡ 1) (sym x) one;
     lists = inv .lists;
-    tells = inv .tells;
-    doing = subst (Doings (Only n) (v .chip)) (sym e) tt;
+    tale = record { tells = inv .tale .tells; queue = λ u. absurd u };
+    doing = subst (Doings (Only n) ⊥ (v .chip)) (sym e) tt;
   }
 
   goes-out : GoesOut v n
   goes-out es r l =
       let z = run-stands n es v r asked-now l in
       let req : Requested (after es v .chip) n = requested-is (after es v .chip) n ∙ z .asked n refl in
-      (req, λ tx some. sends-oldest (Only n) (after es v) z n i tx req some)
+      (req, λ tx some. sends-oldest (Only n) ⊥ (after es v) z n i tx req some)
 
 -- ---- a request sets TXREQ
 
@@ -170,7 +171,7 @@ module _ (n : ℕ) (i : isFifo n ≡ true) (c d : Model) (o : Sound c) (s : Soun
       ∙ fa ∙ read-write TXREQ 1 seen (omega arith)
 
 -- the world after a request, alone or behind a push, whose two exchanges are answered; no call is under way then
-module _ (z : World) (inv : Inv None z) (n : ℕ) (i : isFifo n ≡ true) (c d : Model) (o : Sound c) (s : Sound d) (t : List Said)
+module _ (z : World) (inv : Inv None ⊥ z) (n : ℕ) (i : isFifo n ≡ true) (c d : Model) (o : Sound c) (s : Sound d) (t : List Said)
     (is : z ≡ record { chip = controlWritten d n (modified (requestChange n) (wordOf c (Register.Control n) % 2 ^ 32)); doing = idle; said = t }) where
   goes-from-there : GoesOut z n
   goes-from-there =
@@ -195,7 +196,7 @@ request-sends c w g es r e n i =
     let f = buses-fit b (v .chip) (v .said) (fits c w g es r) in
     let f′ = buses-fit b′ (buses b (v .chip)) _ f in
     let (s, same, is) = request-goes n i false idlePush idleFetch (alone idlePush idleFetch) b b′ [] (v .chip) (v .said) in
-    goes-from-there _ (run-keeps (Begin (Request n) ∷ calm (b ∷ b′ ∷ [])) v (call-still v e (Request n) (request-quiet n) (b ∷ b′ ∷ [])) inv) n i _ _ (f .sound) (f′ .sound) _
+    goes-from-there _ (run-keeps (Begin (Request n) ∷ calm (b ∷ b′ ∷ [])) v (call-still v e (Request n) (request-quiet n, refl) (b ∷ b′ ∷ [])) inv) n i _ _ (f .sound) (f′ .sound) _
     (request-starts-at v e n i (calm (b ∷ b′ ∷ [])) ∙ is ∙ nothing-more _))
 
 pub transmit-sends : TransmitSends
@@ -208,10 +209,10 @@ transmit-sends c w g es r e n header seq payload (bs, h) =
     (λ b₁ b₂ b₃ b₄ b₅ b b′ ok.
     let (d, s, one, is) = half-way v (fits c w g es r) e n header seq payload bs h b₁ b₂ b₃ b₄ b₅ i ok in
     let xs : List (List Bus) = b₁ ∷ b₂ ∷ b₃ ∷ b₄ ∷ b₅ ∷ [] in
-    let there = subst (Inv None) (is [] ∙ nothing-more _) (run-keeps (Begin k ∷ calm xs) v (call-still v e k (transmit-quiet n header seq payload) xs) inv) in
+    let there = subst (Inv None ⊥) (is [] ∙ nothing-more _) (run-keeps (Begin k ∷ calm xs) v (call-still v e k (transmit-quiet n header seq payload, refl) xs) inv) in
     let f = buses-fit b d s (record { sound = there .sound; lists = there .lists }) in
     let f′ = buses-fit b′ (buses b d) _ f in
     let u = pushed v (fits c w g es r) e n header seq payload bs h b₁ b₂ b₃ b₄ b₅ in
     let (s′, same, goes) = request-goes n i true u idleFetch (pushed-ready v (fits c w g es r) e n header seq payload bs h b₁ b₂ b₃ b₄ b₅) b b′ [] d s in
-    goes-from-there _ (run-keeps (Begin k ∷ calm (b₁ ∷ b₂ ∷ b₃ ∷ b₄ ∷ b₅ ∷ b ∷ b′ ∷ [])) v (call-still v e k (transmit-quiet n header seq payload) (b₁ ∷ b₂ ∷ b₃ ∷ b₄ ∷ b₅ ∷ b ∷ b′ ∷ [])) inv) n i _ _ (f .sound) (f′ .sound) _
+    goes-from-there _ (run-keeps (Begin k ∷ calm (b₁ ∷ b₂ ∷ b₃ ∷ b₄ ∷ b₅ ∷ b ∷ b′ ∷ [])) v (call-still v e k (transmit-quiet n header seq payload, refl) (b₁ ∷ b₂ ∷ b₃ ∷ b₄ ∷ b₅ ∷ b ∷ b′ ∷ [])) inv) n i _ _ (f .sound) (f′ .sound) _
     (is (b ∷ b′ ∷ []) ∙ goes ∙ nothing-more _))

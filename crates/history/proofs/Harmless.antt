@@ -9,6 +9,7 @@ use lib.ListN.{length, drop, replicate}
 use Rattle.laws.proofs.Choice.{by-if}
 use Rattle.words.specs.Words.{leBytes, leAt}
 use Rattle.field.specs.Field.{read}
+use Rattle.configuration.specs.CanControl.{CiCON, REQOP}
 use Rattle.fifo.specs.Control.{CiFIFOCON, TXREQ, isFifo}
 use Rattle.place.specs.declared.Register.{Register}
 use Rattle.place.specs.declared.Place.{Place}
@@ -44,6 +45,9 @@ Setup (Register.Mask k) = Unit {0}
 Setup (Register.Control n) = ⊥
 Setup (Register.Status n) = ⊥
 Setup (Register.Address n) = ⊥
+Setup Register.QueueControl = ⊥
+Setup Register.QueueStatus = ⊥
+Setup Register.QueueAddress = ⊥
 
 -- a is the address of such a register
 pub record Aside (a : ℕ) : Type 0 where
@@ -53,10 +57,17 @@ pub record Aside (a : ℕ) : Type 0 where
   pub outside : inRam a 4 ≡ false
   pub small : a < 2 ^ 12
 
--- a is the address of such a register, or of a FIFO's control with P to hold
-pub data Spares (a : ℕ) (P : ℕ → Type 0) : Type 0 where
-  aside : Aside a → Spares a P
-  control : (n : ℕ) → isFifo n ≡ true → a ≡ CiFIFOCON .address n → P n → Spares a P
+-- a is the address of such a register, or of a FIFO's control with P to hold, or of the queue's with Q to hold, or CiCON's with C to hold
+pub data Spares (a : ℕ) (P : ℕ → Type 0) (Q C : Type 0) : Type 0 where
+  aside : Aside a → Spares a P Q C
+  control : (n : ℕ) → isFifo n ≡ true → a ≡ CiFIFOCON .address n → P n → Spares a P Q C
+  queueControl : a ≡ CiFIFOCON .address 0 → Q → Spares a P Q C
+  con : a ≡ CiCON .address 0 → C → Spares a P Q C
+
+-- a word that may be written to CiCON outside Configuration: it does not ask to enter it
+pub record Staying (w : ℕ) : Type 0 where
+  pub small : w < 2 ^ 32
+  pub asks : read REQOP w ≡ 4 → ⊥
 
 -- X says of which FIFOs TXREQ stays 1
 module _ (X : ℕ → Type 0) where
@@ -65,10 +76,11 @@ module _ (X : ℕ → Type 0) where
   Careful n w = Gentle w × (X n → read TXREQ w ≡ 1)
 
   abbrev pub HarmlessChange : Change → Type 0
-  HarmlessChange c = Spares (c .address) (λ n. (w : ℕ) → Careful n w → Careful n (modified c w))
+  HarmlessChange c =
+      Spares (c .address) (λ n. (w : ℕ) → Careful n w → Careful n (modified c w)) ((w : ℕ) → Gentle w → Gentle (modified c w)) ((w : ℕ) → Staying w → Staying (modified c w))
 
   abbrev pub HarmlessWrite : (a w : ℕ) → Type 0
-  HarmlessWrite a w = Spares a (λ n. Careful n w)
+  HarmlessWrite a w = Spares a (λ n. Careful n w) (Gentle w) (Staying w)
 
   -- the PLL is polled; the mode is not, since it is not changed
   abbrev pub HarmlessPoll : Poll → Type 0
@@ -141,19 +153,24 @@ module _ (X : ℕ → Type 0) where
   -- ---- steps
 
   -- bytes of a word that may be written back, as far as four bytes go
-  pub record Fairly (n : ℕ) (rx : List ℕ) : Type 0 where
+  pub record Fairly (G : ℕ → Type 0) (rx : List ℕ) : Type 0 where
     pub word : ℕ
     pub bytes : rx ≡ leBytes word
-    pub careful : Careful n (word % 2 ^ 32)
+    pub careful : G (word % 2 ^ 32)
 
-  abbrev pub FairAnswer : ℕ → Answer → List ℕ → Type 0
-  FairAnswer n Answer.Exchanged rx = Fairly n rx
-  FairAnswer n Answer.Failed rx = Unit {0}
-  FairAnswer n Answer.Waited rx = Unit {0}
+  abbrev pub FairAnswer : (ℕ → Type 0) → Answer → List ℕ → Type 0
+  FairAnswer G Answer.Exchanged rx = Fairly G rx
+  FairAnswer G Answer.Failed rx = Unit {0}
+  FairAnswer G Answer.Waited rx = Unit {0}
 
-  -- where a FIFO's control is read to be changed, such a word comes back
+  -- where a control word or CiCON is read to be changed, such a word comes back
+  pub record FairRead (address : ℕ) (a : Answer) (rx : List ℕ) : Type 0 where
+    pub fifo : (n : ℕ) → isFifo n ≡ true → address ≡ CiFIFOCON .address n → FairAnswer (Careful n) a rx
+    pub queue : address ≡ CiFIFOCON .address 0 → FairAnswer Gentle a rx
+    pub mode : address ≡ CiCON .address 0 → FairAnswer Staying a rx
+
   abbrev pub FairAt : PlanAt → Answer → List ℕ → Type 0
-  FairAt (PlanAt.Read c) a rx = (n : ℕ) → isFifo n ≡ true → c .address ≡ CiFIFOCON .address n → FairAnswer n a rx
+  FairAt (PlanAt.Read c) a rx = FairRead (c .address) a rx
   FairAt (PlanAt.Write address w) a rx = Unit {0}
   FairAt (PlanAt.Poll p more) a rx = Unit {0}
   FairAt (PlanAt.Wait p more) a rx = Unit {0}
@@ -165,10 +182,10 @@ module _ (X : ℕ → Type 0) where
   abbrev pub Fair : Plan → Answer → List ℕ → Type 0
   Fair p a rx = FairAt (p .at) a rx
 
-  careful-bytes : (n : ℕ) (rx : List ℕ) → Fairly n rx → Careful n (leAt rx 0)
-  careful-bytes n rx h =
+  careful-bytes : (G : ℕ → Type 0) (rx : List ℕ) → Fairly G rx → G (leAt rx 0)
+  careful-bytes G rx h =
       let e : leAt rx 0 ≡ h .word % 2 ^ 32 = ap (λ (s : List ℕ). leAt s 0) (h .bytes) ∙ le-said (h .word) in
-      subst (Careful n) (sym e) (h .careful)
+      subst G (sym e) (h .careful)
 
   -- where an answer leads to
   abbrev HarmlessMove : Move → Type 0
@@ -187,13 +204,21 @@ module _ (X : ℕ → Type 0) where
     abbrev changed : ℕ → Move
     changed w = Move.To (PlanAt.Write (c .address) (modified c w))
 
+    -- a word of four bytes, changed
+    taken : (rx : List ℕ) → HarmlessWrite (c .address) (modified c (leAt rx 0)) → HarmlessMove (onWord stopped (wordReply failed Answer.Exchanged rx) changed)
+    taken rx h = by-if (λ (x : OneWord). HarmlessMove (onWord stopped x changed)) (eqb (length rx) 4) (λ l. h) (λ l. tt)
+
     change-harmless : (a : Answer) (rx : List ℕ) → HarmlessChange c → FairAt (PlanAt.Read c) a rx → HarmlessMove (onWord stopped (wordReply failed a rx) changed)
     change-harmless a rx (aside x) f = by-word (wordReply failed a rx) changed (λ w. aside x)
-    change-harmless Answer.Exchanged rx (control n i e h) f =
-        by-if (λ (x : OneWord). HarmlessMove (onWord stopped x changed)) (eqb (length rx) 4)
-        (λ l. control n i e (h (leAt rx 0) (careful-bytes n rx (f n i e)))) (λ l. tt)
+    change-harmless Answer.Exchanged rx (control n i e h) f = taken rx (control n i e (h (leAt rx 0) (careful-bytes (Careful n) rx (f .fifo n i e))))
+    change-harmless Answer.Exchanged rx (queueControl e h) f = taken rx (queueControl e (h (leAt rx 0) (careful-bytes Gentle rx (f .queue e))))
+    change-harmless Answer.Exchanged rx (con e h) f = taken rx (con e (h (leAt rx 0) (careful-bytes Staying rx (f .mode e))))
     change-harmless Answer.Failed rx (control n i e h) f = tt
+    change-harmless Answer.Failed rx (queueControl e h) f = tt
+    change-harmless Answer.Failed rx (con e h) f = tt
     change-harmless Answer.Waited rx (control n i e h) f = tt
+    change-harmless Answer.Waited rx (queueControl e h) f = tt
+    change-harmless Answer.Waited rx (con e h) f = tt
 
   poll-harmless : (p : Poll) (more w : ℕ) → HarmlessPoll p → HarmlessMove (afterPoll p more w)
   unfolding afterPoll

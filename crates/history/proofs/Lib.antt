@@ -4,6 +4,7 @@ pub mod Few
 pub mod Bytes
 pub mod Received
 pub mod Slots
+pub mod QueueSlots
 pub mod Bus
 pub mod Foot
 pub mod Line
@@ -11,6 +12,7 @@ pub mod Kept
 pub mod Asks
 pub mod Replies
 pub mod Harmless
+pub mod QueueReplies
 pub mod Plans
 pub mod PlanAsks
 pub mod Requests
@@ -20,8 +22,11 @@ pub mod Pushing
 pub mod Fetchings
 pub mod Planning
 pub mod Mid
+pub mod QueueLists
 pub mod Inv
 pub mod PushSteps
+pub mod QueueSteps
+pub mod BareSteps
 pub mod FetchSteps
 pub mod PlanSteps
 pub mod Calm
@@ -31,8 +36,12 @@ pub mod FetchExactly
 pub mod GotIff
 pub mod PeekKeeps
 pub mod PushFails
+pub mod QueueExactly
+pub mod QueueFails
+pub mod QueueBus
 pub mod Still
 pub mod Theorem
+pub mod Winner
 pub mod GoesOut
 pub mod Checked
 pub mod Scrubs

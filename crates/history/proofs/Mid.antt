@@ -8,7 +8,7 @@ use mathlib.Core.List.{List}
 use lib.ListN.{length}
 use Rattle.fifo.specs.Control.{isFifo}
 use Rattle.header.specs.declared.Header.{Header}
-use Rattle.message.specs.Message.{Message, bodyAt, holds}
+use Rattle.message.specs.Message.{Message, bodyAt, holds, decoding}
 use Rattle.call.specs.declared.Found.{Found}
 use Rattle.tx_fifo.specs.PushAt.{PushAt}
 use Rattle.fetch.specs.declared.Want.{Want}
@@ -16,9 +16,12 @@ use Rattle.fetch.specs.FetchAt.{FetchAt}
 use Rattle.rx_fifo.specs.Outcome.{messageOf, foundOf}
 use Rattle.ring.specs.Ring.{sending, depth}
 use Rattle.ring.specs.Layout.{stamped, size}
+use Rattle.ring.specs.Queue.{full}
+use Rattle.bank.specs.Registers.{queueShown}
 use Rattle.state.specs.declared.Model.{Model}
 use Rattle.state.specs.Model.{fifoAt, frozenAt}
 use Rattle.bus.specs.Held.{slotOf, itemAt}
+use Rattle.bus.specs.Queue.{queueDepth, queueSlot, queueItem}
 use Rattle.history.specs.Command.{Get}
 use Rattle.history.proofs.Bus.{Later}
 use Rattle.history.proofs.Fetching.{plain}
@@ -41,8 +44,51 @@ PushMid c n m bs (PushAt.Status w) = Tx c n bs w
 PushMid c n m bs (PushAt.Address w) = Tx c n bs w × Free c n
 PushMid c n m bs (PushAt.Write w a) = Tx c n bs w × Free c n × (a ≡ slotOf c n (fifoAt c n .count) + 0x400)
 PushMid c n m bs (PushAt.Commit w) = Tx c n bs w × Free c n × (itemAt c n (fifoAt c n .count) ≡ holds m)
+PushMid c n m bs PushAt.Enabled = ⊥
+PushMid c n m bs PushAt.BareAddress = ⊥
+PushMid c n m bs (PushAt.BareWrite a) = ⊥
+PushMid c n m bs PushAt.BareControl = ⊥
 PushMid c n m bs PushAt.Done = ⊥
 PushMid c n m bs (PushAt.Refused r) = ⊥
+
+-- ---- a push to the queue
+
+-- it has read the control word w: the queue is on, and the object fits a slot
+pub record QueueTx (c : Model) (bs : List ℕ) (w : ℕ) : Type 0 where
+  pub word : Gentle w
+  pub on : c .fixed .queue ≡ true
+  pub fits : length bs ≤ size (frozenAt c 0)
+
+-- a slot is free
+abbrev pub Vacant : Model → Type 0
+Vacant c = full (frozenAt c 0) (c .queue) ≡ false
+
+abbrev pub QueueMid : Model → Message → List ℕ → PushAt → Type 0
+QueueMid c m bs PushAt.Enabled = Unit {0}
+QueueMid c m bs PushAt.Control = c .fixed .queue ≡ true
+QueueMid c m bs (PushAt.Status w) = QueueTx c bs w
+QueueMid c m bs (PushAt.Address w) = QueueTx c bs w × Vacant c
+QueueMid c m bs (PushAt.Write w a) = QueueTx c bs w × Vacant c × (a ≡ queueShown c + 0x400)
+QueueMid c m bs (PushAt.Commit w) = QueueTx c bs w × Vacant c × (queueItem c (c .queue .shown) ≡ holds m)
+QueueMid c m bs PushAt.BareAddress = ⊥
+QueueMid c m bs (PushAt.BareWrite a) = ⊥
+QueueMid c m bs PushAt.BareControl = ⊥
+QueueMid c m bs PushAt.Done = ⊥
+QueueMid c m bs (PushAt.Refused r) = ⊥
+
+-- an unchecked one: its object goes into one of the queue's slots, whichever
+abbrev pub BareMid : Model → PushAt → Type 0
+BareMid c PushAt.BareAddress = Unit {0}
+BareMid c (PushAt.BareWrite a) = (k : ℕ) × (k < queueDepth c) × (a ≡ queueSlot c k + 0x400)
+BareMid c PushAt.BareControl = Unit {0}
+BareMid c (PushAt.Commit w) = Gentle w
+BareMid c PushAt.Enabled = ⊥
+BareMid c PushAt.Control = ⊥
+BareMid c (PushAt.Status w) = ⊥
+BareMid c (PushAt.Address w) = ⊥
+BareMid c (PushAt.Write w a) = ⊥
+BareMid c PushAt.Done = ⊥
+BareMid c (PushAt.Refused r) = ⊥
 
 -- ---- has-next, peek and get
 
@@ -87,6 +133,46 @@ FetchMid c want n held (FetchAt.Refused r) = ⊥
 
 -- ---- bus steps
 
+module _ (c d : Model) (l : Later c d) where
+  queue-tx-later : (bs : List ℕ) (w : ℕ) → QueueTx c bs w → QueueTx d bs w
+  queue-tx-later bs w x = record { word = x .word; on = rw (l .fixed) (x .on); fits = rw (l .fixed) (x .fits) }
+
+  -- the slot shown is where it was
+  shown-later : c .fixed .queue ≡ true → Vacant c → queueShown d ≡ queueShown c
+  unfolding queueShown
+  shown-later on f = rw (l .fixed, l .queue on f .shown)
+
+  shown-item : c .fixed .queue ≡ true → Vacant c → queueItem d (d .queue .shown) ≡ queueItem c (c .queue .shown)
+  unfolding queueItem queueSlot queueShown
+  shown-item on f = rw (l .fixed, l .queue on f .shown) (ap (decoding true false) (l .queue on f .bytes))
+
+  pub queue-later : (m : Message) (bs : List ℕ) (at : PushAt) → QueueMid c m bs at → QueueMid d m bs at
+  queue-later m bs PushAt.Enabled g = tt
+  queue-later m bs PushAt.Control g = rw (l .fixed) g
+  queue-later m bs (PushAt.Status w) g = queue-tx-later bs w g
+  queue-later m bs (PushAt.Address w) g = (queue-tx-later bs w (g .0), l .queue (g .0 .on) (g .1) .free)
+  queue-later m bs (PushAt.Write w a) g = (queue-tx-later bs w (g .0), l .queue (g .0 .on) (g .1) .free, rw (shown-later (g .0 .on) (g .1)) (g .2))
+  queue-later m bs (PushAt.Commit w) g = (queue-tx-later bs w (g .0), l .queue (g .0 .on) (g .1) .free, shown-item (g .0 .on) (g .1) ∙ g .2)
+  queue-later m bs PushAt.BareAddress g = g
+  queue-later m bs (PushAt.BareWrite a) g = g
+  queue-later m bs PushAt.BareControl g = g
+  queue-later m bs PushAt.Done g = g
+  queue-later m bs (PushAt.Refused r) g = g
+
+  pub bare-later : (at : PushAt) → BareMid c at → BareMid d at
+  unfolding queueSlot
+  bare-later PushAt.BareAddress g = tt
+  bare-later (PushAt.BareWrite a) (k, h, e) = (k, rw (l .fixed) h, rw (l .fixed) e)
+  bare-later PushAt.BareControl g = tt
+  bare-later (PushAt.Commit w) g = g
+  bare-later PushAt.Enabled g = g
+  bare-later PushAt.Control g = g
+  bare-later (PushAt.Status w) g = g
+  bare-later (PushAt.Address w) g = g
+  bare-later (PushAt.Write w a) g = g
+  bare-later PushAt.Done g = g
+  bare-later (PushAt.Refused r) g = g
+
 module _ (c d : Model) (l : Later c d) (n : ℕ) (i : isFifo n ≡ true) where
   frozen-later : frozenAt d n ≡ frozenAt c n
   frozen-later = rw (l .fixed)
@@ -104,6 +190,10 @@ module _ (c d : Model) (l : Later c d) (n : ℕ) (i : isFifo n ≡ true) where
   push-later m bs (PushAt.Write w a) g =
       (tx-later bs w (g .0), free-later (g .0 .tx) (g .1), g .2 ∙ ap (λ (x : ℕ). x + 0x400) (sym (l .send-slot n i (g .0 .tx) (g .1))))
   push-later m bs (PushAt.Commit w) g = (tx-later bs w (g .0), free-later (g .0 .tx) (g .1), l .send-item n i (g .0 .tx) (g .1) ∙ g .2)
+  push-later m bs PushAt.Enabled g = g
+  push-later m bs PushAt.BareAddress g = g
+  push-later m bs (PushAt.BareWrite a) g = g
+  push-later m bs PushAt.BareControl g = g
   push-later m bs PushAt.Done g = g
   push-later m bs (PushAt.Refused r) g = g
 

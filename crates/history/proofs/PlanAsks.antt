@@ -47,6 +47,7 @@ pub data Effect (X : ℕ → Type 0) (c d : Model) : Type 0 where
   none : d ≡ c → Effect X c d
   setup : (s : Held) → d ≡ withSetup c s → Effect X c d
   commands : (n w : ℕ) → isFifo n ≡ true → Careful X n w → d ≡ controlWritten c n w → Effect X c d
+  queued : (w : ℕ) → Gentle w → d ≡ queueWritten c w → Effect X c d
 
 set-effect : (X : ℕ → Type 0) (c : Model) (r : Register) (w : ℕ) → Setup r → (d : Model) → d ≡ registerWritten c r w .model → Effect X c d
 unfolding registerWritten
@@ -59,8 +60,11 @@ set-effect X c (Register.Mask k) w s d e = setup _ e
 set-effect X c (Register.Control n) w s d e = absurd s
 set-effect X c (Register.Status n) w s d e = absurd s
 set-effect X c (Register.Address n) w s d e = absurd s
+set-effect X c Register.QueueControl w s d e = absurd s
+set-effect X c Register.QueueStatus w s d e = absurd s
+set-effect X c Register.QueueAddress w s d e = absurd s
 
-module _ (X : ℕ → Type 0) (b : List ℕ) (c : Model) where
+module _ (X : ℕ → Type 0) (b : List ℕ) (c : Model) (s : Sound c) where
   aside-effect : (a w : ℕ) → Aside a → Effect X c (spoken (Ask.Word a w) b c .chip)
   unfolding performed sent writeAt commandOf beBytes leBytes
   aside-effect a w h =
@@ -76,6 +80,13 @@ module _ (X : ℕ → Type 0) (b : List ℕ) (c : Model) where
   write-effect a w (aside h) = aside-effect a w h
   write-effect a w (controls n i e g) =
       commands n w i g (ap (λ (x : ℕ). spoken (Ask.Word x w) b c .chip) e ∙ ap (λ (x : Heard). x .chip) (tell-control b c n i w (g .0 .small)))
+
+  write-effect a w (queueControl e g) =
+      queued w g (ap (λ (x : ℕ). spoken (Ask.Word x w) b c .chip) e ∙ ap (λ (x : Heard). x .chip) (tell-queue b c w (g .small)))
+  write-effect a w (con e g) =
+      setup _ (ap (λ (x : ℕ). spoken (Ask.Word x w) b c .chip) e
+      ∙ ap (λ (x : Heard). x .chip) (tell-low b c (CiCON .address 0) Register.Con (all-carried .con) (omega arith) w (g .small))
+      ∙ heard-chip (doneWriting (registerWritten c Register.Con w) .reply) _ ∙ con-staying c s w (g .asks))
 
   at-effect : (at : PlanAt) → HarmlessAt X at → Effect X c (spoken (askAt at) b c .chip)
   at-effect (PlanAt.Read x) h = none (hear-keeps b c (x .address) 4)
@@ -94,10 +105,18 @@ module _ (X : ℕ → Type 0) (b : List ℕ) (c : Model) where
 
 module _ (X : ℕ → Type 0) (b : List ℕ) (c : Model) (s : Sound c) (q : Asked X c) where
   at-fair : (at : PlanAt) → FairAt X at (spoken (askAt at) b c .answer) (spoken (askAt at) b c .rx)
-  at-fair (PlanAt.Read x) = λ n i e.
-      subst (λ (h : Heard). FairAnswer X n (h .answer) (h .rx))
-      (sym (ap (λ (a : ℕ). spoken (Ask.Read a 4) b c) e ∙ hear-control b c n i))
-      (record { word = wordOf c (Register.Control n); bytes = refl; careful = (control-gentle c n s, λ x. control-asked c n ∙ q n x) })
+  at-fair (PlanAt.Read x) = record {
+    fifo = λ n i e.
+        subst (λ (h : Heard). FairAnswer X (Careful X n) (h .answer) (h .rx))
+        (sym (ap (λ (a : ℕ). spoken (Ask.Read a 4) b c) e ∙ hear-control b c n i))
+        (record { word = wordOf c (Register.Control n); bytes = refl; careful = (control-gentle c n s, λ x. control-asked c n ∙ q n x) });
+    queue = λ e.
+        subst (λ (h : Heard). FairAnswer X Gentle (h .answer) (h .rx)) (sym (ap (λ (a : ℕ). spoken (Ask.Read a 4) b c) e ∙ hear-queue b c))
+        (record { word = wordOf c Register.QueueControl; bytes = refl; careful = queue-gentle c s });
+    mode = λ e.
+        subst (λ (h : Heard). FairAnswer X Staying (h .answer) (h .rx)) (sym (ap (λ (a : ℕ). spoken (Ask.Read a 4) b c) e ∙ hear-enabled b c))
+        (record { word = wordOf c Register.Con; bytes = refl; careful = con-stays c s });
+  }
   at-fair (PlanAt.Write a w) = tt
   at-fair (PlanAt.Poll p more) = tt
   at-fair (PlanAt.Wait p more) = tt
@@ -111,7 +130,7 @@ module _ (X : ℕ → Type 0) (b : List ℕ) (c : Model) (s : Sound c) (q : Aske
 
 -- so is whatever is no answer of the chip
 unanswered-fair : (X : ℕ → Type 0) (at : PlanAt) (rx : List ℕ) → FairAt X at Answer.Failed rx × FairAt X at Answer.Waited rx
-unanswered-fair X (PlanAt.Read x) rx = (λ n i e. tt, λ n i e. tt)
+unanswered-fair X (PlanAt.Read x) rx = (record { fifo = λ n i e. tt; queue = λ e. tt; mode = λ e. tt }, record { fifo = λ n i e. tt; queue = λ e. tt; mode = λ e. tt })
 unanswered-fair X (PlanAt.Write a w) rx = (tt, tt)
 unanswered-fair X (PlanAt.Poll p more) rx = (tt, tt)
 unanswered-fair X (PlanAt.Wait p more) rx = (tt, tt)

@@ -78,6 +78,13 @@ address-of (place p k := v ∷ ss) c = address-of ss (setting (place p k := v) c
 control-harmless : (X : ℕ → Type 0) (n : ℕ) (ss : List FieldSetting) → isFifo n ≡ true → Spared ss → HarmlessChange X (changeOf (CiFIFOCON .address n) ss)
 control-harmless X n ss i h = control n i (address-of ss _) (careful-change ss X n h (CiFIFOCON .address n))
 
+-- the queue's
+queue-control-harmless : (X : ℕ → Type 0) (ss : List FieldSetting) → Spared ss → HarmlessChange X (changeOf (CiFIFOCON .address 0) ss)
+queue-control-harmless X ss h = queueControl (address-of ss _) (λ w g. careful-change ss (λ n. ⊥) 0 h (CiFIFOCON .address 0) w (g, λ x. absurd x) .0)
+
+request-spared : Spared (TXREQ := 1 ∷ [])
+request-spared = record { fit = (omega arith, tt); inside = refl; uinc = refl; freset = refl; asked = λ w x. read-write TXREQ 1 w (omega arith) }
+
 flag-fits : (b : Bool) → digit b < 2
 flag-fits true = omega arith
 flag-fits false = omega arith
@@ -97,6 +104,22 @@ fifo-spared c e = go (fifo-told c e .1) (c .mode) (fifo-told c e .2)
         spared (FSIZE := storedSize (c .size) ∷ PLSIZE := c .plsize ∷ directionSettings (FifoMode.Transmit t)) (search (flag-fits, arith) depth 12) refl refl refl refl
     go f (FifoMode.Receive r) d =
         spared (FSIZE := storedSize (c .size) ∷ PLSIZE := c .plsize ∷ directionSettings (FifoMode.Receive r)) (search (flag-fits, arith) depth 12) refl refl refl refl
+
+queue-spared : (c : TxQueueConfiguration) → queueFits c ≡ true → Spared (queueSettings c)
+queue-spared c e =
+    let h = queue-told c e in
+    spared (queueSettings c) (search (flag-fits, arith) depth 12) refl refl refl refl
+
+-- ---- CiCON: TXQEN alone is set
+
+enable-harmless : (X : ℕ → Type 0) (on : Bool) → HarmlessChange X (enableChange on)
+enable-harmless X on =
+    let ss : List FieldSetting = enableSettings on in
+    let fit : AllFit ss = (flag-fits on, tt) in
+    con (address-of ss _)
+    (λ w g.
+    let e : modified (enableChange on) w ≡ settings ss w = change-sets (CiCON .address 0) ss w (g .small) fit in
+    record { small = rw e (settings-lt 32 ss w refl fit (g .small)); asks = λ x. g .asks (sym (off REQOP ss w refl fit) ∙ ap (read REQOP) (sym e) ∙ x) })
 
 -- ---- registers that hold as written
 
@@ -169,6 +192,14 @@ module _ (X : ℕ → Type 0) where
       ))
       (λ e. refused-harmless X Refusal.BadSetting)
 
+  queue-harmless : (q : TxQueueSetting) → Spare (configureTxQueue q)
+  unfolding configureTxQueue
+  queue-harmless q = by-if Spare (settingFits q) (λ e. plan-harmless X failed (queueItems q) (go q e)) (λ e. refused-harmless X Refusal.BadSetting)
+    where
+      go : (q : TxQueueSetting) → settingFits q ≡ true → HarmlessItems X (queueItems q)
+      go TxQueueSetting.Off e = (enable-harmless X false, tt)
+      go (TxQueueSetting.On c) e = (enable-harmless X true, (queue-control-harmless X (queueSettings c) (queue-spared c e), tt))
+
   pub set-harmless : (x : Setting) → Harmless X (planFor (sets x))
   set-harmless (Fifo n c) = fifo-harmless n c
   set-harmless (Filter f c) = filter-harmless f c
@@ -176,11 +207,16 @@ module _ (X : ℕ → Type 0) where
   set-harmless (Osc o) = osc-harmless o
   set-harmless (Io c) = plan-harmless X failed (Item.Change (ioChange c) ∷ []) (aside pins-aside, tt)
   set-harmless (BitTiming b) = timing-harmless b
+  set-harmless (TxQueue q) = queue-harmless q
 
   pub request-harmless : (n : ℕ) → Harmless X (requestStart n)
   unfolding requestStart
   request-harmless n =
       by-if (Harmless X) (isFifo n)
       (λ i. plan-harmless X Refusal.SpiRead (Item.Change (requestChange n) ∷ [])
-      (control-harmless X n (TXREQ := 1 ∷ []) i (record { fit = (omega arith, tt); inside = refl; uinc = refl; freset = refl; asked = λ w x. read-write TXREQ 1 w (omega arith) }), tt))
+      (control-harmless X n (TXREQ := 1 ∷ []) i request-spared, tt))
       (λ i. refused-harmless X Refusal.BadNumber)
+
+  pub queue-request-harmless : Harmless X queueRequestStart
+  unfolding queueRequestStart
+  queue-request-harmless = plan-harmless X Refusal.SpiRead (Item.Change (requestChange 0) ∷ []) (queue-control-harmless X (TXREQ := 1 ∷ []) request-spared, tt)

@@ -66,7 +66,7 @@ module _ (also : Bool) (n : ℕ) (header : Header) (seq : ℕ) (payload bs : Lis
 
   module _ (b : List Bus) (r : List (List Bus)) (a z : PushAt) (e : push.doneAt a ≡ false) (c : Model) (t : List Said) (rx : List ℕ) (d : Model)
       (told : spoken (push.askAt n (length bs) a) (zeroed 76 bs) (buses b c) ≡ hears Answer.Exchanged rx d)
-      (next : push.nextAt (length payload) (length bs) a Answer.Exchanged rx ≡ z) where
+      (next : push.nextAt n (length payload) (length bs) a Answer.Exchanged rx ≡ z) where
     -- bus steps, and the exchange that takes it to z
     takes : after (calm (b ∷ r)) (here a c t) ≡ after (calm r) (settled d (t ++ spokenOf b c) k (at z) rx)
     unfolding event
@@ -79,7 +79,7 @@ module _ (also : Bool) (n : ℕ) (header : Header) (seq : ℕ) (payload bs : Lis
   -- it is refused there, and nothing more is said
   stops : (b : List Bus) (r : List (List Bus)) (a : PushAt) (x : Refusal) → push.doneAt a ≡ false → (c : Model) (t : List Said) (rx : List ℕ) (d : Model)
       → spoken (push.askAt n (length bs) a) (zeroed 76 bs) (buses b c) ≡ hears Answer.Exchanged rx d
-      → push.nextAt (length payload) (length bs) a Answer.Exchanged rx ≡ PushAt.Refused x
+      → push.nextAt n (length payload) (length bs) a Answer.Exchanged rx ≡ PushAt.Refused x
       → calls (after (calm (b ∷ r)) (here a c t) .said) ≡ calls t ++ (called (Push n header seq payload) (Outcome.Refused x) [] ∷ [])
   stops b r a x e c t rx d told next =
       let u : List Said = t ++ spokenOf b c in
@@ -141,7 +141,7 @@ module _ (also : Bool) (n : ℕ) (header : Header) (seq : ℕ) (payload bs : Lis
     frozen-stays : frozenAt (buses b c) n ≡ frozenAt c n
     frozen-stays = rw (buses-fixed b c t g)
 
-    to-status : (w : ℕ) → Tx c n bs w → push.nextAt (length payload) (length bs) (PushAt.Status w) Answer.Exchanged (leBytes (wordOf (buses b c) (Register.Status n)))
+    to-status : (w : ℕ) → Tx c n bs w → push.nextAt n (length payload) (length bs) (PushAt.Status w) Answer.Exchanged (leBytes (wordOf (buses b c) (Register.Status n)))
         ≡ (if ltb (fifoAt (buses b c) n .count) (depth (frozenAt c n)) then PushAt.Address w else PushAt.Refused Refusal.FifoFull)
     to-status w x =
         next-status (buses b c) n (length payload) (length bs) (buses-fit b c t g .sound) (rw frozen-stays (x .tx)) w ∙ rw frozen-stays
@@ -149,12 +149,12 @@ module _ (also : Bool) (n : ℕ) (header : Header) (seq : ℕ) (payload bs : Lis
     abbrev control : ℕ
     control = wordOf (buses b c) (Register.Control n)
 
-    to-control : push.nextAt (length payload) (length bs) PushAt.Control Answer.Exchanged (leBytes control)
+    to-control : push.nextAt n (length payload) (length bs) PushAt.Control Answer.Exchanged (leBytes control)
         ≡ (if sending (frozenAt c n) then if ltb (payloadOf (frozenAt c n)) (length payload) then PushAt.Refused Refusal.FifoTooSmall else PushAt.Status (control % 2 ^ 32)
         else PushAt.Refused Refusal.FifoNotTx)
-    to-control = next-control (buses b c) n (length payload) (length bs) ∙ rw frozen-stays
+    to-control = next-control (buses b c) n (length payload) (length bs) i ∙ rw frozen-stays
 
-    control-away : (r : List (List Bus)) (x : Refusal) → push.nextAt (length payload) (length bs) PushAt.Control Answer.Exchanged (leBytes control) ≡ PushAt.Refused x
+    control-away : (r : List (List Bus)) (x : Refusal) → push.nextAt n (length payload) (length bs) PushAt.Control Answer.Exchanged (leBytes control) ≡ PushAt.Refused x
         → Refused (b ∷ r) c t x
     control-away r x e = stops b r PushAt.Control x refl c t _ _ (hear-control _ (buses b c) n i) e
 

@@ -100,6 +100,10 @@ left (PushAt.Status w) = 3
 left (PushAt.Address w) = 2
 left (PushAt.Write w a) = 1
 left (PushAt.Commit w) = 0
+left PushAt.Enabled = 0
+left PushAt.BareAddress = 0
+left (PushAt.BareWrite a) = 0
+left PushAt.BareControl = 0
 left PushAt.Done = 0
 left (PushAt.Refused r) = 0
 
@@ -134,7 +138,7 @@ module _ (also : Bool) (q : Plan) (n : ℕ) (header : Header) (seq : ℕ) (paylo
       let large : size (frozenAt (buses b c) n) ≡ z = ap (λ (x : Fixed). size (getD (x .frozen) n 0)) (buses-fixed b c t f) in
       let stays : slotOf (buses b c) n (fifoAt (buses b c) n .count) ≡ p = omega (arith, g .2, h .2) in
       let inside : p + z ≤ length (c .ram) = omega (arith, ram-long c o, slot-inside c o n (fifoAt c n .count) i (o .valid .fifo n .count)) in
-      let apart : ButFor p z (buses b c) (buses b d) = but-buses p z b c d (but-written p z c p bytes (omega arith) (omega (arith, g .0 .fits)) inside) in
+      let apart : ButFor p z (buses b c) (buses b d) = but-buses p z b c d (clear-fifo c o n i) (but-written p z c p bytes (omega arith) (omega (arith, g .0 .fits)) inside) in
       rw (failed-chip b v, e, stays, large) apart
   wrote c t f w a g v e (x ∷ bs) l = absurd (omega (arith, l))
 
@@ -157,7 +161,7 @@ module _ (also : Bool) (q : Plan) (n : ℕ) (header : Header) (seq : ℕ) (paylo
     unfolding event
     reads-control l g =
         let rx : List ℕ = leBytes (wordOf c (Register.Control n)) in
-        rw (turned n (length payload) bytes q idleFetch also PushAt.Control refl t k c _ _ _ (hear-control _ c n i) (next-control c n (length payload) (length bytes)))
+        rw (turned n (length payload) bytes q idleFetch also PushAt.Control refl t k c _ _ _ (hear-control _ c n i) (next-control c n (length payload) (length bytes) i))
         (by-if (After rx) (sending (frozenAt c n))
         (λ x. by-if (After rx) (ltb (payloadOf (frozenAt c n)) (length payload))
         (λ y. ends rx Refusal.FifoTooSmall)
@@ -196,6 +200,10 @@ module _ (also : Bool) (q : Plan) (n : ℕ) (header : Header) (seq : ℕ) (paylo
     exchanged (PushAt.Address w) = reads-address w
     exchanged (PushAt.Write w a) = writes-object w a
     exchanged (PushAt.Commit w) = λ l g. absurd (omega arith)
+    exchanged PushAt.Enabled = λ l g. absurd g
+    exchanged PushAt.BareAddress = λ l g. absurd g
+    exchanged (PushAt.BareWrite a) = λ l g. absurd g
+    exchanged PushAt.BareControl = λ l g. absurd g
     exchanged PushAt.Done = λ l g. absurd g
     exchanged (PushAt.Refused r) = λ l g. absurd g
 

@@ -44,9 +44,10 @@ use Rattle.state.specs.declared.Model.{Model}
 use Rattle.state.specs.Model.{fifoAt, frozenAt, withFifo}
 use Rattle.bank.specs.Registers.{wordOf}
 use Rattle.bus.specs.Held.{slotOf}
+use Rattle.bus.specs.Queue.{heldQueue}
 use Rattle.history.specs.Command.{Command, Push, started}
 use Rattle.history.specs.History.{Said, called, idle, hears, heard, settled, goesOn}
-use Rattle.history.specs.Demand.{Each, TellsWell, NotCaused}
+use Rattle.history.specs.Demand.{NotCaused}
 use Rattle.history.proofs.Sound.{Sound, Asked}
 use Rattle.history.proofs.Bus.{Listed, Moves, payload-whole, map-only}
 use Rattle.history.proofs.Line.{spoken}
@@ -58,7 +59,9 @@ use Rattle.history.proofs.Plans.{request-harmless}
 use Rattle.history.proofs.Requests.{request-begins, request-starts}
 use Rattle.history.proofs.Pushing.{commanded, placed, pushAt, pushing, turned, failed, still, refused, done, half}
 use Rattle.history.proofs.Mid.{Tx, PushMid}
-use Rattle.history.proofs.Inv.{PushAsked, pushes, requests, Inv, goes-on, says-more, quiet-refusal}
+use Rattle.history.proofs.QueueLists.{queue-quiet}
+use Rattle.history.proofs.QueueSlots.{fifo-queue, filled-queue}
+use Rattle.history.proofs.Inv.{PushAsked, pushes, requests, Tale, Inv, goes-on, says-more, quiet-refusal}
 
 -- a payload that is not longer than PLSIZE means fits a slot with its header
 pub object-fits : (c : Model) (n : ℕ) (header : Header) (seq : ℕ) (payload bs : List ℕ) → encoding (push.toSend header seq payload) ≡ Encoding.object bs
@@ -78,6 +81,22 @@ raised : (w : ℕ) (f : Fifo) → sending w ≡ true → f .count < depth w → 
 unfolding increased
 raised w f x y = rw (x, lt-ltb _ _ y)
 
+-- all of an object is sent
+module _ (bs : List ℕ) where
+  pub body-whole : take (length bs) (zeroed 76 bs) ≡ bs
+  unfolding zeroed
+  body-whole = take-append-seam bs (replicate (76 - length bs) 0)
+
+  pub body-long : length bs ≤ length (zeroed 76 bs)
+  unfolding zeroed
+  body-long = rw length-append (omega arith)
+
+-- it is whole words
+pub body-words : (header : Header) (seq : ℕ) (payload bs : List ℕ) → encoding (push.toSend header seq payload) ≡ Encoding.object bs → length bs % 4 ≡ 0
+body-words header seq payload bs coded =
+    let long : length bs ≡ 8 + 0 + roundUp (length payload) = lengths-hold (push.toSend header seq payload) bs coded in
+    omega (arith, long)
+
 -- what the chip answers to the object and to UINC, and what a push then knows
 module _ (c : Model) (o : Sound c) (n : ℕ) (header : Header) (seq : ℕ) (payload bs : List ℕ)
     (i : isFifo n ≡ true) (coded : encoding (push.toSend header seq payload) ≡ Encoding.object bs) where
@@ -88,24 +107,9 @@ module _ (c : Model) (o : Sound c) (n : ℕ) (header : Header) (seq : ℕ) (payl
   pub inside : (w : ℕ) → Tx c n bs w → slotOf c n (fifoAt c n .count) + length bs ≤ 2048
   inside w x = omega (arith, slot-inside c o n (fifoAt c n .count) i (o .valid .fifo n .count), x .fits)
 
-  -- all of the object is sent
-  body-whole : take (length bs) (zeroed 76 bs) ≡ bs
-  unfolding zeroed
-  body-whole = take-append-seam bs (replicate (76 - length bs) 0)
-
-  body-long : length bs ≤ length (zeroed 76 bs)
-  unfolding zeroed
-  body-long = rw length-append (omega arith)
-
-  -- it is whole words
-  body-words : length bs % 4 ≡ 0
-  body-words =
-      let long : length bs ≡ 8 + 0 + roundUp (length payload) = lengths-hold sent bs coded in
-      omega (arith, long)
-
   pub object-told : (w a : ℕ) → PushMid c n sent bs (PushAt.Write w a) → spoken (Ask.Body a (length bs)) (zeroed 76 bs) c ≡ hears Answer.Exchanged [] (filled c n bs)
   object-told w a g =
-      rw (g .2) (tell-ram (zeroed 76 bs) c (slotOf c n (fifoAt c n .count)) (length bs) (inside w (g .0)) body-words body-long ∙ rw body-whole)
+      rw (g .2) (tell-ram (zeroed 76 bs) c (slotOf c n (fifoAt c n .count)) (length bs) (inside w (g .0)) (body-words header seq payload bs coded) (body-long bs) ∙ rw (body-whole bs))
 
   pub object-mid : (w a : ℕ) → PushMid c n sent bs (PushAt.Write w a) → PushMid (filled c n bs) n sent bs (PushAt.Commit w)
   object-mid w a g =
@@ -123,7 +127,7 @@ module _ (c : Model) (o : Sound c) (n : ℕ) (header : Header) (seq : ℕ) (payl
       let (v, is, vh, vc, va) = uinc-written c n o w (x .word .small) (x .word .freset) in
       (v, tell-control (zeroed 76 bs) c n i (mark UINC true w) (mark-small w (x .word .small)) ∙ rw (is, raised (frozenAt c n) v (x .tx) (rw vc (g .1))), vh, vc, va)
 
-module _ (X : ℕ → Type 0) (c : Model) (o : Sound c) (q : Asked X c) (t : List Said) (l : Listed c t) (e : Each TellsWell t)
+module _ (X : ℕ → Type 0) {U : Type 0} (c : Model) (o : Sound c) (q : Asked X c) (t : List Said) (l : Listed c t) (e : Tale U c t)
     (also : Bool) (n : ℕ) (header : Header) (seq : ℕ) (payload bs : List ℕ) (p : Plan) (f : Fetch)
     (i : isFifo n ≡ true) (coded : encoding (push.toSend header seq payload) ≡ Encoding.object bs) (r : also ≡ true → p ≡ requestStart n) where
   abbrev k : Command
@@ -136,29 +140,29 @@ module _ (X : ℕ → Type 0) (c : Model) (o : Sound c) (q : Asked X c) (t : Lis
   m = push.toSend header seq payload
 
   abbrev After : Model → PushAt → List ℕ → Type 0
-  After d a rx = Inv X (settled d t k (at a) rx)
+  After d a rx = Inv X U (settled d t k (at a) rx)
 
   -- it still asks for something, and nothing of the chip changed
   stays : (rx : List ℕ) (a : PushAt) → push.doneAt a ≡ false → push.outcomeAt a ≡ Outcome.Running → PushMid c n m bs a → PushAsked (X n) a → After c a rx
   stays rx a x y g z =
       rw (still n (length payload) bs p f header seq payload t c rx also a x y)
-      (goes-on X c t l e c k (at a) o q (λ j. refl) (pushes also n header seq payload bs a p f i coded r g z refl refl))
+      (goes-on X c t l e c k (at a) o q (λ j. refl) refl (pushes also n header seq payload bs a p f i coded r g z refl refl))
 
   -- it is refused
   ends : (rx : List ℕ) (x : Refusal) → NotCaused x → After c (PushAt.Refused x) rx
   ends rx x w =
       rw (refused n (length payload) bs p f header seq payload t c rx also x)
-      (says-more X c t l e c idle _ o q (quiet-refusal c (Push n header seq payload) x []) w tt)
+      (says-more X c t l e c idle _ o q (quiet-refusal c (Push n header seq payload) x []) (λ u. queue-quiet c c _ refl refl refl) w tt)
 
   abbrev Exchanged : PushAt → Type 0
-  Exchanged a = Inv X (goesOn t k (at a) (heard true (at a) c))
+  Exchanged a = Inv X U (goesOn t k (at a) (heard true (at a) c))
 
   reads-control : Exchanged PushAt.Control
   reads-control =
       let rx : List ℕ = leBytes (wordOf c (Register.Control n)) in
       let P : PushAt → Type 0 = λ a. After c a rx in
       let w = control-gentle c n o in
-      rw (turned n (length payload) bs p f also PushAt.Control refl t k c _ _ _ (hear-control _ c n i) (next-control c n (length payload) (length bs)))
+      rw (turned n (length payload) bs p f also PushAt.Control refl t k c _ _ _ (hear-control _ c n i) (next-control c n (length payload) (length bs) i))
       (by-if P (sending (frozenAt c n))
       (λ x. by-if P (ltb (payloadOf (frozenAt c n)) (length payload))
       (λ y. ends rx Refusal.FifoTooSmall refl)
@@ -188,16 +192,16 @@ module _ (X : ℕ → Type 0) (c : Model) (o : Sound c) (q : Asked X c) (t : Lis
         turned n (length payload) bs p f also (PushAt.Write w a) refl t k c [] d (PushAt.Commit w) (object-told c o n header seq payload bs i coded w a g) refl,
         still n (length payload) bs p f header seq payload t d [] also (PushAt.Commit w) refl refl,
       )
-      (goes-on X c t l e d k (at (PushAt.Commit w)) (filled-sound c o n i (g .1) bs (x .fits)) q (filled-held c o n i (g .1) bs (x .fits))
+      (goes-on X c t l e d k (at (PushAt.Commit w)) (filled-sound c o n i (g .1) bs (x .fits)) q (filled-held c o n i (g .1) bs (x .fits)) (filled-queue c o n i (g .1) bs (x .fits))
       (pushes also n header seq payload bs (PushAt.Commit w) p f i coded r (object-mid c o n header seq payload bs i coded w a g) z refl refl))
 
   -- the message is in the FIFO; the request of a transmit comes next
-  ended : (d : Model) → Sound d → Asked X d → Moves c (called (Push n header seq payload) Outcome.Done []) d → (b : Bool) → (b ≡ true → p ≡ requestStart n)
-      → Inv X (settled d t (commanded b n header seq payload) (pushing b n (length payload) bs PushAt.Done p f) [])
-  ended d s a v false b = rw (done n (length payload) bs p f header seq payload t d []) (says-more X c t l e d idle _ s a v tt tt)
-  ended d s a v true b =
+  ended : (d : Model) → Sound d → Asked X d → Moves c (called (Push n header seq payload) Outcome.Done []) d → heldQueue d ≡ heldQueue c → (b : Bool) → (b ≡ true → p ≡ requestStart n)
+      → Inv X U (settled d t (commanded b n header seq payload) (pushing b n (length payload) bs PushAt.Done p f) [])
+  ended d s a v hq false b = rw (done n (length payload) bs p f header seq payload t d []) (says-more X c t l e d idle _ s a v (λ u. queue-quiet c d _ hq refl refl) tt tt)
+  ended d s a v hq true b =
       rw (half n (length payload) bs p f header seq payload t d [] (rw (b refl, request-begins n i)))
-      (says-more X c t l e d _ _ s a v tt
+      (says-more X c t l e d _ _ s a v (λ u. queue-quiet c d _ hq refl refl) tt
       (requests true n p (pushAt n (length payload) bs PushAt.Done) f (λ x. refl) (rw (b refl) (request-starts n)) (rw (b refl) (request-harmless X n))
       (rw (b refl, request-begins n i)) refl refl))
 
@@ -210,7 +214,7 @@ module _ (X : ℕ → Type 0) (c : Model) (o : Sound c) (q : Asked X c) (t : Lis
       let said : Said = called (Push n header seq payload) Outcome.Done [] in
       let moved : Moves c said d = λ j h. rw (map-only j n m) (rw (g .2) at (more-held c o n i (claimed v) vh (ap (λ (y : ℕ). y + 1) vc) j)) in
       rw (turned n (length payload) bs p f also (PushAt.Commit w) refl t k c [] d PushAt.Done told refl)
-      (ended d s (next-asked c o n i (claimed v) X q (λ x. va ∙ z x)) moved also r)
+      (ended d s (next-asked c o n i (claimed v) X q (λ x. va ∙ z x)) moved (fifo-queue c n (claimed v)) also r)
 
   pub push-exchanged : (a : PushAt) → PushMid c n m bs a → PushAsked (X n) a → Exchanged a
   push-exchanged PushAt.Control g z = reads-control
@@ -218,16 +222,24 @@ module _ (X : ℕ → Type 0) (c : Model) (o : Sound c) (q : Asked X c) (t : Lis
   push-exchanged (PushAt.Address w) g z = reads-address w g z
   push-exchanged (PushAt.Write w a) g z = writes-object w a g z
   push-exchanged (PushAt.Commit w) g z = writes-control w g z
+  push-exchanged PushAt.Enabled g z = absurd g
+  push-exchanged PushAt.BareAddress g z = absurd g
+  push-exchanged (PushAt.BareWrite a) g z = absurd g
+  push-exchanged PushAt.BareControl g z = absurd g
   push-exchanged PushAt.Done g z = absurd g
   push-exchanged (PushAt.Refused x) g z = absurd g
 
   -- an exchange that fails is 2 at the RAM write, 1 elsewhere
-  pub push-failed : (a : PushAt) → PushMid c n m bs a → Inv X (goesOn t k (at a) (heard false (at a) c))
+  pub push-failed : (a : PushAt) → PushMid c n m bs a → Inv X U (goesOn t k (at a) (heard false (at a) c))
   push-failed PushAt.Control g = rw (failed n (length payload) bs p f also PushAt.Control refl t k c) (ends [] Refusal.SpiRead refl)
   push-failed (PushAt.Status w) g = rw (failed n (length payload) bs p f also (PushAt.Status w) refl t k c) (ends [] Refusal.SpiRead refl)
   push-failed (PushAt.Address w) g = rw (failed n (length payload) bs p f also (PushAt.Address w) refl t k c) (ends [] Refusal.SpiRead refl)
   push-failed (PushAt.Write w a) g = rw (failed n (length payload) bs p f also (PushAt.Write w a) refl t k c) (ends [] Refusal.SpiWrite refl)
   push-failed (PushAt.Commit w) g = rw (failed n (length payload) bs p f also (PushAt.Commit w) refl t k c) (ends [] Refusal.SpiRead refl)
+  push-failed PushAt.Enabled g = absurd g
+  push-failed PushAt.BareAddress g = absurd g
+  push-failed (PushAt.BareWrite a) g = absurd g
+  push-failed PushAt.BareControl g = absurd g
   push-failed PushAt.Done g = absurd g
   push-failed (PushAt.Refused x) g = absurd g
 
@@ -238,7 +250,7 @@ abbrev NotBad : Checked → Type 0
 NotBad (Checked.Dlc d) = Unit {0}
 NotBad (Checked.Bad r) = NotCaused r
 
-abbrev NotRefused : Encoding → Type 0
+abbrev pub NotRefused : Encoding → Type 0
 NotRefused (Encoding.refused r) = NotCaused r
 NotRefused (Encoding.object bs) = Unit {0}
 
@@ -255,10 +267,14 @@ coded-caused : (m : Message) (x : Checked) → NotBad x → NotRefused (coded x 
 coded-caused m (Checked.Dlc d) h = tt
 coded-caused m (Checked.Bad r) h = h
 
+pub encoding-fine : (header : Header) (seq : ℕ) (payload : List ℕ) → NotRefused (encoding (push.toSend header seq payload))
+unfolding encoding
+encoding-fine header seq payload = coded-caused (push.toSend header seq payload) (checkOf header seq (length payload)) (check-caused header seq (length payload))
+
 encoding-caused : (n : ℕ) (header : Header) (seq : ℕ) (payload : List ℕ) → NotRefused (push.encodingFor n header seq payload)
-unfolding push.encodingFor encoding
+unfolding push.encodingFor
 encoding-caused n header seq payload =
-    by-if NotRefused (isFifo n) (λ x. coded-caused (push.toSend header seq payload) (checkOf header seq (length payload)) (check-caused header seq (length payload))) (λ x. refl)
+    by-if NotRefused (isFifo n) (λ x. encoding-fine header seq payload) (λ x. refl)
 
 pub encoded-for : (n : ℕ) (header : Header) (seq : ℕ) (payload bs : List ℕ) → push.encodingFor n header seq payload ≡ Encoding.object bs
     → (isFifo n ≡ true) × (encoding (push.toSend header seq payload) ≡ Encoding.object bs)
@@ -269,21 +285,21 @@ encoded-for n header seq payload bs =
 
 -- the driver with a push of what a message of this many bytes is encoded as
 abbrev pub starting : Bool → (n size : ℕ) → Encoding → Plan → Call
-starting also n size x p = record { at = placed also; plan = p; push = push.begun n size (encodedAs x); fetch = idleFetch }
+starting also n size x p = record { at = placed also; plan = p; push = push.begun n size PushAt.Control (encodedAs x); fetch = idleFetch }
 
-module _ (X : ℕ → Type 0) (c : Model) (o : Sound c) (q : Asked X c) (t : List Said) (l : Listed c t) (e : Each TellsWell t) (also : Bool) (n : ℕ) (header : Header) (seq : ℕ) (payload : List ℕ) where
+module _ (X : ℕ → Type 0) {U : Type 0} (c : Model) (o : Sound c) (q : Asked X c) (t : List Said) (l : Listed c t) (e : Tale U c t) (also : Bool) (n : ℕ) (header : Header) (seq : ℕ) (payload : List ℕ) where
   begins-as : (x : Encoding) (p : Plan) → (also ≡ true → p ≡ requestStart n) → push.encodingFor n header seq payload ≡ x → NotRefused x
-      → Inv X (settled c t (commanded also n header seq payload) (starting also n (length payload) x p) [])
+      → Inv X U (settled c t (commanded also n header seq payload) (starting also n (length payload) x p) [])
   begins-as (Encoding.refused x) p r g h =
       rw (refused n (length payload) [] p idleFetch header seq payload t c [] also x)
-      (says-more X c t l e c idle _ o q (quiet-refusal c (Push n header seq payload) x []) h tt)
+      (says-more X c t l e c idle _ o q (quiet-refusal c (Push n header seq payload) x []) (λ u. queue-quiet c c _ refl refl refl) h tt)
   begins-as (Encoding.object bs) p r g h =
       let (i, coded) = encoded-for n header seq payload bs g in
       rw (still n (length payload) bs p idleFetch header seq payload t c [] also PushAt.Control refl refl)
-      (goes-on X c t l e c _ _ o q (λ j. refl) (pushes also n header seq payload bs PushAt.Control p idleFetch i coded r tt tt refl refl))
+      (goes-on X c t l e c _ _ o q (λ j. refl) refl (pushes also n header seq payload bs PushAt.Control p idleFetch i coded r tt tt refl refl))
 
-pub push-begins : (X : ℕ → Type 0) (c : Model) → Sound c → Asked X c → (t : List Said) → Listed c t → Each TellsWell t → (also : Bool) (n : ℕ) (header : Header) (seq : ℕ) (payload : List ℕ)
-    → Inv X (settled c t (commanded also n header seq payload) (started (commanded also n header seq payload)) [])
+pub push-begins : (X : ℕ → Type 0) {U : Type 0} (c : Model) → Sound c → Asked X c → (t : List Said) → Listed c t → Tale U c t → (also : Bool) (n : ℕ) (header : Header) (seq : ℕ) (payload : List ℕ)
+    → Inv X U (settled c t (commanded also n header seq payload) (started (commanded also n header seq payload)) [])
 unfolding ofPush ofTransmit push.startOf transmitStart
 push-begins X c o q t l e false n header seq payload =
     begins-as X c o q t l e false n header seq payload (push.encodingFor n header seq payload) idlePlan

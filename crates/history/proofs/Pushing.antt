@@ -23,9 +23,9 @@ use Rattle.driver.specs.Call.{Call}
 use Rattle.driver.specs.Step.{askOf, stepOf, outcomeOf, filledBy}
 use Rattle.driver.specs.Send.{bodyOf}
 use Rattle.state.specs.declared.Model.{Model}
-use Rattle.history.specs.Command.{Command, Push, Transmit, Request}
+use Rattle.history.specs.Command.{Command, Push, Transmit, Request, firstCall, lent}
 use Rattle.history.proofs.Line.{world, spoken, turns, fails}
-use Rattle.history.specs.History.{Said, called, idle, busy, World, hears, heard, waits, settled, goesOn}
+use Rattle.history.specs.History.{Said, called, idle, busy, World, hears, heard, waits, halfway, settled, goesOn}
 
 -- whether a request follows
 abbrev pub commanded : Bool → ℕ → Header → ℕ → List ℕ → Command
@@ -54,7 +54,7 @@ module _ (n size : ℕ) (bs : List ℕ) (p : Plan) (f : Fetch) where
   asks true at e = rw e
 
   pub steps : (also : Bool) (at : PushAt) → push.doneAt at ≡ false → (a : Answer) (rx : List ℕ)
-      → stepOf (standing also at) a rx ≡ standing also (push.nextAt size (length bs) at a rx)
+      → stepOf (standing also at) a rx ≡ standing also (push.nextAt n size (length bs) at a rx)
   unfolding stepOf push.stepOf transmitStep
   steps false at e a rx = refl
   steps true at e a rx = rw e
@@ -70,6 +70,10 @@ module _ (n size : ℕ) (bs : List ℕ) (p : Plan) (f : Fetch) where
   waits-not (PushAt.Address w) = refl
   waits-not (PushAt.Write w a) = refl
   waits-not (PushAt.Commit w) = refl
+  waits-not PushAt.Enabled = refl
+  waits-not PushAt.BareAddress = refl
+  waits-not (PushAt.BareWrite m) = refl
+  waits-not PushAt.BareControl = refl
   waits-not PushAt.Done = refl
   waits-not (PushAt.Refused r) = refl
 
@@ -77,12 +81,12 @@ module _ (n size : ℕ) (bs : List ℕ) (p : Plan) (f : Fetch) where
     -- an exchange that the chip answers with rx, and where it takes the push
     pub turned : (rx : List ℕ) (d : Model) (to : PushAt)
         → spoken (push.askAt n (length bs) at) (zeroed 76 bs) c ≡ hears Answer.Exchanged rx d
-        → push.nextAt size (length bs) at Answer.Exchanged rx ≡ to
+        → push.nextAt n size (length bs) at Answer.Exchanged rx ≡ to
         → goesOn t k (standing also at) (heard true (standing also at) c) ≡ settled d t k (standing also to) rx
     turned rx d to h g = turns (standing also at) _ _ (asks also at e) c t k _ rx d (body also at) (waits-not at) h (steps also at e Answer.Exchanged rx ∙ rw g)
 
     -- an exchange that fails
-    pub failed : goesOn t k (standing also at) (heard false (standing also at) c) ≡ settled c t k (standing also (push.nextAt size (length bs) at Answer.Failed [])) []
+    pub failed : goesOn t k (standing also at) (heard false (standing also at) c) ≡ settled c t k (standing also (push.nextAt n size (length bs) at Answer.Failed [])) []
     failed = fails (standing also at) _ _ (asks also at e) c t k (waits-not at) (steps also at e Answer.Failed [])
 
 -- ---- over, or not
@@ -112,3 +116,22 @@ module _ (n size : ℕ) (bs : List ℕ) (p : Plan) (f : Fetch) (header : Header)
       → settles true PushAt.Done ≡ world c (busy (Request n) (pushing true n size bs PushAt.Done p f)) (t ++ (called (Push n header seq payload) Outcome.Done [] ∷ []))
   unfolding settled outcomeOf transmitOutcome
   half e = rw e
+
+-- ---- a push that is one call and no FIFO's
+
+module _ (k : Command) (whole : (s : Call) → halfway k s ≡ false) (first : firstCall k ≡ k) (none : lent k ≡ []) (size : ℕ) (bs : List ℕ) (p : Plan) (f : Fetch)
+    (t : List Said) (c : Model) (rx : List ℕ) where
+  abbrev settles-at : PushAt → World
+  settles-at at = settled c t k (pushing false 0 size bs at p f) rx
+
+  pub still-alone : (at : PushAt) → push.outcomeAt at ≡ Outcome.Running → settles-at at ≡ world c (busy k (pushing false 0 size bs at p f)) t
+  unfolding settled outcomeOf push.outcomeOf
+  still-alone at e = rw (e, whole (pushing false 0 size bs at p f))
+
+  pub refused-alone : (r : Refusal) → settles-at (PushAt.Refused r) ≡ world c idle (t ++ (called k (Outcome.Refused r) [] ∷ []))
+  unfolding settled outcomeOf push.outcomeOf filledBy
+  refused-alone r = rw (first, none)
+
+  pub done-alone : settles-at PushAt.Done ≡ world c idle (t ++ (called k Outcome.Done [] ∷ []))
+  unfolding settled outcomeOf push.outcomeOf filledBy
+  done-alone = rw (first, none)

@@ -188,20 +188,20 @@ module _ (c : Model) (n : ℕ) where
   -- ---- where a push goes next
 
   module _ (size len : ℕ) where
-    pub next-control : nextAt size len PushAt.Control Answer.Exchanged (leBytes word)
+    pub next-control : isFifo n ≡ true → nextAt n size len PushAt.Control Answer.Exchanged (leBytes word)
         ≡ (if sending (frozenAt c n) then if ltb (payloadOf (frozenAt c n)) size then PushAt.Refused Refusal.FifoTooSmall else PushAt.Status (word % 2 ^ 32)
         else PushAt.Refused Refusal.FifoNotTx)
     unfolding afterControl
-    next-control = rw (word-said Refusal.SpiRead word, control-tx, control-payload)
+    next-control i = rw (word-said Refusal.SpiRead word, fifo-sends n (word % 2 ^ 32) i, control-tx, control-payload)
 
     module _ (s : Sound c) (t : sending (frozenAt c n) ≡ true) (v : ℕ) where
-      pub next-status : nextAt size len (PushAt.Status v) Answer.Exchanged (leBytes (wordOf c (Register.Status n)))
+      pub next-status : nextAt n size len (PushAt.Status v) Answer.Exchanged (leBytes (wordOf c (Register.Status n)))
           ≡ (if ltb (fifoAt c n .count) (depth (frozenAt c n)) then PushAt.Address v else PushAt.Refused Refusal.FifoFull)
       unfolding afterStatus ready
       next-status = rw (word-said Refusal.SpiRead (wordOf c (Register.Status n)), status-ready s, t)
 
       pub next-address : slotOf c n (fifoAt c n .count) + len ≤ 2048
-          → nextAt size len (PushAt.Address v) Answer.Exchanged (leBytes (wordOf c (Register.Address n))) ≡ PushAt.Write v (slotOf c n (fifoAt c n .count) + 0x400)
+          → nextAt n size len (PushAt.Address v) Answer.Exchanged (leBytes (wordOf c (Register.Address n))) ≡ PushAt.Write v (slotOf c n (fifoAt c n .count) + 0x400)
       unfolding afterAddress
       next-address h =
           let x : ℕ = slotOf c n (fifoAt c n .count) in

@@ -68,9 +68,10 @@ module _ (n : ℕ) where
 
 -- ---- wherever a request may stand
 
+-- of a FIFO or, with 0, of the queue
 pub data Requests (n : ℕ) (p : Plan) : Type 0 where
-  reads : isFifo n ≡ true → p ≡ requesting n 1 (PlanAt.Read (requestChange n)) → Requests n p
-  writes : isFifo n ≡ true → (w : ℕ) → w < 2 ^ 32 → p ≡ requesting n 1 (PlanAt.Write (CiFIFOCON .address n) w) → Requests n p
+  reads : n ≤ 31 → p ≡ requesting n 1 (PlanAt.Read (requestChange n)) → Requests n p
+  writes : n ≤ 31 → (w : ℕ) → w < 2 ^ 32 → p ≡ requesting n 1 (PlanAt.Write (CiFIFOCON .address n) w) → Requests n p
   ends : p .at ≡ PlanAt.Done → Requests n p
   fails : p .at ≡ PlanAt.Refused Refusal.SpiRead → Requests n p
   turned : p .at ≡ PlanAt.Refused Refusal.BadNumber → Requests n p
@@ -79,8 +80,12 @@ pub request-starts : (n : ℕ) → Requests n (requestStart n)
 request-starts n = go (isFifo n) refl
   where
     go : (b : Bool) → isFifo n ≡ b → Requests n (requestStart n)
-    go true i = reads i (request-begins n i)
+    go true i = reads (fifo-told n i .1) (request-begins n i)
     go false i = turned (ap (λ (p : Plan). p .at) (request-refused n i))
+
+pub queue-request-starts : Requests 0 queueRequestStart
+unfolding queueRequestStart arrivedAt
+queue-request-starts = reads (omega arith) refl
 
 -- an answer of the chip, and an exchange that fails
 module _ (n : ℕ) (p : Plan) where
@@ -90,17 +95,17 @@ module _ (n : ℕ) (p : Plan) where
   pub request-answered : (b : List ℕ) (c : Model) → Requests n p → isOver (outcomeOf p) ≡ false
       → Requests n (stepOf p (spoken (askOf p) b c .answer) (spoken (askOf p) b c .rx))
   request-answered b c (reads i e) l =
-      let x = wordOf c (Register.Control n) in
+      let (x, hear) = hear-any b c n i in
       let q = requesting n 1 (PlanAt.Read (requestChange n)) in
       writes i (modified (requestChange n) (x % 2 ^ 32)) (request-small n x)
       (ap (λ (y : Plan). stepOf y (spoken (askOf y) b c .answer) (spoken (askOf y) b c .rx)) e
-      ∙ ap (λ (h : Heard). stepOf q (h .answer) (h .rx)) (hear-control b c n i)
+      ∙ ap (λ (h : Heard). stepOf q (h .answer) (h .rx)) hear
       ∙ request-read n x)
   request-answered b c (writes i w s e) l =
       let q = requesting n 1 (PlanAt.Write (CiFIFOCON .address n) w) in
       ends (ap (λ (y : Plan). y .at)
       (ap (λ (y : Plan). stepOf y (spoken (askOf y) b c .answer) (spoken (askOf y) b c .rx)) e
-      ∙ ap (λ (h : Heard). stepOf q (h .answer) (h .rx)) (tell-control b c n i w s)
+      ∙ ap (λ (h : Heard). stepOf q (h .answer) (h .rx)) (tell-any b c n i w s .1)
       ∙ request-written n (CiFIFOCON .address n) w))
   request-answered b c (ends e) l = absurd (clash PlanAt.Done e refl l)
   request-answered b c (fails e) l = absurd (clash (PlanAt.Refused Refusal.SpiRead) e refl l)

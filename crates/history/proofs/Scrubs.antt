@@ -83,6 +83,9 @@ Numbered (Register.Mask k) = k < 32
 Numbered (Register.Control n) = Unit {0}
 Numbered (Register.Status n) = Unit {0}
 Numbered (Register.Address n) = Unit {0}
+Numbered Register.QueueControl = Unit {0}
+Numbered Register.QueueStatus = Unit {0}
+Numbered Register.QueueAddress = Unit {0}
 
 abbrev Known : Place → Type 0
 Known (Place.Is r) = Numbered r
@@ -97,7 +100,10 @@ single-known a =
     (λ e. by-if Known (eqb a 0x00C) (λ e. omega arith)
     (λ e. by-if Known (eqb a 0x014) (λ e. omega arith)
     (λ e. by-if Known (eqb a 0x01C) (λ e. omega arith)
-    (λ e. by-if Known (eqb a 0xE00) (λ e. tt) (λ e. by-if Known (eqb a 0xE04) (λ e. omega arith) (λ e. tt))))))))
+    (λ e. by-if Known (eqb a 0x050) (λ e. tt)
+    (λ e. by-if Known (eqb a 0x054) (λ e. tt)
+    (λ e. by-if Known (eqb a 0x058) (λ e. tt)
+    (λ e. by-if Known (eqb a 0xE00) (λ e. tt) (λ e. by-if Known (eqb a 0xE04) (λ e. omega arith) (λ e. tt)))))))))))
 
 fifo-known : (n word : ℕ) → Numbered (ofFifo n word)
 fifo-known n zero = tt
@@ -270,6 +276,9 @@ takes-bit c g (Register.Mask k) n w i t = ap (read (bit i)) (getD-set-same (c .s
 takes-bit c g (Register.Control k) n w i t = absurd t
 takes-bit c g (Register.Status k) n w i t = absurd t
 takes-bit c g (Register.Address k) n w i t = absurd t
+takes-bit c g Register.QueueControl n w i t = absurd t
+takes-bit c g Register.QueueStatus n w i t = absurd t
+takes-bit c g Register.QueueAddress n w i t = absurd t
 
 module _ (c : Model) (s : Scrub) (word first : ℕ) (r : Register) (e : s .at ≡ ScrubAt.Write word first) (is : registerAt (s .entry .address) ≡ Place.Is r)
     (h : s .entry .care < 2 ^ 32) where

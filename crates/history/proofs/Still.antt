@@ -45,26 +45,54 @@ asks-none CallAt.Fetch h = refl
 asks-none (CallAt.Scrub s) h = absurd (true≢false h)
 
 -- no scrub step is under way
+-- nor an unchecked push
 abbrev Quiet : Doing → Type 0
 Quiet idle = Unit {0}
-Quiet (busy k s) = scrubs (s .at) ≡ false
+Quiet (busy k s) = (scrubs (s .at) ≡ false) × (unchecked k ≡ false)
 
-quiet-still : (d : Doing) → Quiet d → rewriting d ≡ false
-quiet-still idle h = refl
-quiet-still (busy k s) h = asks-none (s .at) h
+-- which alone strays
+strays-none : (c : Model) (k : Command) → unchecked k ≡ false → strays c k ≡ false
+strays-none c (Push n header seq payload) h = refl
+strays-none c (Transmit n header seq payload) h = refl
+strays-none c (QueuePush header seq payload) h = refl
+strays-none c (QueueUnchecked header seq payload) h = absurd (true≢false h)
+strays-none c QueueRequest h = refl
+strays-none c (Request n) h = refl
+strays-none c (HasNext n) h = refl
+strays-none c (Peek n buf) h = refl
+strays-none c (Get n buf) h = refl
+strays-none c (Reading x) h = refl
+strays-none c (Configuring x) h = refl
 
-settled-quiet : (c : Model) (t : List Said) (k : Command) (s : Call) (rx : List ℕ) → scrubs (s .at) ≡ false → Quiet (settled c t k s rx .doing)
+second-checked : (k : Command) → unchecked (secondCall k) ≡ unchecked k
+second-checked (Push n header seq payload) = refl
+second-checked (Transmit n header seq payload) = refl
+second-checked (QueuePush header seq payload) = refl
+second-checked (QueueUnchecked header seq payload) = refl
+second-checked QueueRequest = refl
+second-checked (Request n) = refl
+second-checked (HasNext n) = refl
+second-checked (Peek n buf) = refl
+second-checked (Get n buf) = refl
+second-checked (Reading x) = refl
+second-checked (Configuring x) = refl
+
+quiet-still : (c : Model) (d : Doing) → Quiet d → ends c d ≡ false
+quiet-still c idle h = refl
+quiet-still c (busy k s) h = rw (asks-none (s .at) (h .0), strays-none c k (h .1))
+
+settled-quiet : (c : Model) (t : List Said) (k : Command) (s : Call) (rx : List ℕ) → (scrubs (s .at) ≡ false) × (unchecked k ≡ false) → Quiet (settled c t k s rx .doing)
 unfolding settled
 settled-quiet c t k s rx h =
-    by-if (λ (v : World). Quiet (v .doing)) (isOver (outcomeOf s)) (λ e. tt) (λ e. by-if (λ (v : World). Quiet (v .doing)) (halfway k s) (λ f. h) (λ f. h))
+    by-if (λ (v : World). Quiet (v .doing)) (isOver (outcomeOf s)) (λ e. tt) (λ e. by-if (λ (v : World). Quiet (v .doing)) (halfway k s) (λ f. (h .0, second-checked k ∙ h .1)) (λ f. h))
 
-goes-quiet : (t : List Said) (k : Command) (s : Call) (h : Heard) → scrubs (s .at) ≡ false → Quiet (settled (h .chip) t k (stepOf s (h .answer) (h .rx)) (h .rx) .doing)
+goes-quiet : (t : List Said) (k : Command) (s : Call) (h : Heard) → (scrubs (s .at) ≡ false) × (unchecked k ≡ false) → Quiet (settled (h .chip) t k (stepOf s (h .answer) (h .rx)) (h .rx) .doing)
 unfolding stepOf
-goes-quiet t k s h q = settled-quiet (h .chip) t k _ (h .rx) (steps-at (s .at) s (h .answer) (h .rx) q)
+goes-quiet t k s h q = settled-quiet (h .chip) t k _ (h .rx) (steps-at (s .at) s (h .answer) (h .rx) (q .0), q .1)
 
--- an event that begins no scrub step
+-- an event that begins no scrub step and no unchecked push
 abbrev Plain : Event → Type 0
-Plain (Begin k) = scrubs (started k .at) ≡ false
+Plain (Begin k) = (scrubs (started k .at) ≡ false) × (unchecked k ≡ false)
 Plain Exchange = Unit {0}
 Plain Fail = Unit {0}
 Plain (On b) = Unit {0}
@@ -83,10 +111,10 @@ abbrev AllPlain : List Event → Type 0
 AllPlain [] = Unit {0}
 AllPlain (x ∷ xs) = Plain x × AllPlain xs
 
-runs-still : (es : List Event) (v : World) → Quiet (v .doing) → AllPlain es → NoRewrite es v
+runs-still : (es : List Event) (v : World) → Quiet (v .doing) → AllPlain es → Lasts es v
 unfolding after
-runs-still [] v q p = quiet-still (v .doing) q
-runs-still (x ∷ es) v q p = (quiet-still (v .doing) q, runs-still es _ (event-quiet x (v .doing) (v .chip) (v .said) q (p .0)) (p .1))
+runs-still [] v q p = quiet-still (v .chip) (v .doing) q
+runs-still (x ∷ es) v q p = (quiet-still (v .chip) (v .doing) q, runs-still es _ (event-quiet x (v .doing) (v .chip) (v .said) q (p .0)) (p .1))
 
 steps-plain : (bs : List Bus) (es : List Event) → AllPlain es → AllPlain (map On bs ++ es)
 steps-plain [] es p = p
@@ -98,5 +126,5 @@ calm-plain [] = tt
 calm-plain (bs ∷ r) = steps-plain bs (Exchange ∷ calm r) (tt, calm-plain r)
 
 -- a call that begins where none is under way
-pub call-still : (v : World) → v .doing ≡ idle → (k : Command) → scrubs (started k .at) ≡ false → (bs : List (List Bus)) → NoRewrite (Begin k ∷ calm bs) v
+pub call-still : (v : World) → v .doing ≡ idle → (k : Command) → (scrubs (started k .at) ≡ false) × (unchecked k ≡ false) → (bs : List (List Bus)) → Lasts (Begin k ∷ calm bs) v
 call-still v e k h bs = runs-still (Begin k ∷ calm bs) v (subst Quiet (sym e) tt) (h, calm-plain bs)

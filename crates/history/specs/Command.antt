@@ -14,9 +14,10 @@ use Rattle.changes.specs.declared.settings.IoConfiguration.{IoConfiguration}
 use Rattle.changes.specs.declared.settings.BitTimeConfiguration.{BitTimeConfiguration}
 use Rattle.areas.specs.declared.settings.FifoConfiguration.{FifoConfiguration}
 use Rattle.areas.specs.declared.settings.FilterConfiguration.{FilterConfiguration}
-use Rattle.adjust.specs.Calls.{configureOsc, configureIo, configureBitTiming, configureFifo, configureFilter, disableFilter}
-use Rattle.tx_fifo.specs.Step.{startOf}
-use Rattle.transmit.specs.Transmit.{requestStart, transmitStart}
+use Rattle.areas.specs.declared.settings.TxQueueSetting.{TxQueueSetting}
+use Rattle.adjust.specs.Calls.{configureOsc, configureIo, configureBitTiming, configureFifo, configureFilter, disableFilter, configureTxQueue}
+use Rattle.tx_fifo.specs.Step.{startOf, queueStart, queueUncheckedStart}
+use Rattle.transmit.specs.Transmit.{requestStart, queueRequestStart, transmitStart}
 use Rattle.rx_fifo.specs.Step.{hasNextStart, peekStart, getStart}
 use Rattle.watch.specs.declared.Watch.{Watch}
 use Rattle.scrub.specs.Step.{scrubStart}
@@ -39,10 +40,13 @@ pub data Setting : Type 0 where
   Osc : OscillatorConfiguration → Setting
   Io : IoConfiguration → Setting
   BitTiming : BitTimeConfiguration → Setting
+  TxQueue : TxQueueSetting → Setting
 
--- `Peek` and `Get` with the buffer that is lent for the payload
+-- `Peek` and `Get` with the buffer that is lent for the payload; the queue's pushes, checked and unchecked
 pub data Command : Type 0 where
   Push Transmit : (fifo : ℕ) → Header → (seq : ℕ) → List ℕ → Command
+  QueuePush QueueUnchecked : Header → (seq : ℕ) → List ℕ → Command
+  QueueRequest : Command
   Request HasNext : (fifo : ℕ) → Command
   Peek Get : (fifo : ℕ) → List ℕ → Command
   Reading : Look → Command
@@ -64,10 +68,14 @@ sets (FilterOff f) = disableFilter f
 sets (Osc o) = configureOsc o
 sets (Io c) = configureIo c
 sets (BitTiming b) = configureBitTiming b
+sets (TxQueue q) = configureTxQueue q
 
 abbrev pub started : Command → Call
 started (Push n header seq payload) = ofPush (startOf n header seq payload)
 started (Transmit n header seq payload) = ofTransmit (transmitStart n header seq payload)
+started (QueuePush header seq payload) = ofPush (queueStart header seq payload)
+started (QueueUnchecked header seq payload) = ofPush (queueUncheckedStart header seq payload)
+started QueueRequest = ofPlan queueRequestStart
 started (Request n) = ofPlan (requestStart n)
 started (HasNext n) = ofFetch (hasNextStart n)
 started (Peek n buf) = ofFetch (peekStart n (length buf))
@@ -87,6 +95,9 @@ lookedInto (Scrub place list rewrite) = []
 abbrev pub lent : Command → List ℕ
 lent (Push n header seq payload) = []
 lent (Transmit n header seq payload) = []
+lent (QueuePush header seq payload) = []
+lent (QueueUnchecked header seq payload) = []
+lent QueueRequest = []
 lent (Request n) = []
 lent (HasNext n) = []
 lent (Peek n buf) = buf
@@ -99,6 +110,9 @@ lent (Configuring x) = []
 abbrev pub firstCall : Command → Command
 firstCall (Push n header seq payload) = Push n header seq payload
 firstCall (Transmit n header seq payload) = Push n header seq payload
+firstCall (QueuePush header seq payload) = QueuePush header seq payload
+firstCall (QueueUnchecked header seq payload) = QueueUnchecked header seq payload
+firstCall QueueRequest = QueueRequest
 firstCall (Request n) = Request n
 firstCall (HasNext n) = HasNext n
 firstCall (Peek n buf) = Peek n buf
@@ -109,6 +123,9 @@ firstCall (Configuring x) = Configuring x
 abbrev pub secondCall : Command → Command
 secondCall (Push n header seq payload) = Push n header seq payload
 secondCall (Transmit n header seq payload) = Request n
+secondCall (QueuePush header seq payload) = QueuePush header seq payload
+secondCall (QueueUnchecked header seq payload) = QueueUnchecked header seq payload
+secondCall QueueRequest = QueueRequest
 secondCall (Request n) = Request n
 secondCall (HasNext n) = HasNext n
 secondCall (Peek n buf) = Peek n buf

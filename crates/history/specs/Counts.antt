@@ -14,7 +14,7 @@ use Rattle.call.specs.declared.Outcome.{Outcome}
 use Rattle.driver.specs.Call.{Call}
 use Rattle.driver.specs.Step.{askOf}
 use Rattle.state.specs.declared.Model.{Model}
-use Rattle.history.specs.History.{Event, Said, called, left, arrived, Heard, heard, idle, after}
+use Rattle.history.specs.History.{Event, Said, called, left, leftQueue, arrived, Heard, heard, idle, after}
 use Rattle.history.specs.Demand.{Each}
 
 -- whoever asks for a checked read hears no mismatch, from the chip in any state; the exchange is carried out or not
@@ -53,6 +53,7 @@ mismatchesIn (Outcome.Refused r) = 0
 abbrev pub TellsNone : Said → Type 0
 TellsNone (called k o buf) = mismatchesIn o ≡ 0
 TellsNone (left n o) = Unit {0}
+TellsNone (leftQueue o) = Unit {0}
 TellsNone (arrived n m d) = Unit {0}
 
 -- so no call tells one, whatever the chip and the events, rewrites among them

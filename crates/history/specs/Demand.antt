@@ -2,7 +2,7 @@
 -- Assumes nothing.
 use Prim.Native.Nat.{ℕ, _+_, _≤_, _<_}
 use mathlib.Core.Path.{_≡_}
-use mathlib.Core.Bool.{Bool, true, false, not}
+use mathlib.Core.Bool.{Bool, true, false, not, _||_}
 use mathlib.Core.Logic.{_↔_}
 use mathlib.Core.List.{List, [], _∷_, _++_, map}
 use lib.ListN.{length, getD, take}
@@ -32,10 +32,10 @@ use Rattle.bank.specs.Registers.{wordOf, granted, conWritten}
 use Rattle.model.specs.Exchange.{Reply, failed, received, noLayout, exchange}
 use Rattle.bus.specs.Held.{slotOf, itemAt, held}
 use Rattle.bus.specs.Bus.{frame, sends}
-use Rattle.reach.specs.Bus.{Bus, Send, Deliver, Sort, stepped}
+use Rattle.reach.specs.Bus.{Bus, Send, SendQueue, Deliver, Sort, stepped}
 use Rattle.reach.specs.Reach.{Reached}
-use Rattle.history.specs.Command.{Command, Push, Transmit, Request, HasNext, Peek, Get, Reading, Configuring, firstCall, lent}
-use Rattle.history.specs.History.{Event, Begin, Exchange, Fail, On, Said, called, left, arrived, Doing, idle, busy, World, after}
+use Rattle.history.specs.Command.{Command, Push, Transmit, QueuePush, QueueUnchecked, QueueRequest, Request, HasNext, Peek, Get, Reading, Configuring, firstCall, lent}
+use Rattle.history.specs.History.{Event, Begin, Exchange, Fail, On, Said, called, left, leftQueue, arrived, Doing, idle, busy, World, after}
 use Rattle.history.specs.Lists.{accepted, acceptedIn, handedOut, handedOutIn}
 
 -- ---- where a history begins
@@ -75,19 +75,37 @@ asksRewrite CallAt.Transmit = false
 asksRewrite CallAt.Fetch = false
 asksRewrite (CallAt.Scrub s) = atWrite (s .at)
 
--- the call under way does
-abbrev pub rewriting : Doing → Bool
-rewriting idle = false
-rewriting (busy k s) = asksRewrite (s .at)
+-- document 02, request 6: with TXQEN 0 or a payload beyond PLSIZE an unchecked push ends every FIFO's history
+abbrev pub strays : Model → Command → Bool
+strays c (Push n header seq payload) = false
+strays c (Transmit n header seq payload) = false
+strays c (QueuePush header seq payload) = false
+strays c (QueueUnchecked header seq payload) = not (c .fixed .queue) || ltb (payloadOf (frozenAt c 0)) (length payload)
+strays c QueueRequest = false
+strays c (Request n) = false
+strays c (HasNext n) = false
+strays c (Peek n buf) = false
+strays c (Get n buf) = false
+strays c (Reading x) = false
+strays c (Configuring x) = false
 
--- from v on, through these events, no scrub step has asked for its WRITE
-abbrev pub NoRewrite : List Event → World → Type 0
-NoRewrite [] v = rewriting (v .doing) ≡ false
-NoRewrite (e ∷ es) v = (rewriting (v .doing) ≡ false) × NoRewrite es (after (e ∷ []) v)
+-- the call under way ends the history
+abbrev pub ends : Model → Doing → Bool
+ends c idle = false
+ends c (busy k s) = asksRewrite (s .at) || strays c k
+
+-- from v on, through these events, P of every world
+abbrev pub Through : (World → Type 0) → List Event → World → Type 0
+Through P [] v = P v
+Through P (e ∷ es) v = P v × Through P es (after (e ∷ []) v)
+
+-- through these events no call ends the history
+abbrev pub Lasts : List Event → World → Type 0
+Lasts = Through (λ v. ends (v .chip) (v .doing) ≡ false)
 
 -- what holds after every history, whatever its events
 abbrev pub Always : (World → Type 0) → Type 0
-Always P = (c : Model) (w : ℕ) → Leaves c w → (es : List Event) → NoRewrite es (start c w) → P (world c w es)
+Always P = (c : Model) (w : ℕ) → Leaves c w → (es : List Event) → Lasts es (start c w) → P (world c w es)
 
 -- what holds of every call that begins after any history
 abbrev pub NextCall : (World → Type 0) → Type 0
@@ -124,6 +142,7 @@ unfoldable pub calls : List Said → List Said
 calls [] = []
 calls (called k o buf ∷ t) = called k o buf ∷ calls t
 calls (left k o ∷ t) = calls t
+calls (leftQueue o ∷ t) = calls t
 calls (arrived k m d ∷ t) = calls t
 
 -- a call k with the bus steps bs before its exchanges says xs, and no more
@@ -245,6 +264,7 @@ pub record ButFor (a n : ℕ) (c d : Model) : Type 0 where
   pub fixed : d .fixed ≡ c .fixed
   pub setup : d .setup ≡ c .setup
   pub fifo : d .fifo ≡ c .fifo
+  pub queue : d .queue ≡ c .queue
   pub long : length (d .ram) ≡ length (c .ram)
   pub below : (x : ℕ) → x < a → getD (d .ram) x 0 ≡ getD (c .ram) x 0
   pub above : (x : ℕ) → a + n ≤ x → getD (d .ram) x 0 ≡ getD (c .ram) x 0
@@ -324,6 +344,7 @@ abbrev pub TakesLast : ℕ → Event → Model → Type 0
 TakesLast n (Begin k) c = ⊥
 TakesLast n Exchange c = ⊥
 TakesLast n Fail c = ⊥
+TakesLast n (On SendQueue) c = ⊥
 TakesLast n (On (Send k)) c = (k ≡ n) × (sends c n ≡ true) × (fifoAt c n .count ≡ 1)
 TakesLast n (On (Deliver k header dlc time payload)) c = ⊥
 TakesLast n (On (Sort header dlc time payload)) c = ⊥
@@ -336,7 +357,7 @@ LastStays n (e ∷ es) v = (TakesLast n e (v .chip) → ⊥) × LastStays n es (
 -- until a send takes the last, TXREQ of FIFO n reads 1, and if it transmits and holds a message a send puts the oldest on the bus
 abbrev pub GoesOut : World → ℕ → Type 0
 GoesOut v n =
-    (es : List Event) → NoRewrite es v → LastStays n es v
+    (es : List Event) → Lasts es v → LastStays n es v
     → (let z = after es v in
     Requested (z .chip) n × (sending (frozenAt (z .chip) n) ≡ true → 0 < fifoAt (z .chip) n .count → SendsOldest z n))
 
@@ -353,7 +374,7 @@ TransmitSends =
     → (bs : List (List Bus)) → length bs ≡ 7
     → Takes (atStatus v bs) n payload → GoesOut (after (Begin (Transmit n header seq payload) ∷ calm bs) v) n)
 
--- ---- 7. no push, request, transmit, has-next, peek or get answers 3, 25 or 26
+-- ---- 7. no push, request, transmit, has-next, peek or get answers 3, 25 or 26, nor does a push or a request of the queue
 
 abbrev pub NotCaused : Refusal → Type 0
 NotCaused r = among (3 ∷ 25 ∷ 26 ∷ []) (getD (numbered r) 0 0) ≡ false
@@ -375,6 +396,9 @@ Ordinary (Outcome.Refused r) = NotCaused r
 abbrev pub Told : Command → Outcome → Type 0
 Told (Push n header seq payload) o = Ordinary o
 Told (Transmit n header seq payload) o = Ordinary o
+Told (QueuePush header seq payload) o = Ordinary o
+Told (QueueUnchecked header seq payload) o = Ordinary o
+Told QueueRequest o = Ordinary o
 Told (Request n) o = Ordinary o
 Told (HasNext n) o = Ordinary o
 Told (Peek n buf) o = Ordinary o
@@ -385,6 +409,7 @@ Told (Configuring x) o = Unit {0}
 abbrev pub TellsWell : Said → Type 0
 TellsWell (called k o buf) = Told k o
 TellsWell (left k o) = Unit {0}
+TellsWell (leftQueue o) = Unit {0}
 TellsWell (arrived k m d) = Unit {0}
 
 abbrev pub Each : (Said → Type 0) → List Said → Type 0

@@ -21,10 +21,14 @@ settingAt (Setting.FilterOff f) = Plans.FilterOff f
 settingAt (Setting.Osc o) = Plans.Osc o
 settingAt (Setting.Io c) = Plans.Io c
 settingAt (Setting.BitTiming b) = Plans.BitTiming b
+settingAt (Setting.TxQueue q) = Plans.Queue q
 
 abbrev pub doorOf : Command → Start
 doorOf (Command.Push n header seq payload) = Start.Push n header seq payload
 doorOf (Command.Transmit n header seq payload) = Start.Transmit n header seq payload
+doorOf (Command.QueuePush header seq payload) = Start.QueuePush header seq payload
+doorOf (Command.QueueUnchecked header seq payload) = Start.QueueUnchecked header seq payload
+doorOf Command.QueueRequest = Start.QueueRequest
 doorOf (Command.Request n) = Start.Request n
 doorOf (Command.HasNext n) = Start.HasNext n
 doorOf (Command.Peek n buf) = Start.Peek n (length buf)
@@ -36,6 +40,9 @@ doorOf (Command.Configuring x) = Start.Planned (settingAt x)
 abbrev pub kept : Command → Command
 kept (Command.Push n header seq payload) = Command.Push (fifoNumber n) header seq payload
 kept (Command.Transmit n header seq payload) = Command.Transmit (fifoNumber n) header seq payload
+kept (Command.QueuePush header seq payload) = Command.QueuePush header seq payload
+kept (Command.QueueUnchecked header seq payload) = Command.QueueUnchecked header seq payload
+kept Command.QueueRequest = Command.QueueRequest
 kept (Command.Request n) = Command.Request n
 kept (Command.HasNext n) = Command.HasNext (fifoNumber n)
 kept (Command.Peek n buf) = Command.Peek (fifoNumber n) buf

@@ -18,8 +18,9 @@ use Rattle.model.specs.Exchange.{Reply, failed, received, noLayout, Done, excha
 use Rattle.bus.specs.declared.arrival.Delivery.{Delivery}
 use Rattle.bus.specs.Bus.{Output, sendOutput, incoming, deliverOf}
 use Rattle.bus.specs.Sort.{sortOf}
-use Rattle.reach.specs.Bus.{Bus, Send, Deliver, Sort, stepped}
-use Rattle.history.specs.Command.{Command, Push, Transmit, Request, HasNext, Peek, Get, Reading, Configuring, started, lent, firstCall, secondCall}
+use Rattle.bus.specs.Queue.{queueOutput}
+use Rattle.reach.specs.Bus.{Bus, Send, SendQueue, Deliver, Sort, stepped}
+use Rattle.history.specs.Command.{Command, Push, Transmit, QueuePush, QueueUnchecked, QueueRequest, Request, HasNext, Peek, Get, Reading, Configuring, started, lent, firstCall, secondCall}
 
 -- a call begins; its next exchange is answered by the chip; its next exchange fails and is not carried out; a bus step
 pub data Event : Type 0 where
@@ -27,10 +28,12 @@ pub data Event : Type 0 where
   Exchange Fail : Event
   On : Bus → Event
 
--- what was said: a call's outcome and the lent buffer after it; what a send answered; a frame as its FIFO receives it, and the answer
+-- what was said: a call's outcome and the lent buffer after it; what a send answered, from a FIFO or from the queue; a frame as its FIFO
+-- receives it, and the answer
 pub data Said : Type 0 where
   called : Command → Outcome → List ℕ → Said
   left : ℕ → Output → Said
+  leftQueue : Output → Said
   arrived : ℕ → Message → Delivery → Said
 
 -- no call is under way, or one is and the driver stands there
@@ -97,6 +100,9 @@ isOver (Outcome.Refused r) = true
 abbrev pub halfway : Command → Call → Bool
 halfway (Push n header seq payload) s = false
 halfway (Transmit n header seq payload) s = isDone (s .push)
+halfway (QueuePush header seq payload) s = false
+halfway (QueueUnchecked header seq payload) s = false
+halfway QueueRequest s = false
 halfway (Request n) s = false
 halfway (HasNext n) s = false
 halfway (Peek n buf) s = false
@@ -119,6 +125,7 @@ goesOn t k s h = settled (h .chip) t k (stepOf s (h .answer) (h .rx)) (h .rx)
 -- what a bus step says; a sorted frame is its target's, and FIFO 0's, which there is not, where it is refused
 abbrev pub says : Bus → Model → Said
 says (Send n) c = left n (sendOutput c n)
+says SendQueue c = leftQueue (queueOutput c)
 says (Deliver n header dlc time payload) c =
     arrived n (incoming c n header dlc (time % 2 ^ 32) payload) (deliverOf c n header dlc (time % 2 ^ 32) payload .delivery)
 says (Sort header dlc time payload) c =

@@ -3,6 +3,7 @@ pub mod Door
 pub mod History
 pub mod Lists
 pub mod Demand
+pub mod Queue
 pub mod Scrub
 pub mod Counts
 pub mod Example

@@ -10,8 +10,8 @@ use Rattle.tx_fifo.specs.Step.{toSend}
 use Rattle.rx_fifo.specs.Outcome.{messageOf}
 use Rattle.bus.specs.declared.arrival.Delivery.{Delivery}
 use Rattle.bus.specs.Bus.{Output, frame, noFrame, nothing, refused}
-use Rattle.history.specs.Command.{Command, Push, Transmit, Request, HasNext, Peek, Get, Reading, Configuring}
-use Rattle.history.specs.History.{Said, called, left, arrived}
+use Rattle.history.specs.Command.{Command, Push, Transmit, QueuePush, QueueUnchecked, QueueRequest, Request, HasNext, Peek, Get, Reading, Configuring}
+use Rattle.history.specs.History.{Said, called, left, leftQueue, arrived}
 
 -- one message, if it is FIFO n's
 abbrev pub only : (n k : ℕ) → List Message → List Message
@@ -36,6 +36,9 @@ doneWith (Outcome.Refused r) m = []
 abbrev pub pushed : ℕ → Command → Outcome → List Message
 pushed n (Push k header seq payload) o = only n k (doneWith o (toSend header seq payload))
 pushed n (Transmit k header seq payload) o = []
+pushed n (QueuePush header seq payload) o = []
+pushed n (QueueUnchecked header seq payload) o = []
+pushed n QueueRequest o = []
 pushed n (Request k) o = []
 pushed n (HasNext k) o = []
 pushed n (Peek k buf) o = []
@@ -55,6 +58,7 @@ taken (Delivery.Refused r) m = []
 abbrev pub acceptedIn : ℕ → Said → List Message
 acceptedIn n (called k o buf) = pushed n k o
 acceptedIn n (left k o) = []
+acceptedIn n (leftQueue o) = []
 acceptedIn n (arrived k m d) = only n k (taken d m)
 
 -- the messages that FIFO n accepted
@@ -81,6 +85,9 @@ foundIn (Outcome.Refused r) buf = []
 abbrev pub got : ℕ → Command → Outcome → List ℕ → List Message
 got n (Push k header seq payload) o buf = []
 got n (Transmit k header seq payload) o buf = []
+got n (QueuePush header seq payload) o buf = []
+got n (QueueUnchecked header seq payload) o buf = []
+got n QueueRequest o buf = []
 got n (Request k) o buf = []
 got n (HasNext k) o buf = []
 got n (Peek k lent) o buf = []
@@ -98,9 +105,49 @@ framed (refused r) = []
 abbrev pub handedOutIn : ℕ → Said → List Message
 handedOutIn n (called k o buf) = got n k o buf
 handedOutIn n (left k o) = only n k (framed o)
+handedOutIn n (leftQueue o) = []
 handedOutIn n (arrived k m d) = []
 
 -- the messages that FIFO n handed out
 unfoldable pub handedOut : ℕ → List Said → List Message
 handedOut n [] = []
 handedOut n (x ∷ t) = handedOutIn n x ++ handedOut n t
+
+-- ---- the transmit queue's: document 02, request 6
+
+-- a checked push that is done
+abbrev pub queued : Command → Outcome → List Message
+queued (Push n header seq payload) o = []
+queued (Transmit n header seq payload) o = []
+queued (QueuePush header seq payload) o = doneWith o (toSend header seq payload)
+queued (QueueUnchecked header seq payload) o = []
+queued QueueRequest o = []
+queued (Request n) o = []
+queued (HasNext n) o = []
+queued (Peek n buf) o = []
+queued (Get n buf) o = []
+queued (Reading x) o = []
+queued (Configuring x) o = []
+
+abbrev pub queuedIn : Said → List Message
+queuedIn (called k o buf) = queued k o
+queuedIn (left n o) = []
+queuedIn (leftQueue o) = []
+queuedIn (arrived n m d) = []
+
+-- the messages that the queue accepted
+unfoldable pub queueAccepted : List Said → List Message
+queueAccepted [] = []
+queueAccepted (x ∷ t) = queuedIn x ++ queueAccepted t
+
+-- a frame that it sent
+abbrev pub queueSentIn : Said → List Message
+queueSentIn (called k o buf) = []
+queueSentIn (left n o) = []
+queueSentIn (leftQueue o) = framed o
+queueSentIn (arrived n m d) = []
+
+-- the messages that it sent
+unfoldable pub queueSent : List Said → List Message
+queueSent [] = []
+queueSent (x ∷ t) = queueSentIn x ++ queueSent t

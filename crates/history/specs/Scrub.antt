@@ -57,6 +57,9 @@ Takes (Register.Mask k) i = Unit {0}
 Takes (Register.Control n) i = ⊥
 Takes (Register.Status n) i = ⊥
 Takes (Register.Address n) i = ⊥
+Takes Register.QueueControl i = ⊥
+Takes Register.QueueStatus i = ⊥
+Takes Register.QueueAddress i = ⊥
 
 -- the WRITE is answered by the chip: a cared-for bit that the register takes as written is the wanted one, any other as it was read
 abbrev pub RewriteLeaves : Type 0

@@ -8,21 +8,23 @@ use lib.ListN.{getD}
 use lib.Dec.{eqb}
 use Rattle.laws.specs.If.{if_then_else_}
 use Rattle.laws.proofs.Choice.{by-if}
-use Rattle.field.specs.Field.{Field, read}
+use Rattle.field.specs.Field.{Field, read, digit}
 use Rattle.configuration.specs.CanControl.{REQOP}
 use Rattle.place.specs.declared.Register.{Register}
 use Rattle.operation.specs.declared.operation.Operation.{Operation}
 use Rattle.operation.specs.Operation.{asked}
-use Rattle.ring.specs.Registers.{frozenFields, control}
+use Rattle.ring.specs.Registers.{frozenFields, copied, control}
+use Rattle.ring.specs.Ring.{fresh}
 use Rattle.ring.specs.Laws.{Alike}
 use Rattle.ring.proofs.Laws.{frozen-kept}
 use Rattle.state.specs.declared.Model.{Model}
-use Rattle.state.specs.Model.{frozenAt, fifoAt}
+use Rattle.state.specs.Model.{frozenAt}
 use Rattle.bank.specs.declared.writing.Written.{Written}
 use Rattle.bank.specs.Registers.{wordOf, denied, granted, conSet, conWritten, registerWritten}
 use Rattle.bank.proofs.Laws.{frozen-outside}
+use Rattle.bank.proofs.QueueLaws.{txqen-reads, txqen-outside}
 use Rattle.model.specs.Exchange.{failed, received, noLayout, doneWriting, performed, exchange}
-use Rattle.model.specs.Laws.{reads, ReadingKeeps, OthersFail, FailureKeeps, FrozenOutside, replyNumbers, Answers27, OthersAnswerNone}
+use Rattle.model.specs.Laws.{reads, ReadingKeeps, OthersFail, FailureKeeps, FrozenOutside, QueueFrozenOutside, TxqenOutside, replyNumbers, Answers27, OthersAnswerNone}
 
 keeps : (o : Operation) (s : List ℕ) (want : ℕ) (m : Model) → reads o ≡ true → performed o s want m .model ≡ m
 unfolding performed
@@ -61,29 +63,51 @@ pub failure-keeps : FailureKeeps
 unfolding exchange performed
 failure-keeps s want m e = let n = none-fails (asked s want) s want m e in rw n
 
--- the control words of Configuration, after an operation outside it
-stays : (o : Operation) (s : List ℕ) (want : ℕ) (m : Model) → m .fixed .configuring ≡ false → (o ≡ Operation.Reset → ⊥) → performed o s want m .model .fixed .frozen ≡ m .fixed .frozen
-unfolding performed
-stays (Operation.Read r) s want m c h = refl
-stays (Operation.Checked r) s want m c h = refl
-stays (Operation.ReadRam a) s want m c h = refl
-stays (Operation.Write r w) s want m c h = frozen-outside m r w c
-stays (Operation.WriteRam a) s want m c h = refl
-stays Operation.Reset s want m c h = absurd (h refl)
-stays Operation.None s want m c h = refl
+-- what is fixed, after an operation outside Configuration
+module _ (s : List ℕ) (want : ℕ) (m : Model) (c : m .fixed .configuring ≡ false) where
+  stays : (o : Operation) → (o ≡ Operation.Reset → ⊥)
+      → (performed o s want m .model .fixed .frozen ≡ m .fixed .frozen) × (performed o s want m .model .fixed .queue ≡ m .fixed .queue)
+  unfolding performed
+  stays (Operation.Read r) h = (refl, refl)
+  stays (Operation.Checked r) h = (refl, refl)
+  stays (Operation.ReadRam a) h = (refl, refl)
+  stays (Operation.Write r w) h = (frozen-outside m r w c, txqen-outside m r w c)
+  stays (Operation.WriteRam a) h = (refl, refl)
+  stays Operation.Reset h = absurd (h refl)
+  stays Operation.None h = (refl, refl)
+
+  module _ (h : asked s want ≡ Operation.Reset → ⊥) where
+    abbrev next : Model
+    next = exchange s want m .model
+
+    still : (n : ℕ) → frozenAt next n ≡ frozenAt m n
+    unfolding exchange
+    still n = ap (λ (ws : List ℕ). getD ws n 0) (stays (asked s want) h .0)
+
+    on : next .fixed .queue ≡ m .fixed .queue
+    unfolding exchange
+    on = stays (asked s want) h .1
 
 alike : (fs : List Field) (u v w : ℕ) → Alike fs u w → Alike fs v w → Alike fs u v
 alike [] u v w a b = tt
 alike (f ∷ fs) u v w a b = (a .0 ∙ sym (b .0), alike fs u v w (a .1) (b .1))
 
+-- control words of the same frozen fields
+alike-frozen : (v w x y : ℕ) → v ≡ w → Alike frozenFields (copied frozenFields v x) (copied frozenFields w y)
+unfolding control fresh
+alike-frozen v w x y e =
+    alike frozenFields _ _ w (subst (λ (k : ℕ). Alike frozenFields (copied frozenFields v x) k) e (frozen-kept v (fresh x))) (frozen-kept w (fresh y))
+
 pub frozen-outside-all : FrozenOutside
-unfolding exchange wordOf
-frozen-outside-all s want m c h n =
-    let d = exchange s want m .model in
-    let e : frozenAt d n ≡ frozenAt m n = ap (λ (ws : List ℕ). getD ws n 0) (stays (asked s want) s want m c h) in
-    alike frozenFields _ _ (frozenAt m n)
-    (subst (λ (k : ℕ). Alike frozenFields (control (frozenAt d n) (fifoAt d n)) k) e (frozen-kept (frozenAt d n) (fifoAt d n)))
-    (frozen-kept (frozenAt m n) (fifoAt m n))
+unfolding wordOf control
+frozen-outside-all s want m c h n = alike-frozen _ _ _ _ (still s want m c h n)
+
+pub queue-frozen-outside : QueueFrozenOutside
+unfolding wordOf
+queue-frozen-outside s want m c h = alike-frozen _ _ _ _ (still s want m c h 0)
+
+pub txqen-outside-all : TxqenOutside
+txqen-outside-all s want m c h = txqen-reads (exchange s want m .model) ∙ ap digit (on s want m c h) ∙ sym (txqen-reads m)
 
 -- a write of CiCON: the first of its tests tells
 told : (b : Bool) (x : Model) (y : Written) → y .granted ≡ true
@@ -111,6 +135,9 @@ no-number (Operation.Write (Register.Mask k) w) s want m h = refl
 no-number (Operation.Write (Register.Control n) w) s want m h = refl
 no-number (Operation.Write (Register.Status n) w) s want m h = refl
 no-number (Operation.Write (Register.Address n) w) s want m h = refl
+no-number (Operation.Write Register.QueueControl w) s want m h = refl
+no-number (Operation.Write Register.QueueStatus w) s want m h = refl
+no-number (Operation.Write Register.QueueAddress w) s want m h = refl
 no-number (Operation.Read r) s want m h = refl
 no-number (Operation.Checked r) s want m h = refl
 no-number (Operation.ReadRam a) s want m h = refl

@@ -7,7 +7,7 @@ use mathlib.Core.List.{List, [], _∷_}
 use lib.Dec.{eqb}
 use Rattle.laws.specs.If.{if_then_else_}
 use Rattle.field.specs.Field.{read}
-use Rattle.configuration.specs.CanControl.{REQOP}
+use Rattle.configuration.specs.CanControl.{TXQEN, REQOP}
 use Rattle.spi.specs.declared.refusal.Refusal.{Refusal}
 use Rattle.spi.specs.Refusals.{numbered}
 use Rattle.place.specs.declared.Register.{Register}
@@ -48,6 +48,18 @@ FrozenOutside =
     (s : List ℕ) (want : ℕ) (m : Model) → m .fixed .configuring ≡ false → (asked s want ≡ Operation.Reset → ⊥) → (n : ℕ)
     → Alike frozenFields (wordOf (exchange s want m .model) (Register.Control n)) (wordOf m (Register.Control n))
 
+-- nor of the queue
+abbrev pub QueueFrozenOutside : Type 0
+QueueFrozenOutside =
+    (s : List ℕ) (want : ℕ) (m : Model) → m .fixed .configuring ≡ false → (asked s want ≡ Operation.Reset → ⊥)
+    → Alike frozenFields (wordOf (exchange s want m .model) Register.QueueControl) (wordOf m Register.QueueControl)
+
+-- nor TXQEN
+abbrev pub TxqenOutside : Type 0
+TxqenOutside =
+    (s : List ℕ) (want : ℕ) (m : Model) → m .fixed .configuring ≡ false → (asked s want ≡ Operation.Reset → ⊥)
+    → read TXQEN (wordOf (exchange s want m .model) Register.Con) ≡ read TXQEN (wordOf m Register.Con)
+
 -- document 01's number of how an exchange comes back
 abbrev pub replyNumbers : Reply → List ℕ
 replyNumbers failed = []
@@ -73,5 +85,7 @@ pub record Laws : Type 0 where
   pub othersFail : OthersFail
   pub failureKeeps : FailureKeeps
   pub frozenOutside : FrozenOutside
+  pub queueFrozenOutside : QueueFrozenOutside
+  pub txqenOutside : TxqenOutside
   pub answers27 : Answers27
   pub othersAnswerNone : OthersAnswerNone

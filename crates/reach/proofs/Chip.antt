@@ -15,6 +15,7 @@ use Rattle.laws.proofs.Table.{both}
 use Rattle.field.specs.Field.{read, flag, digit}
 use Rattle.configuration.specs.CanControl.{REQOP}
 use Rattle.fifo.specs.Control.{TXEN, TXREQ, payloadOf, isFifo, CiFIFOCON}
+use Rattle.fifo.specs.TxQueueControl.{CiTXQCON}
 use Rattle.fifo.specs.Status.{RXOVIF}
 use Rattle.header.specs.declared.Header.{Header}
 use Rattle.spi.specs.declared.refusal.Done.{Done}
@@ -25,6 +26,9 @@ use Rattle.operation.specs.Operation.{asked}
 use Rattle.ring.specs.declared.ring.Fifo.{Fifo}
 use Rattle.ring.specs.Ring.{sending, depth, fresh, claimed, overflowed, sent, turned}
 use Rattle.ring.specs.Registers.{control, status}
+use Rattle.ring.specs.Queue as queue
+use Rattle.ring.proofs.Queues.{fresh-held}
+use Rattle.ring.proofs.QueueControl.{queue-entering-empties}
 use Rattle.ring.proofs.Laws.{frozen-kept, control-off, send-txreq, entering-empties, status-bits}
 use Rattle.state.specs.declared.Model.{Model}
 use Rattle.state.specs.Model.{areas, blank, reset, fifoAt, frozenAt, withFifo}
@@ -44,9 +48,10 @@ use Rattle.bus.proofs.Fitting.{object-fits}
 use Rattle.bus.proofs.Sorts.{by-sort}
 use Rattle.reach.specs.Bus.{Bus, Send, Deliver, Sort, stepped}
 use Rattle.reach.specs.Reach.{Happening, Exchange, On, happens, lived, Reached, Valid}
-use Rattle.reach.specs.Chip.{Requested, SendTakes, SendKeeps, SendInside, DeliverAppends, FullOverflows, SortAppends, SortOverflows, Entered, Entering, Resetting, InsideEmpty, OpmodExactly}
+use Rattle.reach.specs.Chip.{Requested, SendTakes, SendKeeps, SendInside, DeliverAppends, FullOverflows, SortAppends, SortOverflows, Entered, Entering, Resetting, InsideEmpty, QueueInsideEmpty, OpmodExactly}
 use Rattle.reach.specs.Chip.{StatusReads}
 use Rattle.reach.proofs.Kept.{at-replicate, turned-at, always-valid}
+use Rattle.reach.proofs.Queue.{none-queued}
 use Rattle.reach.proofs.Sound.{Sound}
 use Rattle.reach.proofs.Slots.{fifo-told, filled, filled-held, filled-item, filled-sound, next-fifo, more-held}
 use Rattle.reach.proofs.Arrivals.{coming-back}
@@ -99,6 +104,9 @@ send-keeps m n i h = go (sends m n) refl
 
 pub inside-empty : InsideEmpty
 inside-empty m r c n = none-held m n (always-valid m r .fifo n .empty c)
+
+pub queue-inside-empty : QueueInsideEmpty
+queue-inside-empty m r c = none-queued m (always-valid m r .queue .none c)
 
 pub send-inside : SendInside
 send-inside m r c n i = send-keeps m n i (λ q. inside-empty m r c n)
@@ -251,6 +259,9 @@ module _ (m : Model) (w : ℕ) (c : m .fixed .configuring ≡ false) (q : read R
         empty = λ n. none-held _ n (ap (λ (f : Fifo). f .count) (t n) ∙ e n .empty);
         txreq = λ n. ap (λ (f : Fifo). read TXREQ (control (frozenAt m n) f)) (t n) ∙ e n .txreq;
         overflow = λ n. ap (λ (f : Fifo). f .over) (t n) ∙ e n .overflow;
+        queueEmpty = none-queued _ (queue-entering-empties (frozenAt m 0) (m .queue) .none);
+        queueTxreq = queue-entering-empties (frozenAt m 0) (m .queue) .txreq;
+        queueShows = queue-entering-empties (frozenAt m 0) (m .queue) .home;
       }
 
 pub entering : Entering
@@ -259,7 +270,7 @@ entering s want w m e c q =
     subst Entered (sym (ap (λ (o : Operation). performed o s want m .model) e ∙ ap (λ (x : Written). x .model) (entered-is m w c q))) (entered m w c q)
 
 reset-entered : (ram : List ℕ) → Entered (reset ram)
-unfolding reset wordOf fresh
+unfolding reset wordOf fresh queue.fresh
 reset-entered ram =
     let all : (P : Fifo → Type 0) → P (fresh (CiFIFOCON .reset)) → P blank → (n : ℕ) → P (fifoAt (reset ram) n)
     = λ P p q. at-replicate P areas (fresh (CiFIFOCON .reset)) blank p q in
@@ -268,76 +279,16 @@ reset-entered ram =
       empty = λ n. none-held (reset ram) n (all (λ f. f .count ≡ 0) refl refl n);
       txreq = λ n. control-off TXREQ (frozenAt (reset ram) n) (fifoAt (reset ram) n) refl ∙ all (λ f. read TXREQ (f .control) ≡ 0) refl refl n;
       overflow = λ n. all (λ f. f .over ≡ false) refl refl n;
+      queueEmpty = none-queued (reset ram) (fresh-held (CiTXQCON .reset));
+      queueTxreq = refl;
+      queueShows = refl;
     }
 
 pub resetting : Resetting
 unfolding exchange performed
 resetting s want m e = subst Entered (sym (ap (λ (o : Operation). performed o s want m .model) e)) (reset-entered (m .ram))
 
--- ---- the mode: outside Configuration REQOP is never 4
-
-abbrev Outside : Model → Type 0
-Outside m = m .fixed .configuring ≡ false → read REQOP (m .setup .con) ≡ 4 → ⊥
-
-con-outside : (m : Model) (w : ℕ) → Outside (conWritten m w .model)
-unfolding conWritten
-con-outside m w =
-    let P : Written → Type 0 = λ x. Outside (x .model) in
-    by-if P (m .fixed .configuring && not (eqb (read REQOP w) 4) && not (granted (m .fixed) w)) (λ d x y. clash x refl)
-    (λ d. by-if P (eqb (read REQOP w) 4)
-    (λ e. by-if P (m .fixed .configuring) (λ c x y. clash x refl) (λ c x y. clash x refl))
-    (λ e. by-if P (m .fixed .configuring) (λ c x. eqb-false (read REQOP w) 4 e) (λ c x. eqb-false (read REQOP w) 4 e)))
-
-module _ (m : Model) (h : Outside m) where
-  register-outside : (r : Register) (w : ℕ) → Outside (registerWritten m r w .model)
-  unfolding registerWritten controlWritten statusWritten
-  register-outside Register.Con w = con-outside m w
-  register-outside Register.Osc w = h
-  register-outside (Register.Plain k) w = h
-  register-outside (Register.Filter k) w = h
-  register-outside (Register.Object k) w = h
-  register-outside (Register.Mask k) w = h
-  register-outside (Register.Control n) w = by-if Outside (m .fixed .configuring) (λ c. h) (λ c. h)
-  register-outside (Register.Status n) w = by-if Outside (flag RXOVIF w) (λ e. h) (λ e. h)
-  register-outside (Register.Address n) w = h
-
-  performed-outside : (o : Operation) (s : List ℕ) (want : ℕ) → Outside (performed o s want m .model)
-  unfolding performed reset
-  performed-outside Operation.Reset s want = λ x y. clash x refl
-  performed-outside (Operation.Read r) s want = h
-  performed-outside (Operation.Checked r) s want = h
-  performed-outside (Operation.Write r w) s want = register-outside r w
-  performed-outside (Operation.ReadRam a) s want = h
-  performed-outside (Operation.WriteRam a) s want = h
-  performed-outside Operation.None s want = h
-
-  give-outside : (n hit d : ℕ) (header : Header) (time : ℕ) (payload : List ℕ) → Outside (give m n hit d header time payload .model)
-  give-outside n hit d header time payload =
-      by-give m n header d time payload (λ x. Outside (x .model)) hit (λ a. h) (λ a b. h) (λ a b c. h) (λ a b c f. h) (λ a b c f. h)
-
-  bus-outside : (b : Bus) → Outside (stepped b m)
-  unfolding stepped sendModel
-  bus-outside (Send n) = by-if Outside (isFifo n && sends m n) (λ e. h) (λ e. h)
-  bus-outside (Deliver n header dlc time payload) =
-      by-deliver m n header dlc (time % 2 ^ 32) payload (λ x. Outside (x .model)) (λ i. h) (λ i t. h) (λ i t d. h)
-      (λ i t e w. give-outside n 0 dlc header (time % 2 ^ 32) payload)
-  bus-outside (Sort header dlc time payload) =
-      by-sort m header dlc (time % 2 ^ 32) payload (λ x. Outside (x .model)) (λ t. h) (λ t e. h) (λ t e z. h) (λ t e z g. h)
-      (λ t e z g w. give-outside (targetFor m (filterFor m header)) (filterFor m header) dlc header (time % 2 ^ 32) payload)
-
-  happens-outside : (x : Happening) → Outside (happens x m)
-  unfolding exchange
-  happens-outside (Exchange s want) = performed-outside (asked s want) s want
-  happens-outside (On b) = bus-outside b
-
-lived-outside : (xs : List Happening) (m : Model) → Outside m → Outside (lived xs m)
-unfolding lived
-lived-outside [] m h = h
-lived-outside (x ∷ xs) m h = lived-outside xs (happens x m) (happens-outside m h x)
-
-reached-outside : (m : Model) → Reached m → Outside m
-unfolding reset
-reached-outside m r = subst Outside (sym (r .is)) (lived-outside (r .since) (reset (r .ram)) (λ x y. clash x refl))
+-- ---- the mode
 
 pub opmod-exactly : OpmodExactly
 unfolding modeOf
@@ -345,7 +296,7 @@ opmod-exactly m r = (λ e. go (m .fixed .configuring) refl (sym (opmod-is m) ∙
   where
     go : (b : Bool) → m .fixed .configuring ≡ b → modeOf m ≡ 4 → m .fixed .configuring ≡ true
     go true c q = c
-    go false c q = absurd (reached-outside m r c (rw c at q))
+    go false c q = absurd (always-valid m r .mode c (rw c at q))
 
 -- ---- status
 

@@ -1,6 +1,7 @@
 pub mod Order
 pub mod Kept
 pub mod Told
+pub mod Queue
 pub mod Bytes
 pub mod Sound
 pub mod Slots

@@ -18,26 +18,13 @@ use Rattle.ring.specs.declared.ring.Fifo.{Fifo}
 use Rattle.ring.specs.Ring.{sending, depth, fresh, claimed, taken, increased, controlled, overflowed, emptied, sent, configured, commanded, turned}
 use Rattle.ring.proofs.Laws.{place-lt}
 use Rattle.ring.proofs.Words.{depth-least}
+use Rattle.ring.proofs.Quiet.{Quiet, unrequested, dropped, dropped-quiet}
+pub use Rattle.ring.proofs.Quiet.{quiet-inside}
 use Rattle.reach.specs.Reach.{InOrder}
 
--- what is asked of a control word
-pub record Quiet (configuring : Bool) (w : ℕ) : Type 0 where
-  pub uinc : read UINC w ≡ 0
-  pub freset : configuring ≡ false → read FRESET w ≡ 0
-
+-- what is asked of its control word
 abbrev pub quiet : {b : Bool} {v : ℕ} {f : Fifo} → InOrder b v f → Quiet b (f .control)
 quiet o = record { uinc = o .uinc; freset = o .freset }
-
--- in Configuration it is UINC alone
-pub quiet-inside : (w : ℕ) → read UINC w ≡ 0 → Quiet true w
-quiet-inside w e = record { uinc = e; freset = λ c. absurd (false≢true (sym c)) }
-
--- clearing TXREQ leaves it so
-unrequested : (b : Bool) (w : ℕ) → Quiet b w → Quiet b (write TXREQ 0 w)
-unrequested b w q = record {
-  uinc = write-other TXREQ UINC 0 w (omega arith) refl ∙ q .uinc;
-  freset = λ e. write-other TXREQ FRESET 0 w (omega arith) refl ∙ q .freset e;
-}
 
 pub fresh-order : (b : Bool) (v w : ℕ) → Quiet b w → InOrder b v (fresh w)
 unfolding fresh
@@ -102,15 +89,6 @@ module _ (v : ℕ) (f : Fifo) (o : InOrder false v f) where
       by-if (InOrder false v) (eqb (f .count) 1)
       (λ e. controlled-order false v (taken v f) taken-order _ (unrequested false (f .control) (quiet o)))
       (λ e. taken-order)
-
--- what of a control word is changed outside Configuration
-abbrev dropped : List Setting
-dropped = UINC := 0 ∷ FRESET := 0 ∷ []
-
-dropped-quiet : (b : Bool) (w : ℕ) → Quiet b (settings dropped w)
-dropped-quiet b w =
-    let fit : AllFit dropped = (omega arith, (omega arith, tt)) in
-    record { uinc = own dropped w 0 refl fit (omega arith); freset = λ e. own dropped w 1 refl fit (omega arith) }
 
 pub commanded-order : (v w : ℕ) (f : Fifo) → InOrder false v f → InOrder false v (commanded v w f)
 unfolding commanded

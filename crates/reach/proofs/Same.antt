@@ -26,20 +26,25 @@ use Rattle.ring.specs.declared.ring.Fifo.{Fifo}
 use Rattle.ring.specs.Ring.{sending, depth, place, shown, fresh, claimed, taken, increased, controlled, overflowed, emptied, sent, configured, commanded, turned}
 use Rattle.ring.specs.Registers.{frozenFields, copied, control, ready, edge, status}
 use Rattle.ring.specs.Layout.{stamped, size, room, end, base, slotAt}
+use Rattle.ring.specs.declared.queue.Queue.{Queue}
+use Rattle.ring.specs.Queue as queue
+use Rattle.ring.specs.Queue.{isHeld, best}
+use Rattle.ring.proofs.Gathers.{best-same}
 use Rattle.state.specs.declared.Model.{Model}
 use Rattle.state.specs.declared.Setup.{Setup}
-use Rattle.state.specs.Model.{blank, reset, fifoAt, withSetup, withFifo, written}
+use Rattle.state.specs.Model.{blank, reset, fifoAt, withSetup, withFifo, withQueue, written}
 use Rattle.bank.specs.declared.writing.Written.{Written}
-use Rattle.bank.specs.Registers.{shownAt, wordOf, granted, conSet, turnedAll, conWritten, frozenSet, controlWritten, statusWritten, registerWritten}
+use Rattle.bank.specs.Registers.{shownAt, queueActs, queueShown, wordOf, granted, conSet, turnedAll, conWritten, frozenSet, controlWritten, statusWritten, queueWritten, registerWritten}
 use Rattle.model.specs.Exchange.{received, noLayout, checkedBytes, performed, exchange}
 use Rattle.filters.specs.Filters.{targetOf, filterCount, filterOf}
 use Rattle.bus.specs.declared.arrival.Delivered.{Delivered}
 use Rattle.bus.specs.declared.sorting.Sorted.{Sorted}
 use Rattle.bus.specs.Held.{slotOf, itemAt}
 use Rattle.bus.specs.Bus.{Output, outputOf, sends, sendOutput, sendModel, receives, appended, give, byCheck, deliverOf}
+use Rattle.bus.specs.Queue.{queueDepth, queueSlot, queueItem, queueRank, winner, queueSends, queueOutput, queueModel}
 use Rattle.bus.specs.Sort.{targetFor, byFilter, takenBy, filtered, sortedBy, sortOf}
 use Rattle.bus.specs.Numbers.{sortingNumbers, sortedNumbers}
-use Rattle.reach.specs.Bus.{Send, Deliver, Sort, stepped}
+use Rattle.reach.specs.Bus.{Send, SendQueue, Deliver, Sort, stepped}
 use Rattle.reach.specs.Reach.{Happening, Exchange, On, happens}
 use Rattle.reach.specs.Twins.{SameFifo, butCon, Same, Reads}
 use Rattle.reach.proofs.Kept.{turned-at}
@@ -176,6 +181,25 @@ module _ (W : ℕ → ℕ → Type 0) (z : Blind W) where
     unfolding control
     control-like = z .control v w _ _ a (s .control)
 
+  -- ---- the queue: its depth is all that it takes from its control word
+
+  module _ (v w : ℕ) (a : W v w) (p q : Queue) (e : p ≡ q) where
+    queue-status : queue.status v p ≡ queue.status w q
+    unfolding queue.status queue.full queue.free queue.empty
+    queue-status = rw (depth-like v w a, e)
+
+    queue-sent : (k : ℕ) → queue.sent v k p ≡ queue.sent w k q
+    unfolding queue.sent queue.freed queue.full queue.free queue.empty
+    queue-sent k = rw (depth-like v w a, e)
+
+    commanded-on : (b c : Bool) → b ≡ c → (x : ℕ) → queue.commanded b v x p ≡ queue.commanded c w x q
+    unfolding queue.commanded queue.claimed queue.full queue.free
+    commanded-on b c o x = rw (depth-like v w a, e, o)
+
+    -- and the fields that it reads from it
+    queue-control : copied frozenFields v (p .control) ≡ copied frozenFields w (q .control)
+    queue-control = rw (z .rxtsen v w a, z .txen v w a, z .fsize v w a, z .plsize v w a, e)
+
   -- ---- the layout
 
   module _ (q p : Bool) (e : q ≡ p) (ws us : List ℕ) (h : (n : ℕ) → W (getD ws n 0) (getD us n 0)) where
@@ -195,12 +219,13 @@ module _ (W : ℕ → ℕ → Type 0) (z : Blind W) where
     same-self m = record {
       con = kept _;
       configuring = refl;
-      queue = refl;
+      on = refl;
       frozens = refl;
       frozen = λ n. z .same _;
       setup = refl;
       fifos = refl;
       fifo = λ n. record { control = z .same _; head = refl; count = refl; over = refl };
+      queue = refl;
       ram = refl;
     }
 
@@ -209,12 +234,13 @@ module _ (W : ℕ → ℕ → Type 0) (z : Blind W) where
       with-fifo n f g s = record {
         con = t .con;
         configuring = t .configuring;
-        queue = t .queue;
+        on = t .on;
         frozens = t .frozens;
         frozen = t .frozen;
         setup = t .setup;
         fifos = length-set (c .fifo) n f ∙ t .fifos ∙ sym (length-set (d .fifo) n g);
         fifo = at-sets (SameFifo W) (c .fifo) (d .fifo) (t .fifos) n f g blank s (t .fifo);
+        queue = t .queue;
         ram = t .ram;
       }
 
@@ -222,25 +248,41 @@ module _ (W : ℕ → ℕ → Type 0) (z : Blind W) where
       with-frozen n x y b = record {
         con = t .con;
         configuring = t .configuring;
-        queue = t .queue;
+        on = t .on;
         frozens = length-set (c .fixed .frozen) n x ∙ t .frozens ∙ sym (length-set (d .fixed .frozen) n y);
         frozen = at-sets W (c .fixed .frozen) (d .fixed .frozen) (t .frozens) n x y 0 b (t .frozen);
         setup = t .setup;
         fifos = t .fifos;
         fifo = t .fifo;
+        queue = t .queue;
         ram = t .ram;
       }
 
-      with-con : (x y : ℕ) → C x y → (b : Bool) → Same C W (conSet c x b) (conSet d y b)
-      with-con x y e b = record {
+      with-con : (x y : ℕ) → C x y → flag TXQEN x ≡ flag TXQEN y → (b : Bool) → Same C W (conSet c x b) (conSet d y b)
+      with-con x y e a b = record {
         con = e;
         configuring = refl;
-        queue = t .queue;
+        on = ap₂ (λ (i : Bool) (p : Bool × Bool). if i then p .0 else p .1) (t .configuring) (λ k. (a k, t .on k));
         frozens = t .frozens;
         frozen = t .frozen;
         setup = t .setup;
         fifos = t .fifos;
         fifo = t .fifo;
+        queue = t .queue;
+        ram = t .ram;
+      }
+
+      with-queue : (p q : Queue) → p ≡ q → Same C W (withQueue c p) (withQueue d q)
+      with-queue p q e = record {
+        con = t .con;
+        configuring = t .configuring;
+        on = t .on;
+        frozens = t .frozens;
+        frozen = t .frozen;
+        setup = t .setup;
+        fifos = t .fifos;
+        fifo = t .fifo;
+        queue = e;
         ram = t .ram;
       }
 
@@ -248,7 +290,7 @@ module _ (W : ℕ → ℕ → Type 0) (z : Blind W) where
       with-turned b = record {
         con = t .con;
         configuring = t .configuring;
-        queue = t .queue;
+        on = t .on;
         frozens = t .frozens;
         frozen = t .frozen;
         setup = t .setup;
@@ -256,6 +298,7 @@ module _ (W : ℕ → ℕ → Type 0) (z : Blind W) where
         fifo = λ n.
             subst (λ (f : Fifo). SameFifo W f (fifoAt (turnedAll b d) n)) (sym (turned-at b c n))
             (subst (SameFifo W (turned b (fifoAt c n))) (sym (turned-at b d n)) (turned-like (fifoAt c n) (fifoAt d n) (t .fifo n) b));
+        queue = ap (queue.turned b) (t .queue);
         ram = t .ram;
       }
 
@@ -263,12 +306,13 @@ module _ (W : ℕ → ℕ → Type 0) (z : Blind W) where
       with-setup x y e b = record {
         con = e;
         configuring = t .configuring;
-        queue = t .queue;
+        on = t .on;
         frozens = t .frozens;
         frozen = t .frozen;
         setup = b;
         fifos = t .fifos;
         fifo = t .fifo;
+        queue = t .queue;
         ram = t .ram;
       }
 
@@ -276,12 +320,13 @@ module _ (W : ℕ → ℕ → Type 0) (z : Blind W) where
       with-bytes a b bs e = record {
         con = t .con;
         configuring = t .configuring;
-        queue = t .queue;
+        on = t .on;
         frozens = t .frozens;
         frozen = t .frozen;
         setup = t .setup;
         fifos = t .fifos;
         fifo = t .fifo;
+        queue = t .queue;
         ram = ap₂ (λ (l : List ℕ) (x : ℕ). take (length l) (put l x bs)) (t .ram) e;
       }
 
@@ -297,11 +342,11 @@ module _ (W : ℕ → ℕ → Type 0) (z : Blind W) where
       unfolding conWritten granted
       con-like x y e q a b =
           let P : Written → Written → Type 0 = SameWritten in
-          let g : granted (c .fixed) x ≡ granted (d .fixed) y = rw (a, b, end-like (c .fixed .queue) (d .fixed .queue) (t .queue) (c .fixed .frozen) (d .fixed .frozen) (t .frozen) 31) in
-          by-ifs P _ _ (ap₂ _&&_ (ap₂ (λ (i j : Bool). i && not j) (t .configuring) q) (ap not g)) (refl, with-con c d t x y e true)
+          let g : granted (c .fixed) x ≡ granted (d .fixed) y = rw (b, end-like (flag TXQEN x) (flag TXQEN y) a (c .fixed .frozen) (d .fixed .frozen) (t .frozen) 31) in
+          by-ifs P _ _ (ap₂ _&&_ (ap₂ (λ (i j : Bool). i && not j) (t .configuring) q) (ap not g)) (refl, with-con c d t x y e a true)
           (by-ifs P _ _ q
-          (by-ifs P _ _ (t .configuring) (refl, with-con c d t x y e true) (refl, with-con _ _ (with-turned c d t true) x y e true))
-          (by-ifs P _ _ (t .configuring) (refl, with-con _ _ (with-turned c d t false) x y e false) (refl, with-con c d t x y e false)))
+          (by-ifs P _ _ (t .configuring) (refl, with-con c d t x y e a true) (refl, with-con _ _ (with-turned c d t true) x y e a true))
+          (by-ifs P _ _ (t .configuring) (refl, with-con _ _ (with-turned c d t false) x y e a false) (refl, with-con c d t x y e a false)))
 
       -- a control word written with two words that are alike
       pub control-written : (n x y : ℕ) → W x y → Same C W (controlWritten c n x) (controlWritten d n y)
@@ -314,6 +359,14 @@ module _ (W : ℕ → ℕ → Type 0) (z : Blind W) where
       status-written : (n w : ℕ) → Same C W (statusWritten c n w) (statusWritten d n w)
       unfolding statusWritten
       status-written n w = by-ifs (Same C W) (flag RXOVIF w) _ refl t (with-fifo c d t n _ _ (overflowed-like _ _ (t .fifo n) false))
+
+      -- the control word of the queue written, in two chips whose frozen words are alike
+      queue-written : (w : ℕ) → Same C W (queueWritten c w) (queueWritten d w)
+      unfolding queueWritten
+      queue-written w =
+          by-ifs (Same C W) _ _ (t .configuring)
+          (with-queue _ _ (with-frozen c d t 0 _ _ (z .same (write TXEN 1 w))) _ _ (ap (queue.configured w) (t .queue)))
+          (with-queue c d t _ _ (commanded-on _ _ (t .frozen 0) _ _ (t .queue) _ _ (t .on) w))
 
       written-like : (r : Register) (w : ℕ) → SameWritten (registerWritten c r w) (registerWritten d r w)
       unfolding registerWritten
@@ -341,6 +394,9 @@ module _ (W : ℕ → ℕ → Type 0) (z : Blind W) where
       written-like (Register.Control n) w = (refl, control-written n w w (z .same w))
       written-like (Register.Status n) w = (refl, status-written n w)
       written-like (Register.Address n) w = (refl, t)
+      written-like Register.QueueControl w = (refl, queue-written w)
+      written-like Register.QueueStatus w = (refl, t)
+      written-like Register.QueueAddress w = (refl, t)
 
       -- ---- exchanges
 
@@ -372,10 +428,20 @@ module _ (W : ℕ → ℕ → Type 0) (z : Blind W) where
       unfolding shownAt
       shown-at n =
           ap (slotAt (c .fixed .queue) (c .fixed .frozen) n) (shown-like _ _ (t .frozen n) _ _ (t .fifo n))
-          ∙ slot-like (c .fixed .queue) (d .fixed .queue) (t .queue) (c .fixed .frozen) (d .fixed .frozen) (t .frozen) n _
+          ∙ slot-like (c .fixed .queue) (d .fixed .queue) (t .on) (c .fixed .frozen) (d .fixed .frozen) (t .frozen) n _
 
       osc-like : c .setup .osc ≡ d .setup .osc
       osc-like = ap (λ (s : Setup). s .osc) (t .setup)
+
+      acts-like : queueActs (c .fixed) ≡ queueActs (d .fixed)
+      acts-like = ap₂ (λ (i j : Bool). not i && j) (t .configuring) (t .on)
+
+      queue-slot : (k : ℕ) → slotAt (c .fixed .queue) (c .fixed .frozen) 0 k ≡ slotAt (d .fixed .queue) (d .fixed .frozen) 0 k
+      queue-slot k = slot-like (c .fixed .queue) (d .fixed .queue) (t .on) (c .fixed .frozen) (d .fixed .frozen) (t .frozen) 0 k
+
+      queue-shown : queueShown c ≡ queueShown d
+      unfolding queueShown
+      queue-shown = ap (λ (q : Queue). slotAt (c .fixed .queue) (c .fixed .frozen) 0 (q .shown)) (t .queue) ∙ queue-slot _
 
       -- all registers outside R, where CiCON and the control words do
       words-like : (R : Register → Type 0) → ((R Register.Con → ⊥) → wordOf c Register.Con ≡ wordOf d Register.Con)
@@ -391,6 +457,9 @@ module _ (W : ℕ → ℕ → Type 0) (z : Blind W) where
       words-like R e f (Register.Control n) h = f n h
       words-like R e f (Register.Status n) h = by-ifs (λ (x y : ℕ). x ≡ y) _ _ (t .configuring) refl (status-like _ _ (t .frozen n) _ _ (t .fifo n))
       words-like R e f (Register.Address n) h = by-ifs (λ (x y : ℕ). x ≡ y) _ _ (t .configuring) refl (shown-at n)
+      words-like R e f Register.QueueControl h = queue-control _ _ (t .frozen 0) _ _ (t .queue)
+      words-like R e f Register.QueueStatus h = by-ifs (λ (x y : ℕ). x ≡ y) _ _ acts-like (queue-status _ _ (t .frozen 0) _ _ (t .queue)) refl
+      words-like R e f Register.QueueAddress h = by-ifs (λ (x y : ℕ). x ≡ y) _ _ acts-like queue-shown refl
 
       pub control-read : (n : ℕ) → W (wordOf c (Register.Control n)) (wordOf d (Register.Control n))
       unfolding wordOf
@@ -402,7 +471,7 @@ module _ (W : ℕ → ℕ → Type 0) (z : Blind W) where
       unfolding slotOf
       slots-like n k =
           ap₂ (λ (e h : ℕ). slotAt (c .fixed .queue) (c .fixed .frozen) n (place e h k)) (depth-like _ _ (t .frozen n)) (t .fifo n .head)
-          ∙ slot-like (c .fixed .queue) (d .fixed .queue) (t .queue) (c .fixed .frozen) (d .fixed .frozen) (t .frozen) n _
+          ∙ slot-like (c .fixed .queue) (d .fixed .queue) (t .on) (c .fixed .frozen) (d .fixed .frozen) (t .frozen) n _
 
       items-like : (n k : ℕ) → itemAt c n k ≡ itemAt d n k
       unfolding itemAt
@@ -425,6 +494,36 @@ module _ (W : ℕ → ℕ → Type 0) (z : Blind W) where
       unfolding sendModel
       send-like n =
           by-ifs (Same C W) _ _ (ap (λ (b : Bool). isFifo n && b) (sends-like n)) (with-fifo c d t n _ _ (sent-like _ _ (t .frozen n) _ _ (t .fifo n))) t
+
+      queue-item : (k : ℕ) → queueItem c k ≡ queueItem d k
+      unfolding queueItem queueSlot
+      queue-item k = rw (size-like _ _ (t .frozen 0), queue-slot k, t .ram)
+
+      queue-rank : (k : ℕ) → queueRank c k ≡ queueRank d k
+      unfolding queueRank queueSlot
+      queue-rank k = rw (queue-slot k, t .ram)
+
+      winners-like : winner c ≡ winner d
+      unfolding winner
+      winners-like =
+          best-same (isHeld (c .queue)) (queueRank c) (queueRank d) 0 (queueDepth c) (λ j x y z. queue-rank j)
+          ∙ ap₂ (λ (q : Queue) (n : ℕ). best (isHeld q) (queueRank d) 0 n) (t .queue) (depth-like _ _ (t .frozen 0))
+
+      queue-sends : queueSends c ≡ queueSends d
+      unfolding queueSends
+      queue-sends = rw (t .on, t .queue, winners-like)
+
+      pub queue-outputs : queueOutput c ≡ queueOutput d
+      unfolding queueOutput
+      queue-outputs =
+          let P : Output → Output → Type 0 = λ x y. x ≡ y in
+          by-ifs P _ _ queue-sends (ap outputOf (queue-item (winner c) ∙ ap (queueItem d) winners-like)) refl
+
+      queue-send : Same C W (queueModel c) (queueModel d)
+      unfolding queueModel
+      queue-send =
+          by-ifs (Same C W) _ _ queue-sends
+          (with-queue c d t _ _ (queue-sent _ _ (t .frozen 0) _ _ (t .queue) (winner c) ∙ ap (λ (k : ℕ). queue.sent _ k (d .queue)) winners-like)) t
 
       abbrev SameDelivered : Delivered → Delivered → Type 0
       SameDelivered x y = (x .delivery ≡ y .delivery) × Same C W (x .model) (y .model)
@@ -499,6 +598,7 @@ module _ (W : ℕ → ℕ → Type 0) (z : Blind W) where
       unfolding exchange stepped
       happens-like e (Exchange s want) = performed-like (asked s want) s want
       happens-like e (On (Send n)) = send-like n
+      happens-like e (On SendQueue) = queue-send
       happens-like e (On (Deliver n header dlc time payload)) = delivers-like n header dlc (time % 2 ^ 32) payload .1
       happens-like e (On (Sort header dlc time payload)) = sorts-like e header dlc (time % 2 ^ 32) payload .3
 

@@ -150,7 +150,7 @@ module _ (c : Model) (s : Sound c) where
       (λ o. other-fifo i j k l hi hj o (omega arith) (omega arith))
 
 -- a write inside one place leaves what is read at a place apart from it
-frame : (l bs : List ℕ) (a m b n : ℕ) → Apart b n a m → length bs ≤ m → a + m ≤ length l → part (take (length l) (put l a bs)) b n ≡ part l b n
+pub frame : (l bs : List ℕ) (a m b n : ℕ) → Apart b n a m → length bs ≤ m → a + m ≤ length l → part (take (length l) (put l a bs)) b n ≡ part l b n
 frame l bs a m b n o k j =
     let fits : a + length bs ≤ length l = omega arith in
     ap (λ (r : List ℕ). part r b n) (put-inside l a bs fits) ∙ go fits o
@@ -196,7 +196,7 @@ module _ (c : Model) (s : Sound c) (n : ℕ) (h : isFifo n ≡ true) (free : fif
       let e : length (filled c n bs .ram) ≡ length (c .ram)
       = ap length (put-inside (c .ram) (slotOf c n (fifoAt c n .count)) bs (omega (arith, free-inside)))
       ∙ length-put (c .ram) (slotOf c n (fifoAt c n .count)) bs (omega (arith, free-inside)) in
-      record { valid = record { frozens = v .frozens; fifos = v .fifos; ram = e ∙ v .ram; setup = v .setup; fifo = v .fifo; layout = v .layout }; out = s .out }
+      record { valid = record { frozens = v .frozens; fifos = v .fifos; ram = e ∙ v .ram; setup = v .setup; fifo = v .fifo; layout = v .layout; queue = v .queue; mode = v .mode }; out = s .out }
 
 -- ---- FIFO n becomes g
 

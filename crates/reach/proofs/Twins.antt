@@ -10,7 +10,7 @@ use lib.Dec.{eqb}
 use Rattle.laws.specs.All.{all}
 use Rattle.laws.specs.If.{if_then_else_}
 use Rattle.laws.proofs.Table.{both}
-use Rattle.field.specs.Field.{Field, place, read, write, Fits, apart}
+use Rattle.field.specs.Field.{Field, place, read, write, digit, Fits, apart}
 use Rattle.field.proofs.Laws.{field-lt, read-write, write-other}
 use Rattle.configuration.specs.CanControl.{DNCNT, OPMOD, REQOP, TXQEN, STEF}
 use Rattle.fifo.specs.Control.{RXTSEN, TXEN, UINC, TXREQ, FRESET, FSIZE, PLSIZE}
@@ -21,7 +21,7 @@ use Rattle.state.specs.declared.Model.{Model}
 use Rattle.bank.specs.Registers.{modeOf, wordOf, registerWritten}
 use Rattle.bank.proofs.Laws.{mode-fits}
 use Rattle.reach.specs.Twins.{IsCon, conOthers, ButMode, ModeAsked, ModesAlike, IsControl, controlOthers, ButRtren, RtrenWritten, RtrenIdle}
-use Rattle.reach.proofs.Same.{Blind, same-self, con-like, control-written, control-read, outputs-like, delivers-like, sorted-like, happens-like, exchanges-like}
+use Rattle.reach.proofs.Same.{Blind, same-self, con-like, control-written, control-read, outputs-like, queue-outputs, delivers-like, sorted-like, happens-like, exchanges-like}
 
 -- ---- words that are alike in some fields
 
@@ -70,6 +70,10 @@ alike-off g (f ∷ fs) x y v w e h k a =
     let (b, c) = both (apart g f) (all (apart g) fs) e in
     (write-other g f x v h b ∙ a .0 ∙ sym (write-other g f y w k b), alike-off g fs x y v w c h k (a .1))
 
+digit-fits : (b : Bool) → Fits TXQEN (digit b)
+digit-fits true = omega arith
+digit-fits false = omega arith
+
 -- ---- the modes
 
 words-blind : Blind (λ v w. v ≡ w)
@@ -97,7 +101,9 @@ mode-asked m v w e f a =
 
 con-reads : (c d : Model) → ButMode c d → Alike conOthers (wordOf c Register.Con) (wordOf d Register.Con)
 unfolding wordOf
-con-reads c d b = alike-off OPMOD conOthers (modeOf c) (modeOf d) _ _ refl (mode-fits c) (mode-fits d) (b .con)
+con-reads c d b =
+    alike-set TXQEN conOthers _ _ _ _ refl (ap digit (b .on)) (digit-fits (c .fixed .queue))
+    (alike-off OPMOD conOthers (modeOf c) (modeOf d) _ _ refl (mode-fits c) (mode-fits d) (b .con))
 
 pub modes-alike : ModesAlike
 modes-alike c d b =
@@ -108,6 +114,7 @@ modes-alike c d b =
       exchanges = exchanges-like W words-blind C k c d b IsCon (λ n. absurd (n tt)) (λ n h. control-read W words-blind C k c d b n);
       words = λ r i. go r i;
       sends = outputs-like W words-blind C k c d b;
+      sendsQueue = queue-outputs W words-blind C k c d b;
       delivers = λ n header dlc time payload. delivers-like W words-blind C k c d b n header dlc time payload .0;
       sorts = sorted-like W words-blind C k c d b (alike-at DNCNT conOthers (c .setup .con) (d .setup .con) refl (b .con));
       after = happens-like W words-blind C k c d b (alike-at DNCNT conOthers (c .setup .con) (d .setup .con) refl (b .con));
@@ -123,6 +130,9 @@ modes-alike c d b =
     go (Register.Control n) i = absurd i
     go (Register.Status n) i = absurd i
     go (Register.Address n) i = absurd i
+    go Register.QueueControl i = absurd i
+    go Register.QueueStatus i = absurd i
+    go Register.QueueAddress i = absurd i
 
 -- ---- RTREN
 
@@ -159,7 +169,9 @@ rtren-written m n v w a =
 
 con-same : (c d : Model) → ButRtren c d → wordOf c Register.Con ≡ wordOf d Register.Con
 unfolding wordOf modeOf
-con-same c d b = ap₂ (λ (i : Bool) (w : ℕ). write OPMOD (if i then 4 else read REQOP w) w) (b .configuring) (b .con)
+con-same c d b =
+    ap₂ (λ (q : Bool) (x : ℕ). write TXQEN (digit q) x) (b .on)
+    (ap₂ (λ (i : Bool) (w : ℕ). write OPMOD (if i then 4 else read REQOP w) w) (b .configuring) (b .con))
 
 pub rtren-idle : RtrenIdle
 rtren-idle c d b =
@@ -170,6 +182,7 @@ rtren-idle c d b =
       exchanges = exchanges-like W rtren-blind C k c d b IsControl (λ n. con-same c d b) (λ n h. absurd (h tt));
       words = λ r i. go r i;
       sends = outputs-like W rtren-blind C k c d b;
+      sendsQueue = queue-outputs W rtren-blind C k c d b;
       delivers = λ n header dlc time payload. delivers-like W rtren-blind C k c d b n header dlc time payload .0;
       sorts = sorted-like W rtren-blind C k c d b (ap (read DNCNT) (b .con));
       after = happens-like W rtren-blind C k c d b (ap (read DNCNT) (b .con));
@@ -185,3 +198,6 @@ rtren-idle c d b =
     go (Register.Control n) i = control-read (Alike controlOthers) rtren-blind (λ v w. v ≡ w) (λ x. refl) c d b n
     go (Register.Status n) i = absurd i
     go (Register.Address n) i = absurd i
+    go Register.QueueControl i = absurd i
+    go Register.QueueStatus i = absurd i
+    go Register.QueueAddress i = absurd i

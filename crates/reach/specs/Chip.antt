@@ -4,12 +4,12 @@ use Prim.Native.Nat.{ℕ, _+_, _*_, _^_, _<_}
 use mathlib.Core.Path.{_≡_}
 use mathlib.Core.Bool.{Bool, true, false}
 use mathlib.Core.Logic.{_↔_}
-use mathlib.Core.List.{List, [], _∷_, _++_}
+use mathlib.Core.List.{List, [], _∷_, _++_, Perm}
 use lib.ListN.{length}
 use lib.Dec.{ltb, leb, eqb}
 use Rattle.laws.specs.If.{if_then_else_}
 use Rattle.field.specs.Field.{read, flag, digit}
-use Rattle.configuration.specs.CanControl.{OPMOD, REQOP}
+use Rattle.configuration.specs.CanControl.{TXQEN, OPMOD, REQOP}
 use Rattle.fifo.specs.Control.{TXEN, TXREQ, FSIZE, isFifo}
 use Rattle.fifo.specs.Status.{RXOVIF}
 use Rattle.header.specs.declared.Header.{Header}
@@ -17,6 +17,8 @@ use Rattle.message.specs.Message.{Decoding, holds}
 use Rattle.place.specs.declared.Register.{Register}
 use Rattle.operation.specs.declared.operation.Operation.{Operation}
 use Rattle.operation.specs.Operation.{asked}
+use Rattle.ring.specs.Queue.{isHeld}
+use Rattle.ring.specs.QueueLaws.{Best}
 use Rattle.state.specs.declared.Model.{Model}
 use Rattle.state.specs.Model.{fifoAt}
 use Rattle.bank.specs.Registers.{wordOf}
@@ -25,6 +27,7 @@ use Rattle.bus.specs.declared.arrival.Delivery.{Delivery}
 use Rattle.bus.specs.Held.{held}
 use Rattle.bus.specs.Bus.{nothing, outputOf, sendOutput, sendModel, incoming, deliverOf}
 use Rattle.bus.specs.Sort.{sortOf}
+use Rattle.bus.specs.Queue.{queueDepth, queueItem, heldQueue, queueRank, queueOutput, queueModel}
 use Rattle.reach.specs.Reach.{Reached}
 
 -- ---- send
@@ -53,6 +56,32 @@ SendKeeps = (m : Model) (n : ℕ) → isFifo n ≡ true → (Requested m n → h
 abbrev pub SendInside : Type 0
 SendInside =
     (m : Model) → Reached m → m .fixed .configuring ≡ true → (n : ℕ) → isFifo n ≡ true → (sendOutput m n ≡ nothing) × (sendModel m n ≡ m)
+
+-- ---- send from the queue
+
+-- TXQEN and the queue's TXREQ read 1
+abbrev pub QueueRequested : Model → Type 0
+QueueRequested m = (read TXQEN (wordOf m Register.Con) ≡ 1) × (read TXREQ (wordOf m Register.QueueControl) ≡ 1)
+
+-- slot k is held and wins arbitration: of the slots held none has a smaller rank, and none below it the same
+abbrev pub Wins : Model → ℕ → Type 0
+Wins m k = Best (isHeld (m .queue)) (queueRank m) (queueDepth m) k
+
+-- the winner, in slot k, goes out and the rest stay; TXREQ is cleared when none is left, and otherwise kept
+pub record QueueTakes (m : Model) : Type 0 where
+  pub slot : ℕ
+  pub wins : Wins m slot
+  pub out : queueOutput m ≡ outputOf (queueItem m slot)
+  pub stay : Perm (heldQueue m) (queueItem m slot ∷ heldQueue (queueModel m))
+  pub last : heldQueue (queueModel m) ≡ [] → read TXREQ (wordOf (queueModel m) Register.QueueControl) ≡ 0
+  pub another : (heldQueue (queueModel m) ≡ [] → ⊥) → read TXREQ (wordOf (queueModel m) Register.QueueControl) ≡ 1
+
+abbrev pub QueueSendTakes : Type 0
+QueueSendTakes = (m : Model) → Reached m → QueueRequested m → (heldQueue m ≡ [] → ⊥) → QueueTakes m
+
+-- otherwise, with TXQEN at 0 too, it answers "nothing sent" and changes nothing
+abbrev pub QueueSendKeeps : Type 0
+QueueSendKeeps = (m : Model) → (QueueRequested m → heldQueue m ≡ []) → (queueOutput m ≡ nothing) × (queueModel m ≡ m)
 
 -- ---- deliver
 
@@ -88,12 +117,16 @@ SortOverflows =
 
 -- ---- Configuration
 
--- in Configuration, every FIFO empty, with TXREQ at 0; status bit 3, which reads 0 there, is 0 for the time after
+-- in Configuration, every FIFO empty, with TXREQ at 0; status bit 3, which reads 0 there, is 0 for the time after; so is the queue, which
+-- shows slot 0
 pub record Entered (m : Model) : Type 0 where
   pub inside : m .fixed .configuring ≡ true
   pub empty : (n : ℕ) → held m n ≡ []
   pub txreq : (n : ℕ) → read TXREQ (wordOf m (Register.Control n)) ≡ 0
   pub overflow : (n : ℕ) → fifoAt m n .over ≡ false
+  pub queueEmpty : heldQueue m ≡ []
+  pub queueTxreq : read TXREQ (wordOf m Register.QueueControl) ≡ 0
+  pub queueShows : m .queue .shown ≡ 0
 
 -- entering it, by a CiCON write with REQOP 4 from outside
 abbrev pub Entering : Type 0
@@ -108,6 +141,10 @@ Resetting = (s : List ℕ) (want : ℕ) (m : Model) → asked s want ≡ Operati
 -- every FIFO stays empty while in it
 abbrev pub InsideEmpty : Type 0
 InsideEmpty = (m : Model) → Reached m → m .fixed .configuring ≡ true → (n : ℕ) → held m n ≡ []
+
+-- and so does the queue
+abbrev pub QueueInsideEmpty : Type 0
+QueueInsideEmpty = (m : Model) → Reached m → m .fixed .configuring ≡ true → heldQueue m ≡ []
 
 -- OPMOD reads 4 exactly in Configuration
 abbrev pub OpmodExactly : Type 0
@@ -126,3 +163,11 @@ abbrev pub StatusReads : Type 0
 StatusReads =
     (m : Model) → m .fixed .configuring ≡ false → (n : ℕ) → isFifo n ≡ true
     → wordOf m (Register.Status n) ≡ statusOf (wordOf m (Register.Control n)) (length (held m n)) (fifoAt m n .over)
+
+-- of the queue: bit 0 not-full, bit 2 empty, other bits 0; with TXQEN at 0 all
+abbrev pub QueueStatusReads : Type 0
+QueueStatusReads =
+    (m : Model) → m .fixed .configuring ≡ false
+    → wordOf m Register.QueueStatus
+    ≡ (if m .fixed .queue then digit (ltb (length (heldQueue m)) (read FSIZE (wordOf m Register.QueueControl) + 1)) + 4 * digit (eqb (length (heldQueue m)) 0)
+    else 0)

@@ -6,10 +6,12 @@ use mathlib.Core.Bool.{Bool, true, false}
 use mathlib.Core.List.{List, [], _∷_}
 use lib.ListN.{length}
 use Rattle.field.specs.Field.{read}
+use Rattle.configuration.specs.CanControl.{REQOP}
 use Rattle.fifo.specs.Control.{UINC, FRESET}
 use Rattle.ring.specs.declared.ring.Fifo.{Fifo}
 use Rattle.ring.specs.Ring.{depth}
 use Rattle.ring.specs.Layout.{end}
+use Rattle.ring.specs.QueueOrder.{InOrder as QueueInOrder}
 use Rattle.state.specs.declared.Setup.{Setup}
 use Rattle.state.specs.declared.Model.{Model}
 use Rattle.state.specs.Model.{areas, reset, fifoAt, frozenAt}
@@ -58,7 +60,7 @@ pub record AllThere (s : Setup) : Type 0 where
   pub object : length (s .object) ≡ 32
   pub mask : length (s .mask) ≡ 32
 
--- every FIFO is in order, and outside Configuration all their slots are in RAM
+-- every FIFO is in order and so is the queue; outside Configuration all their slots are in RAM, and REQOP asks for another mode
 pub record Valid (m : Model) : Type 0 where
   pub frozens : length (m .fixed .frozen) ≡ areas
   pub fifos : length (m .fifo) ≡ areas
@@ -66,6 +68,8 @@ pub record Valid (m : Model) : Type 0 where
   pub setup : AllThere (m .setup)
   pub fifo : (n : ℕ) → InOrder (m .fixed .configuring) (frozenAt m n) (fifoAt m n)
   pub layout : m .fixed .configuring ≡ false → end (m .fixed .queue) (m .fixed .frozen) 31 ≤ 2048
+  pub queue : QueueInOrder (m .fixed .configuring) (m .fixed .queue) (frozenAt m 0) (m .queue)
+  pub mode : m .fixed .configuring ≡ false → read REQOP (m .setup .con) ≡ 4 → ⊥
 
 abbrev pub AlwaysValid : Type 0
 AlwaysValid = (m : Model) → Reached m → Valid m
@@ -77,3 +81,9 @@ UincReads0 = (m : Model) → Reached m → (n : ℕ) → read UINC (wordOf m (Re
 -- outside Configuration so does FRESET
 abbrev pub FresetReads0 : Type 0
 FresetReads0 = (m : Model) → Reached m → m .fixed .configuring ≡ false → (n : ℕ) → read FRESET (wordOf m (Register.Control n)) ≡ 0
+
+-- and so it is of the queue's
+abbrev pub QueueReads0 : Type 0
+QueueReads0 =
+    (m : Model) → Reached m
+    → (read UINC (wordOf m Register.QueueControl) ≡ 0) × (m .fixed .configuring ≡ false → read FRESET (wordOf m Register.QueueControl) ≡ 0)

@@ -21,6 +21,7 @@ use Rattle.state.specs.Model.{fifoAt, frozenAt}
 use Rattle.bank.specs.Registers.{wordOf, conWritten, registerWritten}
 use Rattle.model.specs.Exchange.{exchange}
 use Rattle.bus.specs.Bus.{sendOutput, deliverOf}
+use Rattle.bus.specs.Queue.{queueOutput}
 use Rattle.bus.specs.Sort.{sortOf}
 use Rattle.bus.specs.Numbers.{sortedNumbers}
 use Rattle.reach.specs.Reach.{Happening, happens}
@@ -38,16 +39,17 @@ pub record SameFifo (W : ℕ → ℕ → Type 0) (f g : Fifo) : Type 0 where
 abbrev pub butCon : Setup → Setup
 butCon s = record { con = 0; osc = s .osc; plain = s .plain; filter = s .filter; object = s .object; mask = s .mask }
 
--- two chips that are the same but for what C leaves open in CiCON, and W in the FIFOs' control words
+-- two chips that are the same but for what C leaves open in CiCON, and W in the FIFOs' control words and in those that are frozen
 pub record Same (C W : ℕ → ℕ → Type 0) (c d : Model) : Type 0 where
   pub con : C (c .setup .con) (d .setup .con)
   pub configuring : c .fixed .configuring ≡ d .fixed .configuring
-  pub queue : c .fixed .queue ≡ d .fixed .queue
+  pub on : c .fixed .queue ≡ d .fixed .queue
   pub frozens : length (c .fixed .frozen) ≡ length (d .fixed .frozen)
   pub frozen : (n : ℕ) → W (frozenAt c n) (frozenAt d n)
   pub setup : butCon (c .setup) ≡ butCon (d .setup)
   pub fifos : length (c .fifo) ≡ length (d .fifo)
   pub fifo : (n : ℕ) → SameFifo W (fifoAt c n) (fifoAt d n)
+  pub queue : c .queue ≡ d .queue
   pub ram : c .ram ≡ d .ram
 
 -- reading a register of these, plain or checked
@@ -66,6 +68,7 @@ pub record ActAlike (Alikes : Model → Model → Type 0) (R : Register → Type
   pub exchanges : (s : List ℕ) (want : ℕ) → (Reads R (asked s want) → ⊥) → exchange s want c .reply ≡ exchange s want d .reply
   pub words : (r : Register) → R r → Alike fs (wordOf c r) (wordOf d r)
   pub sends : (n : ℕ) → sendOutput c n ≡ sendOutput d n
+  pub sendsQueue : queueOutput c ≡ queueOutput d
   pub delivers :
       (n : ℕ) (header : Header) (dlc time : ℕ) (payload : List ℕ)
       → deliverOf c n header dlc time payload .delivery ≡ deliverOf d n header dlc time payload .delivery
@@ -91,6 +94,9 @@ IsCon (Register.Mask k) = ⊥
 IsCon (Register.Control n) = ⊥
 IsCon (Register.Status n) = ⊥
 IsCon (Register.Address n) = ⊥
+IsCon Register.QueueControl = ⊥
+IsCon Register.QueueStatus = ⊥
+IsCon Register.QueueAddress = ⊥
 
 -- all of CiCON but OPMOD and REQOP: its fields, and the bits without a name
 abbrev pub conOthers : List Field
@@ -122,6 +128,9 @@ IsControl (Register.Mask k) = ⊥
 IsControl (Register.Control n) = Unit {0}
 IsControl (Register.Status n) = ⊥
 IsControl (Register.Address n) = ⊥
+IsControl Register.QueueControl = ⊥
+IsControl Register.QueueStatus = ⊥
+IsControl Register.QueueAddress = ⊥
 
 -- all of a control word but RTREN: its fields, and the bits without a name
 abbrev pub controlOthers : List Field

@@ -16,7 +16,7 @@ use Rattle.laws.specs.If.{if_then_else_}
 use Rattle.laws.proofs.Choice.{by-if}
 use Rattle.laws.proofs.Table.{both}
 use Rattle.field.specs.Field.{Field, place as at, withField, read, flag, digit, write, Fits, apart, allApart}
-use Rattle.field.specs.Settings.{Setting, _:=_, settings, AllFit}
+use Rattle.field.specs.Settings.{_:=_, settings}
 use Rattle.field.proofs.Laws.{field-lt, read-write, write-other, apart-sym}
 use Rattle.field.proofs.Sets.{own}
 use Rattle.fifo.specs.Control.{UINC, TXREQ, FRESET}
@@ -26,6 +26,7 @@ use Rattle.ring.specs.Ring.{sending, depth, place, claimed, taken, incre
 use Rattle.ring.specs.Registers.{frozenFields, copied, control, ready, edge, status}
 use Rattle.ring.specs.Layout.{size, room, end, isArea, base, slotAt}
 use Rattle.ring.specs.Laws.{slotEnd, SlotsApart, FifosApart, InRam, Alike, Frozen, UincReads0, FresetReads0, SendTxreq, EnteringEmpties, UincInside, StatusBits}
+use Rattle.ring.proofs.Quiet.{dropped, dropped-fit}
 
 -- ---- the ring's places
 
@@ -128,7 +129,7 @@ fit : (f : Field) (v : ℕ) → Fits f (read f v)
 fit (at p k) v = field-lt v p k
 
 -- a field that none of those copied touches reads as before
-copied-off : (g : Field) (fs : List Field) (v w : ℕ) → all (apart g) fs ≡ true → read g (copied fs v w) ≡ read g w
+pub copied-off : (g : Field) (fs : List Field) (v w : ℕ) → all (apart g) fs ≡ true → read g (copied fs v w) ≡ read g w
 copied-off g [] v w e = refl
 copied-off g (f ∷ fs) v w e =
     let (a, b) = both (apart g f) (all (apart g) fs) e in
@@ -156,13 +157,6 @@ increased-control frozen f =
     by-if (λ (g : Fifo). g .control ≡ f .control) (sending frozen)
     (λ e. by-if (λ (g : Fifo). g .control ≡ f .control) (ltb (f .count) (depth frozen)) (λ a. refl) (λ a. refl))
     (λ e. by-if (λ (g : Fifo). g .control ≡ f .control) (ltb 0 (f .count)) (λ a. refl) (λ a. refl))
-
--- what of a control word is changed outside Configuration
-abbrev dropped : List Setting
-dropped = UINC := 0 ∷ FRESET := 0 ∷ []
-
-dropped-fit : AllFit dropped
-dropped-fit = (omega arith, (omega arith, tt))
 
 -- after a write of w outside Configuration every field but TXREQ and those frozen reads so
 commanded-off : (g : Field) (frozen w : ℕ) (f : Fifo) → all (apart g) frozenFields ≡ true → apart TXREQ g ≡ true

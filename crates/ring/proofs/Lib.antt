@@ -1,3 +1,10 @@
 pub mod Words
+pub mod Quiet
 pub mod Laws
+pub mod Places
+pub mod Gathers
+pub mod Queues
+pub mod QueueControl
+pub mod QueueOrder
+pub mod Ranks
 pub mod AllLaws

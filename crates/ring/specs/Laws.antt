@@ -1,4 +1,4 @@
--- What is proved of the FIFOs' registers and of their slots in RAM, as statements.
+-- What is proved of the FIFOs' registers and of their slots in RAM, as statements; with what is proved of the transmit queue.
 -- Assumes nothing.
 use Prim.Native.Nat.{ℕ, _+_, _*_, _≤_, _<_}
 use mathlib.Core.Path.{_≡_}
@@ -13,6 +13,7 @@ use Rattle.ring.specs.declared.ring.Fifo.{Fifo}
 use Rattle.ring.specs.Ring.{sending, depth, sent, configured, commanded, turned}
 use Rattle.ring.specs.Registers.{frozenFields, control, status}
 use Rattle.ring.specs.Layout.{size, end, isArea, slotAt}
+use Rattle.ring.specs.QueueLaws.{FullMeans, EmptyMeans, QueueStatusBits, QueueShows, QueueUincReads0, QueueFresetReads0, QueueUincInside, UincOff, QueueSendTxreq, QueueEnteringEmpties, Ordered, BestFound}
 
 -- ---- slots in RAM
 
@@ -101,3 +102,15 @@ pub record Laws : Type 0 where
   pub enteringEmpties : EnteringEmpties
   pub uincInside : UincInside
   pub statusBits : StatusBits
+  pub fullMeans : FullMeans
+  pub emptyMeans : EmptyMeans
+  pub queueStatusBits : QueueStatusBits
+  pub queueShows : QueueShows
+  pub queueUincReads0 : QueueUincReads0
+  pub queueFresetReads0 : QueueFresetReads0
+  pub queueUincInside : QueueUincInside
+  pub uincOff : UincOff
+  pub queueSendTxreq : QueueSendTxreq
+  pub queueEnteringEmpties : QueueEnteringEmpties
+  pub ordered : Ordered
+  pub bestFound : BestFound

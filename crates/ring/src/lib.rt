@@ -1,5 +1,6 @@
-// The FIFOs of the modelled chip: what each changes and shows by itself, and where their slots lie in RAM.
+// The FIFOs and the transmit queue of the modelled chip: what each changes and shows by itself, and where their slots lie in RAM.
 mod layout;
+pub mod queue;
 mod readings;
 mod ring;
 
@@ -7,7 +8,9 @@ pub use layout::end;
 pub use layout::size;
 pub use layout::slot_at;
 pub use layout::stamped;
+pub use queue::Queue;
 pub use readings::control;
+pub use readings::control_word;
 pub use readings::status;
 pub use ring::Fifo;
 pub use ring::claimed;

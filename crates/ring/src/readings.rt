@@ -3,22 +3,29 @@ ghost use mathlib.Core.Path.{_≡_};
 ghost use mathlib.Core.Bool.{false};
 ghost use Rattle.laws.specs.If.{if_then_else_};
 ghost use Rattle.ring.specs.Ring.{sending};
-ghost use Rattle.ring.specs.Registers.{control, ready, edge, status};
+ghost use Rattle.ring.specs.Registers.{frozenFields, copied, control, ready, edge, status};
 use crate::Fifo;
 use crate::depth;
 use crate::sending;
 use fifo::FifoControl;
 use fifo::FifoStatus;
 
-pub fn control(frozen: u32, f: Fifo) -> u32
-    ensures { λ r. ⌜ r ≡ control frozen f ⌝ }
+// A control word as it reads: `last` is what was last written.
+pub fn control_word(frozen: u32, last: u32) -> u32
+    ensures { λ r. ⌜ r ≡ copied frozenFields frozen last ⌝ }
 {
     let w = FifoControl(frozen);
-    let a = FifoControl(f.control).with_rxtsen(w.rxtsen());
+    let a = FifoControl(last).with_rxtsen(w.rxtsen());
     a.with_txen(w.txen())
         .with_fsize(w.fsize())
         .with_plsize(w.plsize())
         .0
+}
+
+pub fn control(frozen: u32, f: Fifo) -> u32
+    ensures { λ r. ⌜ r ≡ control frozen f ⌝ }
+{
+    control_word(frozen, f.control)
 }
 
 fn ready(frozen: u32, f: Fifo) -> bool

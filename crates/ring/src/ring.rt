@@ -129,7 +129,7 @@ pub fn overflowed(over: bool, f: Fifo) -> Fifo
     }
 }
 
-fn without_txreq(w: u32) -> u32
+pub fn without_txreq(w: u32) -> u32
     ensures { λ r. ⌜ r ≡ write TXREQ 0 w ⌝ }
 {
     FifoControl(w).with_txreq(false).0
@@ -179,7 +179,7 @@ pub fn configured(w: u32, f: Fifo) -> Fifo
 }
 
 // What is kept of a control word outside Configuration.
-fn kept(w: u32) -> u32
+pub fn kept(w: u32) -> u32
     ensures { λ r. ⌜ r ≡ settings (UINC := 0 ∷ FRESET := 0 ∷ []) w ⌝ }
 {
     FifoControl(w).with_uinc(false).with_freset(false).0

@@ -1,10 +1,10 @@
-// The modelled chip's state, by value: what only Configuration changes, the registers that hold as written, the FIFOs, the RAM. FIFO
-// n is entry n of an array.
+// The modelled chip's state, by value: what only Configuration changes, the registers that hold as written, the FIFOs, the transmit queue,
+// the RAM. FIFO n is entry n of an array.
 ghost use mathlib.Core.Path.{_≡_};
 ghost use Prim.Native.Nat.{min};
 ghost use lib.ListN.{length, getD, set, take};
 ghost use Rattle.parts.specs.Parts.{put};
-ghost use Rattle.state.specs.Model.{fixed₀, setup₀, reset, fifoAt, frozenAt, withFixed, withSetup, withFifo, written};
+ghost use Rattle.state.specs.Model.{fixed₀, setup₀, reset, fifoAt, frozenAt, withFixed, withSetup, withFifo, withQueue, written};
 use bit_timing::DataBitTimeConfiguration;
 use bit_timing::NominalBitTimeConfiguration;
 use bit_timing::TransmitterDelayCompensation;
@@ -13,17 +13,19 @@ use chip::OscillatorControl;
 use configuration::CanControl;
 use configuration::TimeStampControl;
 use fifo::FifoControl;
+use fifo::TxQueueControl;
 use filter::FilterControl;
 use filter::FilterMask;
 use filter::FilterObject;
 use interrupt::Interrupt;
 use ring::Fifo;
+use ring::Queue;
 
 pub struct Fixed {
     pub configuring: bool,
     // The transmit queue is on.
     pub queue: bool,
-    // The control words as they were last written in Configuration.
+    // The control words as they were last written in Configuration; entry 0 is the queue's.
     pub frozen: [u32; 32],
 }
 
@@ -42,16 +44,19 @@ pub struct Model {
     pub fixed: Fixed,
     pub setup: Setup,
     pub fifo: [Fifo; 32],
+    pub queue: Queue,
     pub ram: [u8; 2048],
 }
 
 fn fixed_reset() -> Fixed
     ensures { λ r. ⌜ r ≡ fixed₀ ⌝ }
 {
+    let mut frozen = [FifoControl::RESET; 32];
+    frozen[0] = TxQueueControl::RESET;
     Fixed {
         configuring: true,
-        queue: false,
-        frozen: [FifoControl::RESET; 32],
+        queue: true,
+        frozen: frozen,
     }
 }
 
@@ -83,6 +88,7 @@ pub fn reset(ram: [u8; 2048]) -> Model
         fixed: fixed_reset(),
         setup: setup_reset(),
         fifo: [ring::fresh(FifoControl::RESET); 32],
+        queue: ring::queue::fresh(TxQueueControl::RESET),
         ram: ram,
     }
 }
@@ -148,6 +154,14 @@ pub fn with_fifo(m: Model, n: u8, f: Fifo) -> Model
         return d;
     }
     m
+}
+
+pub fn with_queue(m: Model, q: Queue) -> Model
+    ensures { λ r. ⌜ r ≡ withQueue m q ⌝ }
+{
+    let mut d = m;
+    d.queue = q;
+    d
 }
 
 fn least(a: usize, b: usize) -> usize

@@ -9,5 +9,5 @@ pub reset-spec : {M : Type 1} → statement M
 unfolding reset
 reset-spec =
     tie.close
-    (tie.spec (λ c κs. search needs) (λ c κs. search needs) (λ c κs. search needs)
-    (λ c. rw (c .fresh .ensures, c .before .setup-reset .ensures, c .before .before .fixed-reset .ensures)))
+    (tie.spec (λ c κs. search needs) (λ c κs. search needs) (λ c κs. search needs) (λ c κs. search needs)
+    (λ c. rw (c .fresh2 .ensures, c .before .fresh .ensures, c .before .before .setup-reset .ensures, c .before .before .before .fixed-reset .ensures)))

@@ -11,4 +11,5 @@ con-word-spec =
     tie.close
     (tie.spec (λ c κs. search needs)
     (λ c κs. c .mode .ensures .1)
-    (λ c. rw (c .with-opmod .ensures, c .before .mode .ensures .0)))
+    (λ c κs. search needs)
+    (λ c. rw (c .with-txqen .ensures, c .before .with-opmod .ensures, c .before .before .mode .ensures .0)))

@@ -11,8 +11,6 @@ unfolding granted
 granted-spec =
     tie.close
     (tie.spec (λ c κs. search needs)
-    (λ c. simp (sym (c .before .txqen .ensures) ∙ c .if1 .taken))
-    (λ c κs. search needs)
-    (λ c. simp (sym (c .before .stef .ensures) ∙ c .if2 .taken, sym (c .before .before .before .txqen .ensures) ∙ c .before .before .if1 .left))
-    (λ c κs. search needs)
-    (λ c. simp (c .end .ensures .0, sym (c .before .before .before .stef .ensures) ∙ c .before .before .if2 .left, sym (c .before .before .before .before .before .txqen .ensures) ∙ c .before .before .before .before .if1 .left)))
+    (λ c. simp (sym (c .before .stef .ensures) ∙ c .if1 .taken))
+    (λ c κs. search needs) (λ c κs. search needs)
+    (λ c. simp (c .end .ensures .0, c .before .txqen .ensures, sym (c .before .before .before .before .stef .ensures) ∙ c .before .before .before .if1 .left)))

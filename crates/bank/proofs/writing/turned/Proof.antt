@@ -13,10 +13,10 @@ use Rattle.bank.proofs.writing.turned.Statement.{statement}
 use Rattle.bank.proofs.writing.turned.Tie as tie
 
 abbrev Inv-loop : tie.InvT-loop
-Inv-loop entering d₀ n₀ d n = (n ≤ 32) × (d ≡ record { fixed = d₀ .fixed; setup = d₀ .setup; fifo = front (turned entering) (d₀ .fifo) n; ram = d₀ .ram })
+Inv-loop m entering d₀ n₀ d n = (n ≤ 32) × (d ≡ record { fixed = d₀ .fixed; setup = d₀ .setup; fifo = front (turned entering) (d₀ .fifo) n; queue = d₀ .queue; ram = d₀ .ram })
 
 abbrev μ-loop : tie.MeasureT-loop
-μ-loop entering d₀ n₀ d n = 32 - n
+μ-loop m entering d₀ n₀ d n = 32 - n
 
 pub turned-spec : {M : Type 1} → statement M
 unfolding fresh
@@ -32,8 +32,10 @@ turned-spec =
     let n = c .before .before .before .loop .n in
     let e : length (a .m .fifo) ≡ 32 = search (needs, length-kept) in
     (omega arith, rw (c .turned .ensures, c .before .before .before .loop .inv .1, front-more (turned (a .entering)) (a .m .fifo) n blank (omega (arith, e)))))
+    (λ c κs. search needs)
     (λ c.
-    let a = c .before .before .args in
-    let n = c .before .loop .n in
+    let l = c .before .before .before in
+    let a = l .before .args in
+    let n = l .loop .n in
     let e : length (a .m .fifo) ≡ 32 = search (needs, length-kept) in
-    rw (c .before .loop .inv .1, front-all (turned (a .entering)) (a .m .fifo) n (omega (arith, e)))))
+    rw (c .turned2 .ensures, l .loop .inv .1, front-all (turned (a .entering)) (a .m .fifo) n (omega (arith, e)))))
