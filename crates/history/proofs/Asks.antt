@@ -3,7 +3,7 @@
 use mathlib.Core.Path.{_≡_, refl, sym, ap, subst, _∙_}
 use mathlib.Core.Bool.{true, false}
 use mathlib.Core.List.{List, [], _∷_, _++_, append-nil}
-use Prim.Native.Nat.{ℕ, _+_, _-_, _*_, _%_, _^_, _≤_, _<_}
+use Prim.Native.Nat.{ℕ, _+_, _-_, _*_, _%_, _^_, _≤_, _<_, zero, suc}
 use native.Mathlib.Nat.{mod-lt}
 use native.Mathlib.Omega.{arith}
 use borrow.Author.Tests.{le-leb, lt-leb, eq-eqb}
@@ -32,12 +32,13 @@ use Rattle.place.proofs.Laws.{all-carried}
 use Rattle.operation.proofs.Laws.{asks-read, asks-checked, asks-word, writes-word, asks-body}
 use Rattle.state.specs.declared.Model.{Model}
 use Rattle.state.specs.Model.{written}
-use Rattle.bank.specs.Registers.{wordOf, controlWritten, registerWritten}
+use Rattle.bank.specs.Registers.{wordOf, controlWritten, registerWritten, queueWritten}
 use Rattle.model.specs.Exchange.{doneWriting, checkedBytes, performed, exchange}
 use Rattle.history.proofs.Slots.{fifo-told}
 use Rattle.history.proofs.Line.{hearing, spoken}
 use Rattle.history.proofs.Kept.{heard-chip}
 use Rattle.history.specs.History.{Heard, hears}
+use Rattle.configuration.specs.CanControl.{CiCON}
 
 -- ---- places
 

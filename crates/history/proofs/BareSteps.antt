@@ -40,13 +40,13 @@ use Rattle.history.proofs.Bus.{Listed, quiet}
 use Rattle.history.proofs.Line.{spoken}
 use Rattle.history.proofs.Kept.{spoken-sound}
 use Rattle.history.proofs.Asks.{hear-queue, hear-queue-address, tell-queue, tell-ram}
-use Rattle.history.proofs.Replies.{Gentle, word-said, mark-small}
+use Rattle.history.proofs.Replies.{mark-small}
 use Rattle.history.proofs.Pushing.{pushing, turned, failed, still-alone, refused-alone, done-alone}
 use Rattle.history.proofs.PushSteps.{NotRefused, encoding-fine, body-whole, body-long, body-words}
 use Rattle.history.proofs.Mid.{BareMid}
 use Rattle.history.proofs.QueueSlots.{queueFilled, queue-held, queue-inside, queue-filled-held}
-use Rattle.history.proofs.QueueReplies.{queue-gentle, shown-inside, next-shown, queue-uinc}
-use Rattle.history.proofs.QueueLists.{queue-quiet}
+use Rattle.history.proofs.QueueReplies.{queue-gentle, shown-inside, next-bare-address, next-bare-control, queue-uinc}
+use Rattle.history.proofs.QueueLists.{queue-called}
 use Rattle.history.proofs.QueueSteps.{queue-fits, queueing}
 use Rattle.history.proofs.Inv.{bares, Tale, Inv, says-more, quiet-refusal}
 
@@ -90,7 +90,7 @@ module _ (X : ℕ → Type 0) {U : Type 0} (c : Model) (o : Sound c) (q : Asked 
   reads-address =
       let inside : queueShown c + length bs ≤ 2048 = omega (arith, shown-inside c o (well .0), fits) in
       rw (turned 0 (length payload) bs p f false PushAt.BareAddress refl t k c _ _ _ (hear-queue-address _ c)
-      (rw (word-said Refusal.SpiRead (wordOf c Register.QueueAddress)) (next-shown c o (well .0) (length bs) PushAt.BareWrite inside)))
+      (next-bare-address c o (well .0) (length payload) (length bs) inside))
       (goes-bare c _ (PushAt.BareWrite _) refl o q (λ j. refl) (c .queue .shown, o .valid .queue .shown, refl))
 
   writes-object : (a : ℕ) → BareMid c (PushAt.BareWrite a) → Exchanged (PushAt.BareWrite a)
@@ -104,7 +104,7 @@ module _ (X : ℕ → Type 0) {U : Type 0} (c : Model) (o : Sound c) (q : Asked 
 
   reads-control : Exchanged PushAt.BareControl
   reads-control =
-      rw (turned 0 (length payload) bs p f false PushAt.BareControl refl t k c _ _ _ (hear-queue _ c) (rw (word-said Refusal.SpiRead (wordOf c Register.QueueControl))))
+      rw (turned 0 (length payload) bs p f false PushAt.BareControl refl t k c _ _ _ (hear-queue _ c) (next-bare-control c o (length payload) (length bs)))
       (goes-bare c _ (PushAt.Commit _) refl o q (λ j. refl) (queue-gentle c o))
 
   writes-control : (w : ℕ) → BareMid c (PushAt.Commit w) → Exchanged (PushAt.Commit w)
@@ -117,7 +117,7 @@ module _ (X : ℕ → Type 0) {U : Type 0} (c : Model) (o : Sound c) (q : Asked 
         turned 0 (length payload) bs p f false (PushAt.Commit w) refl t k c [] (withQueue c y) PushAt.Done told refl,
         done-alone k (λ s. refl) refl refl (length payload) bs p f t (withQueue c y) [],
       )
-      (says-more X c t l e (withQueue c y) idle _ (spoken-sound _ _ c o _ told refl) q (quiet c (withQueue c y) _ (λ j. refl) (λ j. refl) (queue-held c y))
+      (says-more X c t l e (withQueue c y) idle _ (spoken-sound _ _ c o _ told refl) q (quiet c (withQueue c y) (called k Outcome.Done []) (λ j. refl) (λ j. refl) (queue-held c y))
       (λ u. absurd (no u)) tt tt)
 
   exchanged : (a : PushAt) → BareMid c a → Exchanged a
@@ -165,7 +165,7 @@ module _ (X : ℕ → Type 0) {U : Type 0} (c : Model) (o : Sound c) (q : Asked 
       → Inv X U (settled c t call (queueing (length payload) PushAt.BareAddress x) [])
   begins-as (Encoding.refused x) g h y =
       rw (refused-alone call (λ s. refl) refl refl (length payload) [] idlePlan idleFetch t c [] x)
-      (says-more X c t l e c idle _ o q (quiet-refusal c call x []) (λ u. queue-quiet c c _ refl refl refl) h tt)
+      (says-more X c t l e c idle _ o q (quiet-refusal c call x []) (λ u. queue-called c c call (Outcome.Refused x) [] refl refl) h tt)
   begins-as (Encoding.object bs) g h y =
       let is = still-alone call (λ s. refl) refl refl (length payload) bs idlePlan idleFetch t c [] PushAt.BareAddress refl in
       let no : U → ⊥ = λ u. true≢false (sym (ap (λ (v : World). overwriting (v .doing)) is) ∙ y u) in

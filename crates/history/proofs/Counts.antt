@@ -255,6 +255,9 @@ start-none : (k : Command) → None (started k .at)
 unfolding ofPlan ofPush ofTransmit ofFetch
 start-none (Command.Push n header seq payload) = tt
 start-none (Command.Transmit n header seq payload) = tt
+start-none (Command.QueuePush header seq payload) = tt
+start-none (Command.QueueUnchecked header seq payload) = tt
+start-none Command.QueueRequest = tt
 start-none (Command.Request n) = tt
 start-none (Command.HasNext n) = tt
 start-none (Command.Peek n buf) = tt

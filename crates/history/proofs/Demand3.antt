@@ -12,6 +12,10 @@ use Rattle.history.proofs.PeekKeeps.{peek-keeps}
 use Rattle.history.proofs.PushFails.{push-fails, transmit-fails}
 use Rattle.history.proofs.Theorem.{holds-always, fits}
 use Rattle.history.proofs.GoesOut.{oldest-goes, request-sends, transmit-sends}
+use Rattle.history.proofs.Winner.{queue-together, winner-sent}
+use Rattle.history.proofs.QueueExactly.{queue-push-exactly, queue-pushed-iff}
+use Rattle.history.proofs.QueueFails.{queue-push-fails}
+use Rattle.history.proofs.QueueAsked.{queue-request-exactly}
 use Rattle.history.proofs.Scrubs.{flip-reported, rewrite-leaves}
 use Rattle.history.proofs.Counts.{never-mismatches, none-mismatched}
 use Rattle.history.proofs.Example as example
@@ -37,8 +41,14 @@ demand3 = record {
   oldestGoes = oldest-goes;
   requestSends = request-sends;
   transmitSends = transmit-sends;
-  neverCaused = λ c w g es r. holds-always c w g es r .tells;
+  neverCaused = λ c w g es r. holds-always c w g es r .tale .tells;
   answeredWhole = answered-whole;
+  queueTogether = queue-together;
+  winnerSent = winner-sent;
+  queuePushExactly = λ c w g es r. queue-push-exactly (world c w es) (fits c w g es r);
+  queuePushedIff = λ c w g es r. queue-pushed-iff (world c w es) (fits c w g es r);
+  queuePushFails = λ c w g es r. queue-push-fails (world c w es) (fits c w g es r);
+  queueRequestExactly = λ c w g es r. queue-request-exactly (world c w es);
   flipReported = flip-reported;
   rewriteLeaves = rewrite-leaves;
   neverMismatches = never-mismatches;

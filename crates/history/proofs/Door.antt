@@ -24,6 +24,9 @@ sets-at-door (Setting.TxQueue q) = refl
 pub starts-at-door : StartsAtDoor
 starts-at-door (Command.Push n header seq payload) = refl
 starts-at-door (Command.Transmit n header seq payload) = refl
+starts-at-door (Command.QueuePush header seq payload) = refl
+starts-at-door (Command.QueueUnchecked header seq payload) = refl
+starts-at-door Command.QueueRequest = refl
 starts-at-door (Command.Request n) = refl
 starts-at-door (Command.HasNext n) = refl
 starts-at-door (Command.Peek n buf) = refl

@@ -39,7 +39,7 @@ use Rattle.bank.specs.Registers.{wordOf}
 use Rattle.bus.specs.Held.{slotOf}
 use Rattle.history.specs.Command.{Command, HasNext, Peek, Get, lent, started}
 use Rattle.history.specs.History.{Said, called, idle, hears, heard, settled, goesOn, isOver}
-use Rattle.history.specs.Lists.{only, foundIn, acceptedIn, handedOutIn}
+use Rattle.history.specs.Lists.{only, foundIn, acceptedIn, handedOutIn, queuedIn}
 use Rattle.history.specs.Demand.{Each, TellsWell, NotCaused, Ordinary, Told}
 use Rattle.history.proofs.Sound.{Sound, Asked}
 use Rattle.history.proofs.Line.{spoken}
@@ -55,6 +55,7 @@ use Rattle.history.proofs.QueueLists.{queue-quiet}
 use Rattle.history.proofs.QueueSlots.{fifo-queue}
 use Rattle.history.proofs.Inv.{Lent, FetchAsked, fetches, Tale, Inv, goes-on, says-more, silent-out}
 use Rattle.history.proofs.Kept.{spoken-sound}
+use Rattle.bus.specs.Queue.{heldQueue}
 
 -- ---- what is said
 
@@ -133,7 +134,7 @@ module _ (X : ℕ → Type 0) {U : Type 0} (c : Model) (o : Sound c) (q : Asked 
       → Ordinary (found.outcomeAt a held) → After d held rx a
   ends d held rx a s y x m hq w =
       rw (over want n buf held a p u t d rx x)
-      (says-more X c t l e d idle (saidAt held a) s y m (λ v. queue-quiet c d (saidAt held a) hq (queues-none want n buf (found.outcomeAt a held) _) refl) (told-ordinary want n buf (found.outcomeAt a held) w) tt)
+      (says-more X c t l e d idle (saidAt held a) s y m (λ v. queue-quiet c d (saidAt held a) hq (queues-none want n buf (found.outcomeAt a held) (found.filled held (found.sizeAt a) (lent k))) refl) (told-ordinary want n buf (found.outcomeAt a held) w) tt)
 
   -- and nothing was handed out
   shows : (held rx : List ℕ) (a : FetchAt) → isOver (found.outcomeAt a held) ≡ true → GivesNone want n buf (found.outcomeAt a held)

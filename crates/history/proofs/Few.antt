@@ -31,7 +31,7 @@ module _ {A : Type 0} where
   just-six P h s l = five (λ r. length r ≡ 6 → P r) go s (omega (arith, l)) l
     where
       go : (a b c d e : A) (r : List A) → length (a ∷ b ∷ c ∷ d ∷ e ∷ r) ≡ 6 → P (a ∷ b ∷ c ∷ d ∷ e ∷ r)
-      go a b c d e [] m = let z : 5 ≡ 6 = m in absurd (omega (arith, z))
+      go a b c d e [] m = let z : _≡_ {A = ℕ} 5 6 = m in absurd (omega (arith, z))
       go a b c d e (f ∷ []) m = h a b c d e f
       go a b c d e (f ∷ x ∷ r) m = let z : suc (suc (suc (suc (suc (suc (suc (length r))))))) ≡ 6 = m in absurd (omega (arith, z))
 

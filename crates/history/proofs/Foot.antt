@@ -3,15 +3,15 @@
 -- Assumes nothing.
 use Prim.Native.Nat.{ℕ, _+_, _-_, _%_, _^_, _≤_, _<_, min}
 use mathlib.Core.Path.{_≡_, refl, sym, ap, _∙_, subst}
-use mathlib.Core.Bool.{Bool, true, false, _&&_, not}
+use mathlib.Core.Bool.{Bool, true, false, _&&_, not, false≢true}
 use mathlib.Core.List.{List, [], _∷_}
 use native.Mathlib.Omega.{arith}
 use lib.ListN.{length, getD, take, length-take}
 use lib.Dec.{ltb, leb, eqb}
 use Rattle.laws.specs.If.{if_then_else_}
-use Rattle.field.specs.Field.{read}
+use Rattle.field.specs.Field.{read, flag}
 use Rattle.configuration.specs.CanControl.{DNCNT}
-use Rattle.fifo.specs.Control.{payloadOf, isFifo}
+use Rattle.fifo.specs.Control.{payloadOf, isFifo, TXREQ}
 use Rattle.parts.specs.Parts.{put}
 use Rattle.header.specs.declared.Header.{Header}
 use Rattle.spi.specs.declared.refusal.Done.{Done}
@@ -19,7 +19,7 @@ use Rattle.message.specs.Message.{arrivalCheck}
 use Rattle.ring.specs.declared.ring.Fifo.{Fifo}
 use Rattle.ring.specs.Ring.{depth, overflowed, sent}
 use Rattle.state.specs.declared.Model.{Model}
-use Rattle.state.specs.Model.{fifoAt, frozenAt, withFifo, written}
+use Rattle.state.specs.Model.{fifoAt, frozenAt, withFifo, written, withQueue}
 use Rattle.state.proofs.Store.{put-front, put-behind}
 use Rattle.filters.specs.Filters.{filterCount}
 use Rattle.bus.specs.declared.arrival.Delivered.{Delivered}
@@ -30,7 +30,18 @@ use Rattle.bus.specs.Bus.{sends, sendModel, receives, appended, give, byCheck, 
 use Rattle.reach.specs.Bus.{Bus, Send, SendQueue, Deliver, Sort, stepped}
 use Rattle.history.specs.Demand.{buses, ButFor}
 use Rattle.history.proofs.Bytes.{length-put, put-inside, byte-before, byte-within, byte-behind}
-use Rattle.history.proofs.Slots.{split}
+use Rattle.history.proofs.Slots.{split, Apart, before, behind}
+use Rattle.bus.specs.Queue.{queueDepth, queueSlot, rankAt, queueRank, winner, queueSends, queueModel}
+use Rattle.words.specs.Words.{leAt}
+use Rattle.ring.specs.Queue as queue
+use Rattle.ring.specs.Queue.{isHeld, noSlot}
+use Rattle.ring.proofs.Gathers.{best-same}
+use Rattle.ring.proofs.Queues.{sent-flags}
+use Rattle.reach.proofs.Kept.{at-set}
+use Rattle.bus.proofs.Arriving.{by-deliver, by-give}
+use Rattle.bus.proofs.Sorts.{by-sort}
+use Rattle.laws.proofs.Choice.{by-if}
+use native.Mathlib.Nat.{add-zero}
 
 -- the same choice on both sides
 by-both : {A : Type 0} (P : A → A → Type 0) (b : Bool) {x y x′ y′ : A} → P x x′ → P y y′ → P (if b then x else y) (if b then x′ else y′)
@@ -190,12 +201,20 @@ module _ (a n : ℕ) where
       winner-near on =
           best-same (isHeld (c .queue)) (queueRank other) (queueRank c) 0 (queueDepth c) (λ j x y z. rank-near (queueSlot c j) (clear on j (omega arith) z))
 
+      sends-off : (m : Model) → m .fixed .queue ≡ false → queueSends m ≡ false
+      unfolding queueSends
+      sends-off m e = ap (λ (b : Bool). b && flag TXREQ (m .queue .control) && ltb (winner m) noSlot) e
+
+      sends-near : c .fixed .queue ≡ true → queueSends other ≡ queueSends c
+      unfolding queueSends
+      sends-near e = ap (λ (k : ℕ). c .fixed .queue && flag TXREQ (c .queue .control) && ltb k noSlot) (winner-near e)
+
       queue-but : (b : Bool) → c .fixed .queue ≡ b → ButFor a n (queueModel c) (queueModel other)
-      unfolding queueModel queueSends
-      queue-but false e = rw e same-but
+      unfolding queueModel
+      queue-but false e = rw (sends-off c e, sends-off other e) same-but
       queue-but true e =
-          rw (winner-near e)
-          (by-both (ButFor a n) (c .fixed .queue && flag TXREQ (c .queue .control) && ltb (winner c) noSlot)
+          rw (sends-near e, winner-near e)
+          (by-both (ButFor a n) (queueSends c)
           (near-but (withQueue c (queue.sent (frozenAt c 0) (winner c) (c .queue))) (withQueue other (queue.sent (frozenAt c 0) (winner c) (c .queue))) refl refl refl refl s) same-but)
 
     step-near : Clear c → (b : Bus) → ButFor a n (stepped b c) (stepped b other)

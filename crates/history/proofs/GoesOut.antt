@@ -52,6 +52,7 @@ use Rattle.history.proofs.PlanSteps.{alone}
 use Rattle.history.proofs.Transmits.{nothing-more, request-goes, request-starts-at, half-way, pushed, pushed-ready}
 use Rattle.history.proofs.Still.{scrubs, call-still}
 use Rattle.history.proofs.Theorem.{None, event-keeps, run-keeps, holds-always, fits}
+use Rattle.bus.specs.Queue.{queueSends, queueModel}
 
 -- ---- a bus step that is no send of the last leaves TXREQ of FIFO n at 1
 
@@ -101,7 +102,7 @@ run-stands n [] v r i l = i
 run-stands n (e ∷ es) v r i (last, l) =
     run-stands n es _ (r .1)
     (event-keeps (Only n) ⊥ e (v .doing) (v .chip) (v .said) (r .0) i
-    (λ b x. bus-asked n (v .chip) (i .sound) (i .asked) b (subst (λ (y : Event). TakesLast n y (v .chip) → ⊥) x last)))
+    (λ b x. bus-asked n (v .chip) (i .sound) (i .asked) b (subst (λ (y : Event). TakesLast n y (v .chip) → ⊥) x last)) (λ u. absurd u))
     l
 
 -- ---- what a send then does

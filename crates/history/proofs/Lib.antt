@@ -38,6 +38,7 @@ pub mod PeekKeeps
 pub mod PushFails
 pub mod QueueExactly
 pub mod QueueFails
+pub mod QueueAsked
 pub mod QueueBus
 pub mod Still
 pub mod Theorem

@@ -17,19 +17,23 @@ use Rattle.operation.proofs.Laws.{asks-word}
 use Rattle.state.specs.declared.Setup.{Setup as Held}
 use Rattle.state.specs.declared.Model.{Model}
 use Rattle.state.specs.Model.{withSetup}
-use Rattle.bank.specs.Registers.{wordOf, controlWritten, registerWritten}
-use Rattle.model.specs.Exchange.{performed, exchange}
+use Rattle.bank.specs.Registers.{wordOf, controlWritten, registerWritten, queueWritten}
+use Rattle.model.specs.Exchange.{performed, exchange, doneWriting}
 use Rattle.plan.specs.PlanAt.{PlanAt}
 use Rattle.plan.specs.Plan.{Plan}
 use Rattle.plan.specs.Item.{addressOf}
 use Rattle.plan.specs.Step.{askAt, askOf}
 use Rattle.history.specs.History.{Heard}
-use Rattle.history.proofs.Harmless.{Setup, Aside, aside, control as controls, Careful, HarmlessWrite, HarmlessAt, Harmless, FairAnswer, FairAt, Fair}
+use Rattle.history.proofs.Harmless.{Setup, Aside, aside, control as controls, Careful, HarmlessWrite, HarmlessAt, Harmless, FairAnswer, FairAt, Fair, queueControl, con, Staying}
 use Rattle.history.proofs.Sound.{Sound, Asked}
 use Rattle.history.proofs.Line.{spoken}
 use Rattle.history.proofs.Kept.{heard-chip}
-use Rattle.history.proofs.Asks.{does, hear-control, tell-control, hear-keeps}
-use Rattle.history.proofs.Replies.{control-gentle, control-asked}
+use Rattle.history.proofs.Asks.{does, hear-control, tell-control, hear-keeps, hear-queue, hear-enabled, tell-queue, tell-low}
+use Rattle.history.proofs.Replies.{control-gentle, control-asked, Gentle}
+use Rattle.history.proofs.QueueReplies.{con-stays, con-staying, queue-gentle}
+use Rattle.configuration.specs.CanControl.{CiCON}
+use Rattle.place.proofs.Laws.{all-carried}
+use native.Mathlib.Omega.{arith}
 
 -- where nothing is asked nothing is sent
 module _ (b : List ℕ) (c : Model) where

@@ -1,7 +1,7 @@
 -- The calls of a history that are plans do no harm: request, and every call that sets a part of the chip up.
 -- Assumes nothing.
 use Prim.Native.Nat.{ℕ, _/_, _<_}
-use mathlib.Core.Path.{_≡_, refl, ap, _∙_}
+use mathlib.Core.Path.{_≡_, refl, ap, _∙_, sym}
 use mathlib.Core.Bool.{Bool, true, false, not, _&&_}
 use mathlib.Core.List.{List, [], _∷_}
 use native.Mathlib.Omega.{arith}
@@ -42,12 +42,15 @@ use Rattle.changes.specs.declared.settings.OscillatorConfiguration.{OscillatorC
 use Rattle.areas.specs.declared.settings.FifoMode.{FifoMode}
 use Rattle.areas.specs.declared.settings.FifoConfiguration.{FifoConfiguration}
 use Rattle.areas.specs.declared.settings.FilterConfiguration.{FilterConfiguration}
-use Rattle.areas.specs.Areas.{directionSettings, fifoSettings, fifoChange, directionFits, fifoFits, offChange, isIdentifier, isFilter, filterCheck}
-use Rattle.areas.proofs.Tests.{transmit-told, fifo-told}
-use Rattle.adjust.specs.Calls.{failed, oscillatorItems, timingItems, filterItems, configureOsc, configureBitTiming, configureFifo, disableFilter, configureFilter}
-use Rattle.transmit.specs.Transmit.{requestChange, requestStart}
-use Rattle.history.specs.Command.{Setting, Fifo, Filter, FilterOff, Osc, Io, BitTiming, sets}
-use Rattle.history.proofs.Harmless.{Setup, Aside, aside, control, Careful, HarmlessChange, HarmlessItem, Harmless, plan-harmless, refused-harmless}
+use Rattle.areas.specs.Areas.{directionSettings, fifoSettings, fifoChange, directionFits, fifoFits, offChange, isIdentifier, isFilter, filterCheck, enableSettings, enableChange, queueSettings, queueFits, settingFits}
+use Rattle.areas.proofs.Tests.{transmit-told, fifo-told, queue-told}
+use Rattle.adjust.specs.Calls.{failed, oscillatorItems, timingItems, filterItems, configureOsc, configureBitTiming, configureFifo, disableFilter, configureFilter, queueItems, configureTxQueue}
+use Rattle.transmit.specs.Transmit.{requestChange, requestStart, queueRequestStart}
+use Rattle.history.specs.Command.{Setting, Fifo, Filter, FilterOff, Osc, Io, BitTiming, sets, TxQueue}
+use Rattle.history.proofs.Harmless.{Setup, Aside, aside, control, Careful, HarmlessChange, HarmlessItem, Harmless, plan-harmless, refused-harmless, queueControl, con, HarmlessItems}
+use Rattle.areas.specs.declared.settings.TxQueueConfiguration.{TxQueueConfiguration}
+use Rattle.areas.specs.declared.settings.TxQueueSetting.{TxQueueSetting}
+use Rattle.configuration.specs.CanControl.{CiCON, REQOP}
 
 -- ---- control words: fields other than UINC and FRESET are set
 
@@ -116,7 +119,7 @@ enable-harmless : (X : ℕ → Type 0) (on : Bool) → HarmlessChange X (enableC
 enable-harmless X on =
     let ss : List FieldSetting = enableSettings on in
     let fit : AllFit ss = (flag-fits on, tt) in
-    con (address-of ss _)
+    con (address-of (enableSettings on) (changeOf (CiCON .address 0) []))
     (λ w g.
     let e : modified (enableChange on) w ≡ settings ss w = change-sets (CiCON .address 0) ss w (g .small) fit in
     record { small = rw e (settings-lt 32 ss w refl fit (g .small)); asks = λ x. g .asks (sym (off REQOP ss w refl fit) ∙ ap (read REQOP) (sym e) ∙ x) })

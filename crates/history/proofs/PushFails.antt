@@ -43,11 +43,12 @@ use Rattle.history.proofs.Pushing.{commanded, pushing, turned, still, r
 use Rattle.history.proofs.Mid.{PushMid}
 use Rattle.history.proofs.PushSteps.{object-fits, starting, inside, object-told, encoded-for}
 use Rattle.history.proofs.Calm.{spokenOf, after-append, after-buses, after-calm, Fit, buses-fit, buses-fixed, buses-push, buses-append}
+use Rattle.history.proofs.QueueSlots.{clear-fifo}
 
 -- ---- what leaves the chip as it is
 
 -- a call that goes on, or is over
-settled-chip : (c : Model) (t : List Said) (k : Command) (s : Call) (rx : List ℕ) → settled c t k s rx .chip ≡ c
+pub settled-chip : (c : Model) (t : List Said) (k : Command) (s : Call) (rx : List ℕ) → settled c t k s rx .chip ≡ c
 unfolding settled
 settled-chip c t k s rx =
     let P : World → Type 0 = λ v. v .chip ≡ c in
@@ -63,7 +64,7 @@ fail-chip idle c t = refl
 fail-chip (busy k s) c t = settled-chip _ t k _ _ ∙ lost-chip s c
 
 -- bus steps, and then an exchange that fails
-failed-chip : (b : List Bus) (v : World) → after (map On b ++ (Fail ∷ [])) v .chip ≡ buses b (v .chip)
+pub failed-chip : (b : List Bus) (v : World) → after (map On b ++ (Fail ∷ [])) v .chip ≡ buses b (v .chip)
 unfolding after
 failed-chip b v =
     ap (λ (x : World). x .chip) (after-append (map On b) (Fail ∷ []) v ∙ ap (after (Fail ∷ [])) (after-buses b (v .chip) (v .doing) (v .said)))
@@ -71,21 +72,21 @@ failed-chip b v =
 
 -- ---- exchanges that the chip answers, then one that fails
 
-abbrev ending : List (List Bus) → List Bus → List Event
+abbrev pub ending : List (List Bus) → List Bus → List Event
 ending bs b = calm bs ++ (map On b ++ (Fail ∷ []))
 
 -- the first of them
-ending-first : (x : List Bus) (bs : List (List Bus)) (b : List Bus) (c : Model) (g : Doing) (t : List Said)
+pub ending-first : (x : List Bus) (bs : List (List Bus)) (b : List Bus) (c : Model) (g : Doing) (t : List Said)
     → after (ending (x ∷ bs) b) (world c g t) ≡ after (ending bs b) (event Exchange g (buses x c) (t ++ spokenOf x c))
 ending-first x bs b c g t =
     let r : List Event = map On b ++ (Fail ∷ []) in
     after-append (calm (x ∷ bs)) r (world c g t) ∙ ap (after r) (after-calm x bs c g t) ∙ sym (after-append (calm bs) r _)
 
-buses-first : (x : List Bus) (bs : List (List Bus)) (b : List Bus) (c : Model) → buses (all (x ∷ bs) ++ b) c ≡ buses (all bs ++ b) (buses x c)
+pub buses-first : (x : List Bus) (bs : List (List Bus)) (b : List Bus) (c : Model) → buses (all (x ∷ bs) ++ b) c ≡ buses (all bs ++ b) (buses x c)
 buses-first x bs b c = ap (λ (l : List Bus). buses l c) (append-assoc x (all bs) b) ∙ buses-append x (all bs ++ b) c
 
 -- no call is under way
-idle-chip : (bs : List (List Bus)) (b : List Bus) (c : Model) (t : List Said) → after (ending bs b) (world c idle t) .chip ≡ buses (all bs ++ b) c
+pub idle-chip : (bs : List (List Bus)) (b : List Bus) (c : Model) (t : List Said) → after (ending bs b) (world c idle t) .chip ≡ buses (all bs ++ b) c
 unfolding calm event
 idle-chip [] b c t = failed-chip b (world c idle t)
 idle-chip (x ∷ bs) b c t =

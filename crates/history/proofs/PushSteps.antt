@@ -59,7 +59,7 @@ use Rattle.history.proofs.Plans.{request-harmless}
 use Rattle.history.proofs.Requests.{request-begins, request-starts}
 use Rattle.history.proofs.Pushing.{commanded, placed, pushAt, pushing, turned, failed, still, refused, done, half}
 use Rattle.history.proofs.Mid.{Tx, PushMid}
-use Rattle.history.proofs.QueueLists.{queue-quiet}
+use Rattle.history.proofs.QueueLists.{queue-called}
 use Rattle.history.proofs.QueueSlots.{fifo-queue, filled-queue}
 use Rattle.history.proofs.Inv.{PushAsked, pushes, requests, Tale, Inv, goes-on, says-more, quiet-refusal}
 
@@ -152,7 +152,7 @@ module _ (X : ℕ → Type 0) {U : Type 0} (c : Model) (o : Sound c) (q : Asked 
   ends : (rx : List ℕ) (x : Refusal) → NotCaused x → After c (PushAt.Refused x) rx
   ends rx x w =
       rw (refused n (length payload) bs p f header seq payload t c rx also x)
-      (says-more X c t l e c idle _ o q (quiet-refusal c (Push n header seq payload) x []) (λ u. queue-quiet c c _ refl refl refl) w tt)
+      (says-more X c t l e c idle _ o q (quiet-refusal c (Push n header seq payload) x []) (λ u. queue-called c c (Push n header seq payload) (Outcome.Refused x) [] refl refl) w tt)
 
   abbrev Exchanged : PushAt → Type 0
   Exchanged a = Inv X U (goesOn t k (at a) (heard true (at a) c))
@@ -198,10 +198,10 @@ module _ (X : ℕ → Type 0) {U : Type 0} (c : Model) (o : Sound c) (q : Asked 
   -- the message is in the FIFO; the request of a transmit comes next
   ended : (d : Model) → Sound d → Asked X d → Moves c (called (Push n header seq payload) Outcome.Done []) d → heldQueue d ≡ heldQueue c → (b : Bool) → (b ≡ true → p ≡ requestStart n)
       → Inv X U (settled d t (commanded b n header seq payload) (pushing b n (length payload) bs PushAt.Done p f) [])
-  ended d s a v hq false b = rw (done n (length payload) bs p f header seq payload t d []) (says-more X c t l e d idle _ s a v (λ u. queue-quiet c d _ hq refl refl) tt tt)
+  ended d s a v hq false b = rw (done n (length payload) bs p f header seq payload t d []) (says-more X c t l e d idle _ s a v (λ u. queue-called c d (Push n header seq payload) Outcome.Done [] hq refl) tt tt)
   ended d s a v hq true b =
       rw (half n (length payload) bs p f header seq payload t d [] (rw (b refl, request-begins n i)))
-      (says-more X c t l e d _ _ s a v (λ u. queue-quiet c d _ hq refl refl) tt
+      (says-more X c t l e d _ _ s a v (λ u. queue-called c d (Push n header seq payload) Outcome.Done [] hq refl) tt
       (requests true n p (pushAt n (length payload) bs PushAt.Done) f (λ x. refl) (rw (b refl) (request-starts n)) (rw (b refl) (request-harmless X n))
       (rw (b refl, request-begins n i)) refl refl))
 
@@ -292,7 +292,7 @@ module _ (X : ℕ → Type 0) {U : Type 0} (c : Model) (o : Sound c) (q : Asked 
       → Inv X U (settled c t (commanded also n header seq payload) (starting also n (length payload) x p) [])
   begins-as (Encoding.refused x) p r g h =
       rw (refused n (length payload) [] p idleFetch header seq payload t c [] also x)
-      (says-more X c t l e c idle _ o q (quiet-refusal c (Push n header seq payload) x []) (λ u. queue-quiet c c _ refl refl refl) h tt)
+      (says-more X c t l e c idle _ o q (quiet-refusal c (Push n header seq payload) x []) (λ u. queue-called c c (Push n header seq payload) (Outcome.Refused x) [] refl refl) h tt)
   begins-as (Encoding.object bs) p r g h =
       let (i, coded) = encoded-for n header seq payload bs g in
       rw (still n (length payload) bs p idleFetch header seq payload t c [] also PushAt.Control refl refl)

@@ -64,18 +64,18 @@ module _ (c : Model) (s : Sound c) where
   send-queue : (t : List Said) → QueueListed c t → (b : Bool) → queueSends c ≡ b
       → QueueMoves c (leftQueue (if b then outputOf (queueItem c (winner c)) else nothing)) (if b then withQueue c (queue.sent (frozenAt c 0) (winner c) (c .queue)) else c)
   send-queue t l true e = goes t l e
-  send-queue t l false e = queue-quiet c c _ refl refl refl
+  send-queue t l false e = queue-quiet c c (leftQueue nothing) refl refl refl
 
   moves : (t : List Said) → QueueListed c t → (b : Bus) → QueueMoves c (says b c) (stepped b c)
   unfolding stepped sendModel queueModel queueOutput
-  moves t l (Send n) = queue-quiet c _ _ (by-if (λ (x : Model). heldQueue x ≡ heldQueue c) (isFifo n && sends c n) (λ e. fifo-queue c n _) (λ e. refl)) refl refl
+  moves t l (Send n) = queue-quiet c _ (says (Send n) c) (by-if (λ (x : Model). heldQueue x ≡ heldQueue c) (isFifo n && sends c n) (λ e. fifo-queue c n _) (λ e. refl)) refl refl
   moves t l SendQueue = send-queue t l (queueSends c) refl
   moves t l (Deliver n header dlc time payload) =
-      queue-quiet c _ _
+      queue-quiet c _ (says (Deliver n header dlc time payload) c)
       (by-deliver c n header dlc (time % 2 ^ 32) payload (λ x. heldQueue (x .model) ≡ heldQueue c) (λ i. refl) (λ i t. refl) (λ i t d. refl)
       (λ i t e w. give-queue n 0 dlc header (time % 2 ^ 32) payload)) refl refl
   moves t l (Sort header dlc time payload) =
-      queue-quiet c _ _
+      queue-quiet c _ (says (Sort header dlc time payload) c)
       (by-sort c header dlc (time % 2 ^ 32) payload (λ x. heldQueue (x .model) ≡ heldQueue c) (λ t. refl) (λ t e. refl) (λ t e z. refl) (λ t e z g. refl)
       (λ t e z g w. give-queue _ _ dlc header (time % 2 ^ 32) payload)) refl refl
 

@@ -3,12 +3,12 @@
 use Prim.Native.Nat.{ℕ, _+_, _%_, _^_, _≤_}
 use native.Mathlib.Omega.{arith}
 use borrow.Author.Tests.{ltb-false, le-ltb, not-true, not-false}
-use mathlib.Core.Path.{_≡_, refl, sym, ap, _∙_}
+use mathlib.Core.Path.{_≡_, refl, sym, ap, _∙_, subst}
 use mathlib.Core.Bool.{Bool, true, false, not}
 use mathlib.Core.Logic.{_↔_}
 use mathlib.Core.List.{List, [], _∷_, _++_, append-nil}
 use lib.Dec.{ltb}
-use lib.ListN.{length}
+use lib.ListN.{length, getD}
 use Rattle.laws.specs.If.{if_then_else_}
 use Rattle.laws.proofs.Choice.{by-if}
 use Rattle.fifo.specs.Control.{payloadOf}
@@ -40,11 +40,10 @@ use Rattle.history.proofs.Few.{just-six, same-last}
 use Rattle.history.proofs.Line.{world, spoken}
 use Rattle.history.proofs.Kept.{spoken-sound}
 use Rattle.history.proofs.Asks.{hear-enabled, hear-queue, hear-queue-status, hear-queue-address}
-use Rattle.history.proofs.Replies.{word-said}
 use Rattle.history.proofs.Pushing.{pushing, turned, still-alone, refused-alone, done-alone}
 use Rattle.history.proofs.Mid.{QueueMid, queue-later}
 use Rattle.history.proofs.QueueSlots.{queue-filled-held}
-use Rattle.history.proofs.QueueReplies.{queue-gentle, shown-inside, next-enabled, next-queue-control, next-queue-status, next-shown}
+use Rattle.history.proofs.QueueReplies.{queue-gentle, shown-inside, next-enabled, next-queue-control, next-queue-status, next-queue-address}
 use Rattle.history.proofs.QueueSteps.{queue-fits, shownFilled, shown-told, shown-mid, claim-told, queueing}
 use Rattle.history.proofs.PushExactly.{begun}
 use Rattle.history.proofs.Calm.{spokenOf, after-calm, calls-buses, calls-snoc, idle-calm, Fit, step-later, buses-keep, buses-fit, buses-fixed, buses-append}
@@ -139,7 +138,7 @@ module _ (header : Header) (seq : ℕ) (payload bs : List ℕ) (coded : encoding
       let a : ℕ = queueShown c′ + 0x400 in
       joined b₁ (b₂ ∷ b₃ ∷ r) (PushAt.Address w) (PushAt.Write w a) c t c′ Outcome.Done
       (goes b₁ (b₂ ∷ b₃ ∷ r) (PushAt.Address w) (PushAt.Write w a) refl c t _ c′ (hear-queue-address _ c′)
-      (rw (word-said Refusal.SpiRead (wordOf c′ Register.QueueAddress)) (next-shown c′ (g′ .sound) (y .0 .on) (length bs) (PushAt.Write w) inside)) refl)
+      (next-queue-address c′ (g′ .sound) (y .0 .on) (length payload) (length bs) w inside) refl)
       (from-write b₂ b₃ r w a c′ _ g′ (y .0, y .1, refl))
 
   -- ---- where it is decided; d is the chip at the status read, whose frozen words are still those of the beginning
@@ -154,20 +153,26 @@ module _ (header : Header) (seq : ℕ) (payload bs : List ℕ) (coded : encoding
     abbrev d : Model
     d = buses b₃ c₂
 
-    g₁ : Fit c₁ (t ++ spokenOf b₁ c)
+    abbrev t₁ : List Said
+    t₁ = t ++ spokenOf b₁ c
+
+    abbrev t₂ : List Said
+    t₂ = t₁ ++ spokenOf b₂ c₁
+
+    g₁ : Fit c₁ t₁
     g₁ = buses-fit b₁ c t g
 
-    g₂ : Fit c₂ ((t ++ spokenOf b₁ c) ++ spokenOf b₂ c₁)
-    g₂ = buses-fit b₂ c₁ _ g₁
+    g₂ : Fit c₂ t₂
+    g₂ = buses-fit b₂ c₁ t₁ g₁
 
     fixed₁ : c₁ .fixed ≡ c .fixed
     fixed₁ = buses-fixed b₁ c t g
 
     fixed₂ : c₂ .fixed ≡ c .fixed
-    fixed₂ = buses-fixed b₂ c₁ _ g₁ ∙ fixed₁
+    fixed₂ = buses-fixed b₂ c₁ t₁ g₁ ∙ fixed₁
 
     fixed₃ : d .fixed ≡ c .fixed
-    fixed₃ = buses-fixed b₃ c₂ _ g₂ ∙ fixed₂
+    fixed₃ = buses-fixed b₃ c₂ t₂ g₂ ∙ fixed₂
 
     off : d .fixed .queue ≡ false → Says PushAt.Enabled (b₁ ∷ b₂ ∷ b₃ ∷ r) c t (Outcome.Refused Refusal.TxQueueDisabled)
     off e =
@@ -181,46 +186,49 @@ module _ (header : Header) (seq : ℕ) (payload bs : List ℕ) (coded : encoding
       on₂ : c₂ .fixed .queue ≡ true
       on₂ = ap (λ (y : Fixed). y .queue) (fixed₂ ∙ sym fixed₃) ∙ on
 
-      enabled : (o : Outcome) → Says PushAt.Control (b₂ ∷ b₃ ∷ r) c₁ (t ++ spokenOf b₁ c) o → Says PushAt.Enabled (b₁ ∷ b₂ ∷ b₃ ∷ r) c t o
+      enabled : (o : Outcome) → Says PushAt.Control (b₂ ∷ b₃ ∷ r) c₁ t₁ o → Says PushAt.Enabled (b₁ ∷ b₂ ∷ b₃ ∷ r) c t o
       enabled o =
           joined b₁ (b₂ ∷ b₃ ∷ r) PushAt.Enabled PushAt.Control c t c₁ o
           (goes b₁ (b₂ ∷ b₃ ∷ r) PushAt.Enabled PushAt.Control refl c t _ c₁ (hear-enabled _ c₁) (next-enabled c₁ (g₁ .sound) (length payload) (length bs) ∙ rw on₁) refl)
 
       control : push.nextAt 0 (length payload) (length bs) PushAt.Control Answer.Exchanged (leBytes (wordOf c₂ Register.QueueControl))
           ≡ (if ltb (payloadOf (frozenAt d 0)) (length payload) then PushAt.Refused Refusal.FifoTooSmall else PushAt.Status (wordOf c₂ Register.QueueControl % 2 ^ 32))
-      control = next-queue-control c₂ (g₂ .sound) (length payload) (length bs) ∙ rw (fixed₂, ← fixed₃)
+      control =
+          next-queue-control c₂ (g₂ .sound) (length payload) (length bs)
+          ∙ ap (λ (x : Fixed). if ltb (payloadOf (getD (x .frozen) 0 0)) (length payload) then PushAt.Refused Refusal.FifoTooSmall else PushAt.Status (wordOf c₂ Register.QueueControl % 2 ^ 32))
+          (fixed₂ ∙ sym fixed₃)
 
       long : ltb (payloadOf (frozenAt d 0)) (length payload) ≡ true → Says PushAt.Enabled (b₁ ∷ b₂ ∷ b₃ ∷ r) c t (Outcome.Refused Refusal.FifoTooSmall)
-      long y = enabled _ (stops b₂ (b₃ ∷ r) PushAt.Control Refusal.FifoTooSmall refl c₁ _ _ (hear-queue _ c₂) (control ∙ rw y))
+      long y = enabled _ (stops b₂ (b₃ ∷ r) PushAt.Control Refusal.FifoTooSmall refl c₁ t₁ _ (hear-queue _ c₂) (control ∙ rw y))
 
       module _ (y : ltb (payloadOf (frozenAt d 0)) (length payload) ≡ false) where
         abbrev w : ℕ
         w = wordOf c₂ Register.QueueControl % 2 ^ 32
 
         knows : QueueMid c₂ m bs (PushAt.Status w)
-        knows = record { word = queue-gentle c₂ (g₂ .sound); on = on₂; fits = queue-fits c₂ header seq payload bs coded (rw (fixed₂, ← fixed₃) (ltb-false _ _ y)) }
+        knows = record { word = queue-gentle c₂ (g₂ .sound); on = on₂; fits = queue-fits c₂ header seq payload bs coded (subst (λ (x : Fixed). length payload ≤ payloadOf (getD (x .frozen) 0 0)) (fixed₃ ∙ sym fixed₂) (ltb-false _ _ y)) }
 
-        to-status : (o : Outcome) → Says (PushAt.Status w) (b₃ ∷ r) c₂ _ o → Says PushAt.Enabled (b₁ ∷ b₂ ∷ b₃ ∷ r) c t o
+        to-status : (o : Outcome) → Says (PushAt.Status w) (b₃ ∷ r) c₂ t₂ o → Says PushAt.Enabled (b₁ ∷ b₂ ∷ b₃ ∷ r) c t o
         to-status o s =
-            enabled o (joined b₂ (b₃ ∷ r) PushAt.Control (PushAt.Status w) c₁ _ c₂ o
-            (goes b₂ (b₃ ∷ r) PushAt.Control (PushAt.Status w) refl c₁ _ _ c₂ (hear-queue _ c₂) (control ∙ rw y) refl) s)
+            enabled o (joined b₂ (b₃ ∷ r) PushAt.Control (PushAt.Status w) c₁ t₁ c₂ o
+            (goes b₂ (b₃ ∷ r) PushAt.Control (PushAt.Status w) refl c₁ t₁ _ c₂ (hear-queue _ c₂) (control ∙ rw y) refl) s)
 
         status : push.nextAt 0 (length payload) (length bs) (PushAt.Status w) Answer.Exchanged (leBytes (wordOf d Register.QueueStatus))
             ≡ (if full (frozenAt d 0) (d .queue) then PushAt.Refused Refusal.FifoFull else PushAt.Address w)
-        status = next-queue-status d (buses-fit b₃ c₂ _ g₂ .sound) on (length payload) (length bs) w
+        status = next-queue-status d (buses-fit b₃ c₂ t₂ g₂ .sound) on (length payload) (length bs) w
 
         none-free : full (frozenAt d 0) (d .queue) ≡ true → Says PushAt.Enabled (b₁ ∷ b₂ ∷ b₃ ∷ r) c t (Outcome.Refused Refusal.FifoFull)
-        none-free z = to-status _ (stops b₃ r (PushAt.Status w) Refusal.FifoFull refl c₂ _ _ (hear-queue-status _ d) (status ∙ rw z))
+        none-free z = to-status _ (stops b₃ r (PushAt.Status w) Refusal.FifoFull refl c₂ t₂ _ (hear-queue-status _ d) (status ∙ rw z))
 
     -- one is free
     pub queue-goes : (b₄ b₅ b₆ : List Bus) (q : List (List Bus)) → r ≡ b₄ ∷ b₅ ∷ b₆ ∷ q → QueueTakes d payload → Says PushAt.Enabled (b₁ ∷ b₂ ∷ b₃ ∷ r) c t Outcome.Done
     queue-goes b₄ b₅ b₆ q e (on, fit, z) =
         let y : ltb (payloadOf (frozenAt d 0)) (length payload) ≡ false = le-ltb _ _ fit in
-        let x = buses-queue m bs (PushAt.Status (w on y)) b₃ c₂ _ g₂ (knows on y) in
+        let x = buses-queue m bs (PushAt.Status (w on y)) b₃ c₂ t₂ g₂ (knows on y) in
         to-status on y Outcome.Done
-        (rw e (joined b₃ (b₄ ∷ b₅ ∷ b₆ ∷ q) (PushAt.Status (w on y)) (PushAt.Address (w on y)) c₂ _ d Outcome.Done
-        (goes b₃ (b₄ ∷ b₅ ∷ b₆ ∷ q) (PushAt.Status (w on y)) (PushAt.Address (w on y)) refl c₂ _ _ d (hear-queue-status _ d) (status on y ∙ rw z) refl)
-        (from-address b₄ b₅ b₆ q (w on y) d _ (buses-fit b₃ c₂ _ g₂) (x, z))))
+        (rw e (joined b₃ (b₄ ∷ b₅ ∷ b₆ ∷ q) (PushAt.Status (w on y)) (PushAt.Address (w on y)) c₂ t₂ d Outcome.Done
+        (goes b₃ (b₄ ∷ b₅ ∷ b₆ ∷ q) (PushAt.Status (w on y)) (PushAt.Address (w on y)) refl c₂ t₂ _ d (hear-queue-status _ d) (status on y ∙ rw z) refl)
+        (from-address b₄ b₅ b₆ q (w on y) d _ (buses-fit b₃ c₂ t₂ g₂) (x, z))))
 
     -- what holds where the queue takes it, and of each refusal, holds of its answer
     pub queue-by : (P : Ending → Type 0) → (QueueTakes d payload → P (answer Outcome.Done []))

@@ -35,12 +35,11 @@ use Rattle.history.specs.Demand.{calm, buses, all, ButFor}
 use Rattle.history.proofs.Line.{world}
 use Rattle.history.proofs.Foot.{but-same, but-written, but-buses}
 use Rattle.history.proofs.Asks.{hear-enabled, hear-queue, hear-queue-status, hear-queue-address}
-use Rattle.history.proofs.Replies.{word-said}
 use Rattle.history.proofs.Slots.{ram-long}
 use Rattle.history.proofs.Pushing.{pushing, turned, still-alone, refused-alone}
 use Rattle.history.proofs.Mid.{QueueMid}
 use Rattle.history.proofs.QueueSlots.{clear-queue}
-use Rattle.history.proofs.QueueReplies.{queue-gentle, shown-inside, next-enabled, next-queue-control, next-queue-status, next-shown}
+use Rattle.history.proofs.QueueReplies.{queue-gentle, shown-inside, next-enabled, next-queue-control, next-queue-status, next-queue-address}
 use Rattle.history.proofs.QueueSteps.{queue-fits, shown-told, queueing}
 use Rattle.history.proofs.Calm.{spokenOf, Fit, buses-fit, buses-fixed}
 use Rattle.history.proofs.QueueExactly.{buses-queue}
@@ -84,7 +83,7 @@ module _ (header : Header) (seq : ℕ) (payload bytes : List ℕ) (coded : encod
   -- the object was written: no bus step moves the slot shown
   wrote : (c : Model) (t : List Said) (f : Fit c t) (w a : ℕ) → Mid c (PushAt.Write w a) → (v : World)
       → v .chip ≡ written c (queueShown c) bytes → (bs : List (List Bus)) → length bs < 1 → Ends bs c v
-  unfolding calm
+  unfolding calm queueShown queueSlot
   wrote c t f w a g v e [] l =
       let p : ℕ = queueShown c in
       let z : ℕ = size (frozenAt c 0) in
@@ -95,11 +94,8 @@ module _ (header : Header) (seq : ℕ) (payload bytes : List ℕ) (coded : encod
       let stays : queueShown (buses b c) ≡ p = omega (arith, g .2, h .2) in
       let inside : p + z ≤ length (c .ram) = omega (arith, ram-long c o, shown-inside c o (g .0 .on)) in
       let apart : ButFor p z (buses b c) (buses b d)
-      = but-buses p z b c d (clear c o (o .valid .queue .vacant (g .1))) (but-written p z c p bytes (omega arith) (omega (arith, g .0 .fits)) inside) in
+      = but-buses p z b c d (λ on. clear-queue c o (c .queue .shown) (o .valid .queue .vacant (g .1)) on) (but-written p z c p bytes (omega arith) (omega (arith, g .0 .fits)) inside) in
       rw (failed-chip b v, e, stays, large) apart
-    where
-      clear : (c : Model) (o : _) → _
-      clear c o free = clear-queue c o (c .queue .shown) free
   wrote c t f w a g v e (x ∷ bs) l = absurd (omega (arith, l))
 
   -- one exchange, the first of some; the rest is known where nothing was written
@@ -147,7 +143,7 @@ module _ (header : Header) (seq : ℕ) (payload bytes : List ℕ) (coded : encod
     reads-address w l g =
         let inside : queueShown c + length bytes ≤ 2048 = omega (arith, shown-inside c (f .sound) (g .0 .on), g .0 .fits) in
         rw (turned 0 (length payload) bytes idlePlan idleFetch false (PushAt.Address w) refl t k c _ _ _ (hear-queue-address _ c)
-        (rw (word-said Refusal.SpiRead (wordOf c Register.QueueAddress)) (next-shown c (f .sound) (g .0 .on) (length bytes) (PushAt.Write w) inside)))
+        (next-queue-address c (f .sound) (g .0 .on) (length payload) (length bytes) w inside))
         (stays _ (PushAt.Write w _) refl (omega arith) (g .0, g .1, refl))
 
     writes-object : (w a : ℕ) → Exchanged (PushAt.Write w a)

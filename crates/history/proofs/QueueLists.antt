@@ -2,16 +2,17 @@
 -- Assumes nothing.
 use Prim.Native.Nat.{ℕ, suc, _+_}
 use mathlib.Core.Path.{_≡_, refl, sym, ap, _∙_}
-use mathlib.Core.Set.{ℕ-set}
-use mathlib.Core.Truncation.{∥∥₁-elim}
 use mathlib.Core.List.{List, [], _∷_, _++_, map, map-append, append-nil, append-assoc, Perm, Perm·refl, Perm·trans, Perm·append-left, Perm·append-right}
 use mathlib.Core.List.{List·Permᴰ, List·Permᴰ·nil, List·Permᴰ·cons, List·Permᴰ·swap, List·Permᴰ·trans}
 use native.Mathlib.Omega.{arith}
 use Rattle.message.specs.Message.{Message, Decoding, holds, noFrame, short}
 use Rattle.state.specs.declared.Model.{Model}
 use Rattle.bus.specs.Queue.{heldQueue}
-use Rattle.history.specs.History.{Said}
-use Rattle.history.specs.Lists.{queuedIn, queueAccepted, queueSentIn, queueSent}
+use Rattle.history.specs.History.{Said, called}
+use Rattle.history.specs.Lists.{queuedIn, queueAccepted, queueSentIn, queueSent, queued}
+use mathlib.Core.Logic.{∥∥₁-elim}
+use Rattle.history.specs.Command.{Command}
+use Rattle.call.specs.declared.Outcome.{Outcome}
 
 abbrev pub QueueListed : Model → List Said → Type 0
 QueueListed c t = Perm (map holds (queueAccepted t)) (map holds (queueSent t) ++ heldQueue c)
@@ -44,15 +45,19 @@ queue-snoc c d t x l m =
 pub queue-quiet : (c d : Model) (x : Said) → heldQueue d ≡ heldQueue c → queuedIn x ≡ [] → queueSentIn x ≡ [] → QueueMoves c x d
 queue-quiet c d x e a b = rw (e, a, b, append-nil (heldQueue c)) (Perm·refl (heldQueue c))
 
+-- of a call
+pub queue-called : (c d : Model) (k : Command) (o : Outcome) (buf : List ℕ) → heldQueue d ≡ heldQueue c → queued k o ≡ [] → QueueMoves c (called k o buf) d
+queue-called c d k o buf e a = queue-quiet c d (called k o buf) e a refl
+
 -- ---- what is held was accepted, so it can be decoded
 
 -- those that can't
-strange : Decoding → ℕ
+abbrev strange : Decoding → ℕ
 strange (holds m) = 0
 strange noFrame = 1
 strange short = 1
 
-stranges : List Decoding → ℕ
+abbrev stranges : List Decoding → ℕ
 stranges [] = 0
 stranges (x ∷ l) = strange x + stranges l
 
@@ -68,15 +73,16 @@ stranges-append (x ∷ k) l = rw (stranges-append k l) (omega arith)
 
 stranges-none : (ms : List Message) → stranges (map holds ms) ≡ 0
 stranges-none [] = refl
-stranges-none (m ∷ ms) = stranges-none ms
+stranges-none (m ∷ ms) = omega (arith, stranges-none ms)
 
 -- the first of some that are held
 pub queue-decodes : (xs ys : List Message) (x : Decoding) (r : List Decoding) → Perm (map holds xs) (map holds ys ++ (x ∷ r)) → (m : Message) × (x ≡ holds m)
-queue-decodes xs ys x r p =
-    let e : stranges (map holds xs) ≡ stranges (map holds ys ++ (x ∷ r)) = ∥∥₁-elim p (ℕ-set _ _) stranges-perm in
-    go x (omega (arith, e, stranges-none xs, stranges-append (map holds ys) (x ∷ r)))
+queue-decodes xs ys x r p = go x refl
   where
-    go : (y : Decoding) → strange y ≡ 0 → (m : Message) × (y ≡ holds m)
-    go (holds m) z = (m, refl)
-    go noFrame z = absurd (omega arith)
-    go short z = absurd (omega arith)
+    not-strange : strange x ≡ 1 → List·Permᴰ (map holds xs) (map holds ys ++ (x ∷ r)) → ⊥
+    not-strange z d = omega (arith, z, stranges-perm d, stranges-none xs, stranges-append (map holds ys) (x ∷ r))
+
+    go : (y : Decoding) → x ≡ y → (m : Message) × (x ≡ holds m)
+    go (holds m) e = (m, e)
+    go noFrame e = absurd (∥∥₁-elim p (λ a b. absurd a) (not-strange (ap strange e)))
+    go short e = absurd (∥∥₁-elim p (λ a b. absurd a) (not-strange (ap strange e)))

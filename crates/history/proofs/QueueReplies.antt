@@ -2,10 +2,10 @@
 -- go next.
 -- Assumes nothing.
 use Prim.Native.Nat.{ℕ, _+_, _%_, _^_, _≤_, _<_}
-use mathlib.Core.Path.{_≡_, refl, sym, ap, _∙_}
-use mathlib.Core.Bool.{Bool, true, false, not}
+use mathlib.Core.Path.{_≡_, refl, sym, ap, _∙_, ap₂}
+use mathlib.Core.Bool.{Bool, true, false, not, _&&_}
 use mathlib.Core.List.{List, [], _∷_}
-use native.Mathlib.Nat.{mod-lt, mod-eq-of-lt, pow-pos}
+use native.Mathlib.Nat.{mod-lt, mod-eq-of-lt}
 use native.Mathlib.Omega.{arith}
 use borrow.Author.Tests.{le-ltb, ne-eqb}
 use lib.Dec.{ltb, eqb}
@@ -13,7 +13,7 @@ use lib.ListN.{getD}
 use Rattle.laws.specs.If.{if_then_else_}
 use Rattle.field.specs.Field.{read, flag, write, digit, mark}
 use Rattle.field.specs.Settings.{_:=_, settings}
-use Rattle.field.proofs.Laws.{read-write, write-other}
+use Rattle.field.proofs.Laws.{read-write, write-other, digit-lt, digit-back}
 use Rattle.field.proofs.Sets.{own}
 use Rattle.words.specs.Words.{leBytes}
 use Rattle.configuration.specs.CanControl.{TXQEN, OPMOD, REQOP}
@@ -36,15 +36,16 @@ use Rattle.state.specs.declared.Setup.{Setup}
 use Rattle.state.specs.declared.Model.{Model}
 use Rattle.state.specs.Model.{frozenAt, withSetup, withQueue}
 use Rattle.bank.specs.declared.writing.Written.{Written}
-use Rattle.bank.specs.Registers.{modeOf, queueShown, wordOf, conSet, conWritten, queueWritten, registerWritten}
+use Rattle.bank.specs.Registers.{modeOf, queueShown, wordOf, conSet, conWritten, queueWritten, registerWritten, granted, settled, denied, turnedAll}
 use Rattle.bank.proofs.Laws.{mode-fits}
 use Rattle.bank.proofs.QueueLaws.{txqen-reads}
 use Rattle.bus.specs.Queue.{queueDepth, queueSlot}
 use Rattle.history.proofs.Sound.{Sound}
 use Rattle.history.proofs.Asks.{range-in}
-use Rattle.history.proofs.Replies.{Gentle, sent-field, word-said, mark-small, digit-back, digit-lt}
+use Rattle.history.proofs.Replies.{Gentle, sent-field, word-said, mark-small}
 use Rattle.history.proofs.Harmless.{Staying}
 use Rattle.history.proofs.QueueSlots.{queue-inside}
+use lib.Pow.{pow-pos}
 
 module _ (c : Model) (s : Sound c) where
   -- ---- CiCON
@@ -65,7 +66,15 @@ module _ (c : Model) (s : Sound c) where
       → registerWritten c Register.Con w .model
       ≡ withSetup c (record { con = w; osc = c .setup .osc; plain = c .setup .plain; filter = c .setup .filter; object = c .setup .object; mask = c .setup .mask })
   unfolding registerWritten conWritten
-  con-staying w h = rw (s .out, ne-eqb (read REQOP w) 4 h) (out-same (s .out))
+  con-staying w h =
+      ap (λ (x : Written). x .model)
+      (ap₂ (λ (i b : Bool).
+      if i && not b && not (granted (c .fixed) w) then denied (conSet c w true)
+      else if b then if i then settled (conSet c w true) else settled (conSet (turnedAll true c) w true)
+      else if i then settled (conSet (turnedAll false c) w false)
+      else settled (conSet c w false))
+      (s .out) (ne-eqb (read REQOP w) 4 h))
+      ∙ out-same (s .out)
     where
       out-same : c .fixed .configuring ≡ false → conSet c w false ≡ withSetup c (record { con = w; osc = c .setup .osc; plain = c .setup .plain; filter = c .setup .filter; object = c .setup .object; mask = c .setup .mask })
       out-same e = λ i. record {
@@ -116,7 +125,7 @@ module _ (c : Model) (s : Sound c) where
 
     address-told : wordOf c Register.QueueAddress % 2 ^ 32 ≡ queueShown c
     unfolding wordOf
-    address-told = rw (s .out, on) (mod-eq-of-lt (omega (arith, shown-inside)))
+    address-told = ap₂ (λ (i q : Bool). (if not i && q then queueShown c else 0) % 2 ^ 32) (s .out) on ∙ mod-eq-of-lt (omega (arith, shown-inside))
 
     -- ---- where a push goes next
 
@@ -130,9 +139,20 @@ module _ (c : Model) (s : Sound c) where
         go false = refl
 
     -- where the user address leads, `to` with it
-    pub next-shown : (len : ℕ) (to : ℕ → PushAt) → queueShown c + len ≤ 2048 → afterAddress len to (wordOf c Register.QueueAddress % 2 ^ 32) ≡ to (queueShown c + 0x400)
+    next-shown : (len : ℕ) (to : ℕ → PushAt) → queueShown c + len ≤ 2048 → afterAddress len to (wordOf c Register.QueueAddress % 2 ^ 32) ≡ to (queueShown c + 0x400)
     unfolding afterAddress
     next-shown len to h = rw (address-told, le-ltb 0xFBFF (queueShown c) (omega arith), range-in (queueShown c) len h)
+
+    pub next-queue-address : (size len w : ℕ) → queueShown c + len ≤ 2048
+        → nextAt 0 size len (PushAt.Address w) Answer.Exchanged (leBytes (wordOf c Register.QueueAddress)) ≡ PushAt.Write w (queueShown c + 0x400)
+    next-queue-address size len w h = rw (word-said Refusal.SpiRead (wordOf c Register.QueueAddress)) (next-shown len (PushAt.Write w) h)
+
+    pub next-bare-address : (size len : ℕ) → queueShown c + len ≤ 2048
+        → nextAt 0 size len PushAt.BareAddress Answer.Exchanged (leBytes (wordOf c Register.QueueAddress)) ≡ PushAt.BareWrite (queueShown c + 0x400)
+    next-bare-address size len h = rw (word-said Refusal.SpiRead (wordOf c Register.QueueAddress)) (next-shown len PushAt.BareWrite h)
+
+  pub next-bare-control : (size len : ℕ) → nextAt 0 size len PushAt.BareControl Answer.Exchanged (leBytes word) ≡ PushAt.Commit (word % 2 ^ 32)
+  next-bare-control size len = rw (word-said Refusal.SpiRead word)
 
   pub next-enabled : (size len : ℕ) → nextAt 0 size len PushAt.Enabled Answer.Exchanged (leBytes (wordOf c Register.Con))
       ≡ (if c .fixed .queue then PushAt.Control else PushAt.Refused Refusal.TxQueueDisabled)

@@ -3,11 +3,11 @@
 use Prim.Native.Nat.{ℕ, _+_, _-_, _%_, _^_, _≤_, _<_}
 use native.Mathlib.Omega.{arith}
 use borrow.Author.Tests.{ltb-false}
-use mathlib.Core.Path.{_≡_, refl, sym, ap, _∙_}
+use mathlib.Core.Path.{_≡_, refl, sym, ap, _∙_, subst, ap₂}
 use mathlib.Core.Bool.{Bool, true, false}
-use mathlib.Core.List.{List, [], _∷_, _++_, append-nil, Perm, Perm·trans, Perm·symm, Perm·cons', perm-append-singleton}
-use lib.Dec.{ltb}
-use lib.ListN.{length}
+use mathlib.Core.List.{List, [], _∷_, _++_, append-nil, Perm, Perm·trans, Perm·symm, perm-append-singleton}
+use lib.Dec.{ltb, eqb}
+use lib.ListN.{length, getD}
 use Rattle.laws.proofs.Choice.{by-if}
 use Rattle.field.specs.Field.{mark}
 use Rattle.fifo.specs.Control.{CiFIFOCON, UINC, payloadOf}
@@ -50,13 +50,13 @@ use Rattle.history.proofs.Bus.{Listed, payload-whole, quiet}
 use Rattle.history.proofs.Line.{spoken}
 use Rattle.history.proofs.Kept.{spoken-sound}
 use Rattle.history.proofs.Asks.{hear-enabled, hear-queue, hear-queue-status, hear-queue-address, tell-queue, tell-ram}
-use Rattle.history.proofs.Replies.{Gentle, word-said, mark-small}
+use Rattle.history.proofs.Replies.{mark-small}
 use Rattle.history.proofs.Pushing.{pushing, turned, failed, still-alone, refused-alone, done-alone}
 use Rattle.history.proofs.PushSteps.{NotRefused, encoding-fine, body-whole, body-long, body-words}
 use Rattle.history.proofs.Mid.{QueueTx, QueueMid}
 use Rattle.history.proofs.QueueSlots.{queueFilled, queue-held, queue-filled-held, queue-filled-queue, queue-filled-item}
-use Rattle.history.proofs.QueueReplies.{queue-gentle, shown-inside, next-enabled, next-queue-control, next-queue-status, next-shown, queue-uinc}
-use Rattle.history.proofs.QueueLists.{QueueMoves, queue-quiet}
+use Rattle.history.proofs.QueueReplies.{queue-gentle, shown-inside, next-enabled, next-queue-control, next-queue-status, next-queue-address, queue-uinc}
+use Rattle.history.proofs.QueueLists.{QueueMoves, queue-called}
 use Rattle.history.proofs.Inv.{queues, Tale, Inv, goes-on, says-more, quiet-refusal}
 
 -- a payload that is not longer than PLSIZE means fits a slot with its header
@@ -100,6 +100,7 @@ module _ (c : Model) (o : Sound c) (header : Header) (seq : ℕ) (payload bs : L
   -- one more is held
   claim-moves : (w : ℕ) → QueueMid c sent bs (PushAt.Commit w) → (v : Queue) → v .held ≡ c .queue .held → v .shown ≡ c .queue .shown
       → QueueMoves c (called (QueuePush header seq payload) Outcome.Done []) (withQueue c (queue.claimed (frozenAt c 0) v))
+  unfolding queue.full queue.free queueItem queueSlot
   claim-moves w g v vh vs =
       let on = g .0 .on in
       let z : ℕ = frozenAt c 0 in
@@ -108,7 +109,9 @@ module _ (c : Model) (o : Sound c) (header : Header) (seq : ℕ) (payload bs : L
       let more : Perm (gather (isHeld (queue.claimed z v)) (queueItem c) 0 (depth z)) (queueItem c (v .shown) ∷ gather (isHeld v) (queueItem c) 0 (depth z))
       = claimed-held z v (queueItem c) vacant (rw vs (o .valid .queue .shown)) (rw (vh, vs) (o .valid .queue .vacant (g .1))) (ap length vh ∙ o .valid .queue .held) in
       rw (held-on c on, held-on (withQueue c (queue.claimed z v)) on)
-      (Perm·trans (perm-append-singleton (holds sent) (gather (isHeld (c .queue)) (queueItem c) 0 (depth z))) (rw (item, vh) at (Perm·symm more)))
+      (Perm·trans (perm-append-singleton (holds sent) (gather (isHeld (c .queue)) (queueItem c) 0 (depth z))) 
+      (subst (λ (x : List Decoding). Perm x (gather (isHeld (queue.claimed z v)) (queueItem c) 0 (depth z)))
+      (ap₂ (λ (x : Decoding) (y : List ℕ). x ∷ gather (λ j. eqb (getD y j 0) 1) (queueItem c) 0 (depth z)) item vh) (Perm·symm more)))
 
 module _ (X : ℕ → Type 0) {U : Type 0} (c : Model) (o : Sound c) (q : Asked X c) (t : List Said) (l : Listed c t) (e : Tale U c t)
     (header : Header) (seq : ℕ) (payload bs : List ℕ) (p : Plan) (f : Fetch) (coded : encoding (push.toSend header seq payload) ≡ Encoding.object bs) where
@@ -134,7 +137,7 @@ module _ (X : ℕ → Type 0) {U : Type 0} (c : Model) (o : Sound c) (q : Asked 
   ends : (rx : List ℕ) (x : Refusal) → NotCaused x → After c (PushAt.Refused x) rx
   ends rx x w =
       rw (refused-alone k (λ s. refl) refl refl (length payload) bs p f t c rx x)
-      (says-more X c t l e c idle _ o q (quiet-refusal c k x []) (λ u. queue-quiet c c _ refl refl refl) w tt)
+      (says-more X c t l e c idle _ o q (quiet-refusal c k x []) (λ u. queue-called c c k (Outcome.Refused x) [] refl refl) w tt)
 
   abbrev Exchanged : PushAt → Type 0
   Exchanged a = Inv X U (goesOn t k (at a) (heard true (at a) c))
@@ -163,7 +166,7 @@ module _ (X : ℕ → Type 0) {U : Type 0} (c : Model) (o : Sound c) (q : Asked 
   reads-address w g =
       let inside : queueShown c + length bs ≤ 2048 = omega (arith, shown-inside c o (g .0 .on), g .0 .fits) in
       rw (turned 0 (length payload) bs p f false (PushAt.Address w) refl t k c _ _ _ (hear-queue-address _ c)
-      (rw (word-said Refusal.SpiRead (wordOf c Register.QueueAddress)) (next-shown c o (g .0 .on) (length bs) (PushAt.Write w) inside)))
+      (next-queue-address c o (g .0 .on) (length payload) (length bs) w inside))
       (stays _ (PushAt.Write w _) refl (g .0, g .1, refl))
 
   writes-object : (w a : ℕ) → QueueMid c m bs (PushAt.Write w a) → Exchanged (PushAt.Write w a)
@@ -188,7 +191,7 @@ module _ (X : ℕ → Type 0) {U : Type 0} (c : Model) (o : Sound c) (q : Asked 
         turned 0 (length payload) bs p f false (PushAt.Commit w) refl t k c [] (withQueue c y) PushAt.Done told refl,
         done-alone k (λ s. refl) refl refl (length payload) bs p f t (withQueue c y) [],
       )
-      (says-more X c t l e (withQueue c y) idle _ (spoken-sound _ _ c o _ told refl) q (quiet c (withQueue c y) _ (λ j. refl) (λ j. refl) (queue-held c y))
+      (says-more X c t l e (withQueue c y) idle _ (spoken-sound _ _ c o _ told refl) q (quiet c (withQueue c y) (called k Outcome.Done []) (λ j. refl) (λ j. refl) (queue-held c y))
       (λ u. claim-moves c o header seq payload bs coded w g v vh vs) tt tt)
 
   pub queue-exchanged : (a : PushAt) → QueueMid c m bs a → Exchanged a
@@ -233,7 +236,7 @@ module _ (X : ℕ → Type 0) {U : Type 0} (c : Model) (o : Sound c) (q : Asked 
       → Inv X U (settled c t (QueuePush header seq payload) (queueing (length payload) PushAt.Enabled x) [])
   begins-as (Encoding.refused x) g h =
       rw (refused-alone (QueuePush header seq payload) (λ s. refl) refl refl (length payload) [] idlePlan idleFetch t c [] x)
-      (says-more X c t l e c idle _ o q (quiet-refusal c (QueuePush header seq payload) x []) (λ u. queue-quiet c c _ refl refl refl) h tt)
+      (says-more X c t l e c idle _ o q (quiet-refusal c (QueuePush header seq payload) x []) (λ u. queue-called c c (QueuePush header seq payload) (Outcome.Refused x) [] refl refl) h tt)
   begins-as (Encoding.object bs) g h =
       rw (still-alone (QueuePush header seq payload) (λ s. refl) refl refl (length payload) bs idlePlan idleFetch t c [] PushAt.Enabled refl)
       (goes-on X c t l e c _ _ o q (λ j. refl) refl (queues header seq payload bs PushAt.Enabled idlePlan idleFetch g tt refl refl))

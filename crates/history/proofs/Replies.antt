@@ -17,7 +17,7 @@ use Rattle.field.proofs.Laws.{set-lt, read-write, write-other, digit-lt, digit-
 use Rattle.field.proofs.Sets.{off, own}
 use Rattle.words.specs.Words.{byteOf, leBytes, leAt}
 use Rattle.words.proofs.Laws.{le-back, le-length}
-use Rattle.fifo.specs.Control.{TXEN, RXTSEN, PLSIZE, UINC, TXREQ, FRESET, payloads, payloadOf}
+use Rattle.fifo.specs.Control.{TXEN, RXTSEN, PLSIZE, UINC, TXREQ, FRESET, payloads, payloadOf, isFifo}
 use Rattle.fifo.specs.Status.{TFNRFNIF, TFERFFIF, RXOVIF}
 use Rattle.spi.specs.declared.refusal.Refusal.{Refusal}
 use Rattle.spi.specs.declared.refusal.Done.{Done}
@@ -42,6 +42,7 @@ use Rattle.bank.specs.Registers.{shownAt, wordOf, controlWritten}
 use Rattle.bus.specs.Held.{slotOf}
 use Rattle.history.proofs.Sound.{Sound}
 use Rattle.history.proofs.Asks.{range-in}
+use Rattle.tx_fifo.proofs.Runs.{fifo-sends}
 
 -- ---- words on the line
 

@@ -1,6 +1,6 @@
 -- A request, step by step: what it answers.
 -- Assumes nothing.
-use Prim.Native.Nat.{ℕ, _%_, _^_, _<_}
+use Prim.Native.Nat.{ℕ, _%_, _^_, _<_, _≤_}
 use mathlib.Core.Path.{_≡_, refl, sym, ap, subst, _∙_}
 use mathlib.Core.Bool.{Bool, true, false, false≢true}
 use mathlib.Core.List.{List, [], _∷_}
@@ -18,15 +18,16 @@ use Rattle.plan.specs.Plan.{Plan}
 use Rattle.plan.specs.Change.{modified}
 use Rattle.plan.specs.Step.{filled, arrivedAt, refusedPlan, stepOf, askAt, askOf, outcomeAt, outcomeOf}
 use Rattle.plan.proofs.Changes.{change-sets}
-use Rattle.transmit.specs.Transmit.{requestChange, requestStart}
+use Rattle.transmit.specs.Transmit.{requestChange, requestStart, queueRequestStart}
 use Rattle.place.specs.declared.Register.{Register}
 use Rattle.state.specs.declared.Model.{Model}
 use Rattle.bank.specs.Registers.{wordOf}
 use Rattle.history.specs.History.{Heard, waits, isOver}
 use Rattle.history.specs.Demand.{Ordinary}
 use Rattle.history.proofs.Line.{spoken}
-use Rattle.history.proofs.Asks.{hear-control, tell-control}
+use Rattle.history.proofs.Asks.{hear-control, tell-control, hear-any, tell-any}
 use Rattle.history.proofs.Replies.{le-said}
+use Rattle.history.proofs.Slots.{fifo-told}
 
 -- the plan of a request that stands there
 abbrev pub requesting : (n next : ℕ) → PlanAt → Plan

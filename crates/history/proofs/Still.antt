@@ -1,7 +1,7 @@
 -- A call that is no scrub step asks for no rewrite, whatever is answered and whatever happens on the bus.
 -- Assumes nothing.
 use Prim.Native.Nat.{ℕ}
-use mathlib.Core.Path.{_≡_, refl, sym, subst}
+use mathlib.Core.Path.{_≡_, refl, sym, subst, _∙_}
 use mathlib.Core.Bool.{Bool, true, false, true≢false}
 use mathlib.Core.List.{List, [], _∷_, _++_, map}
 use Rattle.laws.proofs.Choice.{by-if}
@@ -11,9 +11,10 @@ use Rattle.driver.specs.Call.{Call}
 use Rattle.driver.specs.Step.{stepAt, stepOf, outcomeOf}
 use Rattle.state.specs.declared.Model.{Model}
 use Rattle.reach.specs.Bus.{Bus}
-use Rattle.history.specs.Command.{Command, started}
+use Rattle.history.specs.Command.{Command, started, Push, Transmit, QueuePush, QueueUnchecked, QueueRequest, Request, HasNext, Peek, Get, Reading, Configuring, secondCall}
 use Rattle.history.specs.History.{Event, Begin, Exchange, Fail, On, Said, Doing, idle, busy, World, Heard, isOver, halfway, heard, settled, event, after}
-use Rattle.history.specs.Demand.{calm, asksRewrite, rewriting, NoRewrite}
+use Rattle.history.specs.Demand.{calm, asksRewrite, strays, ends, Lasts}
+use Rattle.history.specs.Queue.{unchecked}
 
 -- the family of scrub steps
 abbrev pub scrubs : CallAt → Bool

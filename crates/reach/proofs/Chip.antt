@@ -28,7 +28,7 @@ use Rattle.ring.specs.Ring.{sending, depth, fresh, claimed, overflowed, sent, t
 use Rattle.ring.specs.Registers.{control, status}
 use Rattle.ring.specs.Queue as queue
 use Rattle.ring.proofs.Queues.{fresh-held}
-use Rattle.ring.proofs.QueueControl.{queue-entering-empties}
+use Rattle.ring.proofs.QueueControl.{queue-off, queue-entering-empties}
 use Rattle.ring.proofs.Laws.{frozen-kept, control-off, send-txreq, entering-empties, status-bits}
 use Rattle.state.specs.declared.Model.{Model}
 use Rattle.state.specs.Model.{areas, blank, reset, fifoAt, frozenAt, withFifo}
@@ -280,7 +280,7 @@ reset-entered ram =
       txreq = λ n. control-off TXREQ (frozenAt (reset ram) n) (fifoAt (reset ram) n) refl ∙ all (λ f. read TXREQ (f .control) ≡ 0) refl refl n;
       overflow = λ n. all (λ f. f .over ≡ false) refl refl n;
       queueEmpty = none-queued (reset ram) (fresh-held (CiTXQCON .reset));
-      queueTxreq = refl;
+      queueTxreq = queue-off TXREQ (frozenAt (reset ram) 0) (reset ram .queue) refl;
       queueShows = refl;
     }
 

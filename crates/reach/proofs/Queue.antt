@@ -132,7 +132,7 @@ no-slots [] e = refl
 no-slots (x ∷ l) e = absurd (omega arith)
 
 pub queue-send-takes : QueueSendTakes
-unfolding queueOutput queueModel wordOf
+unfolding queueOutput queueModel queueSends queueItem queueSlot wordOf
 queue-send-takes m r (q, t) some =
     let v = always-valid m r in
     let on = on-is m q in
@@ -156,11 +156,10 @@ queue-send-takes m r (q, t) some =
     }
   where
     held-sent : m .fixed .queue ≡ true → (w k : ℕ) → heldQueue (withQueue m (queue.sent w k (m .queue))) ≡ gather (isHeld (queue.sent w k (m .queue))) (queueItem m) 0 (queueDepth m)
-    unfolding queueItem queueSlot
     held-sent on w k = held-on (withQueue m (queue.sent w k (m .queue))) on
 
     asked-sends : m .fixed .queue ≡ true → flag TXREQ (m .queue .control) ≡ true → queueSends m ≡ true
-    asked-sends on asks = rw (on, asks) (go (ltb (winner m) noSlot) refl)
+    asked-sends on asks = ap₂ _&&_ (ap₂ _&&_ on asks) (go (ltb (winner m) noSlot) refl)
       where
         go : (b : Bool) → ltb (winner m) noSlot ≡ b → ltb (winner m) noSlot ≡ true
         go true e = e
@@ -193,13 +192,18 @@ unfolding wordOf depth control fresh
 size-reads m = ap (λ (n : ℕ). n + 1) (sym (frozen-kept (frozenAt m 0) (fresh (m .queue .control)) .1 .1 .0))
 
 pub queue-status-reads : QueueStatusReads
+unfolding wordOf
 queue-status-reads m c = go (m .fixed .queue) refl
   where
     reads : wordOf m Register.QueueStatus ≡ (if m .fixed .queue then queue.status (frozenAt m 0) (m .queue) else 0)
-    unfolding wordOf
     reads = rw c
 
     go : (b : Bool) → m .fixed .queue ≡ b → wordOf m Register.QueueStatus
         ≡ (if m .fixed .queue then digit (ltb (length (heldQueue m)) (read FSIZE (wordOf m Register.QueueControl) + 1)) + 4 * digit (eqb (length (heldQueue m)) 0) else 0)
-    go true e = reads ∙ rw (e, held-on m e, ← size-reads m) (slots-bits (frozenAt m 0) (m .queue) (queueItem m))
-    go false e = reads ∙ rw e
+    go true e =
+        reads ∙ ap (λ (b : Bool). if b then queue.status (frozenAt m 0) (m .queue) else 0) e ∙ slots-bits (frozenAt m 0) (m .queue) (queueItem m)
+        ∙ ap₂ (λ (l : List Decoding) (n : ℕ). digit (ltb (length l) n) + 4 * digit (eqb (length l) 0)) (sym (held-on m e)) (size-reads m)
+        ∙ ap (λ (b : Bool). if b then digit (ltb (length (heldQueue m)) (read FSIZE (wordOf m Register.QueueControl) + 1)) + 4 * digit (eqb (length (heldQueue m)) 0) else 0) (sym e)
+    go false e =
+        reads ∙ ap (λ (b : Bool). if b then queue.status (frozenAt m 0) (m .queue) else 0) e
+        ∙ ap (λ (b : Bool). if b then digit (ltb (length (heldQueue m)) (read FSIZE (wordOf m Register.QueueControl) + 1)) + 4 * digit (eqb (length (heldQueue m)) 0) else 0) (sym e)

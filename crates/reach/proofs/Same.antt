@@ -28,11 +28,11 @@ use Rattle.ring.specs.Registers.{frozenFields, copied, control, ready, edge, st
 use Rattle.ring.specs.Layout.{stamped, size, room, end, base, slotAt}
 use Rattle.ring.specs.declared.queue.Queue.{Queue}
 use Rattle.ring.specs.Queue as queue
-use Rattle.ring.specs.Queue.{isHeld, best}
+use Rattle.ring.specs.Queue.{isHeld, noSlot, best}
 use Rattle.ring.proofs.Gathers.{best-same}
 use Rattle.state.specs.declared.Model.{Model}
 use Rattle.state.specs.declared.Setup.{Setup}
-use Rattle.state.specs.Model.{blank, reset, fifoAt, withSetup, withFifo, withQueue, written}
+use Rattle.state.specs.Model.{blank, reset, fifoAt, frozenAt, withSetup, withFifo, withQueue, written}
 use Rattle.bank.specs.declared.writing.Written.{Written}
 use Rattle.bank.specs.Registers.{shownAt, queueActs, queueShown, wordOf, granted, conSet, turnedAll, conWritten, frozenSet, controlWritten, statusWritten, queueWritten, registerWritten}
 use Rattle.model.specs.Exchange.{received, noLayout, checkedBytes, performed, exchange}
@@ -511,7 +511,8 @@ module _ (W : ℕ → ℕ → Type 0) (z : Blind W) where
 
       queue-sends : queueSends c ≡ queueSends d
       unfolding queueSends
-      queue-sends = rw (t .on, t .queue, winners-like)
+      queue-sends =
+          ap₂ _&&_ (ap₂ (λ (i : Bool) (q : Queue). i && flag TXREQ (q .control)) (t .on) (t .queue)) (ap (λ (k : ℕ). ltb k noSlot) winners-like)
 
       pub queue-outputs : queueOutput c ≡ queueOutput d
       unfolding queueOutput
@@ -523,7 +524,7 @@ module _ (W : ℕ → ℕ → Type 0) (z : Blind W) where
       unfolding queueModel
       queue-send =
           by-ifs (Same C W) _ _ queue-sends
-          (with-queue c d t _ _ (queue-sent _ _ (t .frozen 0) _ _ (t .queue) (winner c) ∙ ap (λ (k : ℕ). queue.sent _ k (d .queue)) winners-like)) t
+          (with-queue c d t _ _ (queue-sent _ _ (t .frozen 0) _ _ (t .queue) (winner c) ∙ ap (λ (k : ℕ). queue.sent (frozenAt d 0) k (d .queue)) winners-like)) t
 
       abbrev SameDelivered : Delivered → Delivered → Type 0
       SameDelivered x y = (x .delivery ≡ y .delivery) × Same C W (x .model) (y .model)
