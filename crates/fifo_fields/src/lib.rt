@@ -3,7 +3,6 @@ mod fifos;
 mod filters;
 mod queue;
 
-ghost use Prim.Native.Nat.{_<_};
 use fifo::FifoControl;
 use fifo::TxQueueControl;
 use fifo::TxQueueUserAddress;
@@ -49,20 +48,15 @@ pub fn is_size(k: usize, i: usize) -> bool {
     }
 }
 
-fn with_size(k: usize, v: u32, w: u32) -> u32
-    requires { ⌜ 0 < v ⌝ }
-{
-    if k == 0 {
-        FifoControl(w).with_fifo_size(v).0
-    } else {
-        TxQueueControl(w).with_fifo_size(v).0
-    }
-}
-
 // A size's values begin with 1, and one above 32 is set as 32.
 pub fn sized(k: usize, v: u32, w: u32) -> Field {
     if v == 0 {
         return Field::Unknown;
     }
-    Field::Value(with_size(k, v, w) as u64)
+    let set = if k == 0 {
+        FifoControl(w).with_fifo_size(v).0
+    } else {
+        TxQueueControl(w).with_fifo_size(v).0
+    };
+    Field::Value(set as u64)
 }
