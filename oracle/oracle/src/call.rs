@@ -297,10 +297,12 @@ impl<'a> Args<'a> {
         }
     }
 
-    /// Points `AnyRegister` at the address.
+    /// Points `AnyRegister` at the address. The transmit queue's are taken too.
     fn place(&mut self) -> Option<()> {
+        use SFRAddress::*;
         let address: u16 = self.hex()?;
-        PLACE.set(Some(addresses().into_iter().find(|a| *a as u16 == address)?));
+        let mut all = addresses().into_iter().chain([C1TXQCON, C1TXQSTA, C1TXQUA]);
+        PLACE.set(Some(all.find(|a| *a as u16 == address)?));
         Some(())
     }
 

@@ -244,8 +244,9 @@ impl<'a> Chip<'a> {
     }
 
     fn fresh(&mut self, address: u16) -> u32 {
-        if (0x05c..0x1d0).contains(&address) {
-            return match (address - 0x05c) % 12 {
+        // the queue's three words are those of a FIFO 0
+        if (0x050..0x1d0).contains(&address) {
+            return match (address - 0x050) % 12 {
                 0 => self.fifo_control(),
                 4 => self.rng.word() & !1 | u32::from(!self.rng.one_in(10)),
                 _ => self.user_address(),

@@ -42,6 +42,7 @@ fn run(args: &[&str]) -> Option<ExitCode> {
         ["fields", rest @ ..] => {
             let (mut rng, count) = seed_and_count(rest, 4)?;
             (0..count).for_each(|_| fields::show(&mut rng));
+            (0..count).for_each(|_| fields::show_queue(&mut rng));
         }
         ["crc", rest @ ..] => {
             let (mut rng, count) = seed_and_count(rest, 100)?;
