@@ -923,7 +923,7 @@ static void scrubs_refused(void)
     for (uint32_t a = 0; a < 0x2010; a++) {
         const uint32_t far[] = { 0xFFFF, 0x10000, 0x101D0, 0xFFFFFFFF }, address = a < 0x2000 ? a : far[a % 4];
         const int is_carried = address % 4 == 0 && (address <= 0x00C || address == 0x014 || address == 0x01C ||
-                                                    (address >= 0x05C && address <= 0x2EC) || address == 0xE00 || address == 0xE04);
+                                                    (address >= 0x050 && address <= 0x2EC) || address == 0xE00 || address == 0xE04);
         for (size_t bad = 0; bad < 3; bad++) {
             mcp_watch list[3] = { watched[0], watched[1], watched[2] };
             list[bad] = (mcp_watch){ address, 0, 0 };

@@ -894,7 +894,7 @@ fn mismatches_scrubbed_of_ones_own() {
 
 /// The registers of document 01, by their addresses.
 fn is_carried(a: u32) -> bool {
-    a % 4 == 0 && matches!(a, 0x000..=0x00C | 0x014 | 0x01C | 0x05C..=0x2EC | 0xE00 | 0xE04)
+    a % 4 == 0 && matches!(a, 0x000..=0x00C | 0x014 | 0x01C | 0x050..=0x2EC | 0xE00 | 0xE04)
 }
 
 /// 32, then 33, which any entry's address makes, the one that is due or another; nothing is exchanged, nothing is moved.
@@ -957,7 +957,7 @@ fn a_scrubber_of_ones_own() {
         call = answer(call, Answer::Exchanged, &rx);
     }
     assert_eq!((place(call), turns(call)), (1, 0));
-    for list in [&[][..], &[FILTER[0], Watch { address: 0x050, ..FILTER[0] }]] {
+    for list in [&[][..], &[FILTER[0], Watch { address: 0x04C, ..FILTER[0] }]] {
         let refused = scrub(Scrubber { place: 9 }, list, false);
         assert_eq!((place(refused), turns(refused), place(answer(refused, Answer::Exchanged, &[]))), (9, 0, 9));
     }
