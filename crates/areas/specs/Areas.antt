@@ -1,4 +1,5 @@
--- The changes that configure a FIFO, the transmit queue and a filter. `To`: the change of the same fields to bits of a word, which is what a plan keeps of a change.
+-- The changes that configure a FIFO, the transmit queue and a filter. `To`: the change of the same fields to bits of a word, which is what
+-- a plan keeps of a change.
 -- Assumes nothing.
 use Prim.Native.Nat.{ℕ, _/_, _%_}
 use mathlib.Core.Bool.{Bool, true, false, not, _&&_}

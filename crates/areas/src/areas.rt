@@ -1,5 +1,5 @@
-// The changes that configure a FIFO, the transmit queue and a filter: the bits that they set, and the change of a register to these bits, where the bits that are
-// kept are all but those of its fields. And the change that requests a transmission.
+// The changes that configure a FIFO, the transmit queue and a filter: the bits that they set, and the change of a register to these
+// bits, where the bits that are kept are all but those of its fields. And the change that requests a transmission.
 ghost use mathlib.Core.Path.{_≡_};
 ghost use mathlib.Core.Bool.{true, not, _&&_};
 ghost use Rattle.laws.specs.If.{if_then_else_};

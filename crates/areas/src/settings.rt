@@ -1,4 +1,5 @@
-// What the calls of a FIFO, the transmit queue and a filter are given. A number is any number: one that is wider than its field is refused (24).
+// What the calls of a FIFO, the transmit queue and a filter are given. A number is any number: one that is wider than its field is
+// refused (24).
 
 // Fields of CiFIFOCON that a FIFO which sends has.
 pub struct TxFifo {

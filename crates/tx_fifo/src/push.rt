@@ -1,8 +1,10 @@
 // The push calls: control, status and user address are read, the object is written to RAM, and control is written back as first
-// read with UINC. To the transmit queue, which is FIFO 0, CiCON is read before them; or, unchecked, control is read only behind the RAM write.
+// read with UINC. To the transmit queue, which is FIFO 0, CiCON is read before them. An unchecked push to it reads the user address
+// alone, and control behind the RAM write.
 ghost use mathlib.Core.Path.{_≡_};
 ghost use mathlib.Core.List.{[]};
 ghost use Rattle.message.specs.Structs.{encodedAs, encodedIn};
+ghost use Rattle.spi.specs.declared.ask.Ask.{Ask};
 ghost use Rattle.spi.specs.Talk.{onWord};
 ghost use Rattle.tx_fifo.specs.PushAt.{PushAt};
 ghost use Rattle.tx_fifo.specs.Step.{encodingFor, startOf, queueStartAt, queueStart, queueUncheckedStart, afterEnabled, sends, afterControl, afterStatus, afterAddress, askOf, outcomeOf, isDone};
@@ -309,27 +311,24 @@ pub fn push_step(c: PushNumbers, answer: Answer, rx: &[u8]) -> PushNumbers
     }
 }
 
+fn read_word(address: u16) -> Ask
+    ensures { λ r. ⌜ r ≡ Ask.Read address 4 ⌝ }
+{
+    Ask::Read {
+        address: address,
+        count: 4,
+    }
+}
+
 pub fn push_ask(c: PushNumbers) -> Ask
     ensures { λ r. ⌜ r ≡ askOf (pushOf c []) ⌝ }
 {
     let stage = c.stage;
     match stage {
-        PushStage::Enabled => Ask::Read {
-            address: CanControl::address(),
-            count: 4,
-        },
-        PushStage::Control => Ask::Read {
-            address: FifoControl::address(c.fifo),
-            count: 4,
-        },
-        PushStage::Status => Ask::Read {
-            address: FifoStatus::address(c.fifo),
-            count: 4,
-        },
-        PushStage::Address => Ask::Read {
-            address: UserAddress::address(c.fifo),
-            count: 4,
-        },
+        PushStage::Enabled => read_word(CanControl::address()),
+        PushStage::Control => read_word(FifoControl::address(c.fifo)),
+        PushStage::Status => read_word(FifoStatus::address(c.fifo)),
+        PushStage::Address => read_word(UserAddress::address(c.fifo)),
         PushStage::Write => Ask::Body {
             address: c.m,
             count: c.len,
@@ -338,18 +337,12 @@ pub fn push_ask(c: PushNumbers) -> Ask
             address: FifoControl::address(c.fifo),
             word: FifoControl(c.w).with_uinc(true).0,
         },
-        PushStage::BareAddress => Ask::Read {
-            address: UserAddress::address(c.fifo),
-            count: 4,
-        },
+        PushStage::BareAddress => read_word(UserAddress::address(c.fifo)),
         PushStage::BareWrite => Ask::Body {
             address: c.m,
             count: c.len,
         },
-        PushStage::BareControl => Ask::Read {
-            address: FifoControl::address(c.fifo),
-            count: 4,
-        },
+        PushStage::BareControl => read_word(FifoControl::address(c.fifo)),
         PushStage::Done => Ask::Nothing,
         PushStage::Refused => Ask::Nothing,
     }
