@@ -5,9 +5,10 @@ ghost use Rattle.driver.specs.Calls.{Modify, Verify, SetOpMode, Osc, Io,
 ghost use Rattle.register.specs.Numbers.{registerOf};
 ghost use Rattle.ram.specs.Numbers.{ramOf};
 ghost use Rattle.configure.specs.Numbers.{planIn};
+ghost use Rattle.tx_fifo.specs.Numbers.{pushOf};
 ghost use Rattle.rx_fifo.specs.Numbers.{fetchOf};
 ghost use Rattle.scrub.specs.Step.{begins};
-ghost use Rattle.driver.specs.Start.{ofRegister, ofRam, ofPlan, ofFetch, ofScrub};
+ghost use Rattle.driver.specs.Start.{ofRegister, ofRam, ofPlan, ofPush, ofFetch, ofScrub};
 ghost use Rattle.driver.specs.Numbers.{callOf};
 use crate::Call;
 use crate::parts_of::idle;
@@ -30,6 +31,7 @@ use fetch::FetchNumbers;
 use header::Header;
 use ram::RamNumbers;
 use register::RegisterNumbers;
+use tx_fifo::PushNumbers;
 use watch::Begun;
 use watch::Scrubber;
 use watch::Watch;
@@ -63,6 +65,15 @@ fn of_plan(p: PlanNumbers, body: [u8; 76]) -> Call
 {
     Call {
         numbers: with_plan(idle(), p),
+        body: body,
+    }
+}
+
+fn of_push(p: PushNumbers, body: [u8; 76]) -> Call
+    ensures { λ r. ⌜ callOf r ≡ ofPush (pushOf p body) ⌝ }
+{
+    Call {
+        numbers: with_push(idle(), p),
         body: body,
     }
 }
@@ -236,10 +247,7 @@ pub fn push(fifo: u32, header: Header, seq: u32, payload: &[u8]) -> Call
 {
     let mut body = [0u8; 76];
     let p = tx_fifo::push_start(fifo_number(fifo), header, seq, payload, &mut body);
-    Call {
-        numbers: with_push(idle(), p),
-        body: body,
-    }
+    of_push(p, body)
 }
 
 // A push to the transmit queue.
@@ -248,10 +256,7 @@ pub fn queue_push(header: Header, seq: u32, payload: &[u8]) -> Call
 {
     let mut body = [0u8; 76];
     let p = tx_fifo::queue_push_start(header, seq, payload, &mut body);
-    Call {
-        numbers: with_push(idle(), p),
-        body: body,
-    }
+    of_push(p, body)
 }
 
 // One that tests neither whether the queue is on nor its room: a message that it holds may be overwritten.
@@ -260,10 +265,7 @@ pub fn queue_push_unchecked(header: Header, seq: u32, payload: &[u8]) -> Call
 {
     let mut body = [0u8; 76];
     let p = tx_fifo::queue_unchecked_start(header, seq, payload, &mut body);
-    Call {
-        numbers: with_push(idle(), p),
-        body: body,
-    }
+    of_push(p, body)
 }
 
 // The queue is to send what it holds.
