@@ -24,32 +24,38 @@ use Rattle.state.specs.declared.Fixed.{Fixed}
 use Rattle.state.specs.declared.Model.{Model}
 use Rattle.state.specs.Model.{blank, fifoAt}
 use Rattle.bank.specs.declared.writing.Written.{Written}
-use Rattle.bank.specs.Registers.{modeOf, wordOf, granted, conSet, settled, denied, turnedAll, conWritten, controlWritten, statusWritten, queueWritten, registerWritten}
+use Rattle.bank.specs.Registers.{modeOf, wordOf, queueAfter, granted, conSet, settled, denied, turnedAll, conWritten, controlWritten, statusWritten, queueWritten, registerWritten}
 use Rattle.bank.specs.Laws.{FrozenOutside, Laid, Leaving, OpmodShows, ModeTaken, Silent, UincInside, PllrdyFollows}
 
--- CiCON's write changes no control word
-con-frozen : (m : Model) (w : ℕ) → conWritten m w .model .fixed .frozen ≡ m .fixed .frozen
+-- CiCON's write changes no control word, and takes TXQEN by the mode that it finds
+pub con-fixed : (m : Model) (w : ℕ) → (conWritten m w .model .fixed .frozen ≡ m .fixed .frozen) × (conWritten m w .model .fixed .queue ≡ queueAfter (m .fixed) w)
 unfolding conWritten
-con-frozen m w =
-    let P : Written → Type 0 = λ x. x .model .fixed .frozen ≡ m .fixed .frozen in
-    by-if P (m .fixed .configuring && not (eqb (read REQOP w) 4) && not (granted (m .fixed) w)) (λ d. refl)
-    (λ d. by-if P (eqb (read REQOP w) 4) (λ e. by-if P (m .fixed .configuring) (λ c. refl) (λ c. refl))
-    (λ e. by-if P (m .fixed .configuring) (λ c. refl) (λ c. refl)))
+con-fixed m w =
+    let P : Written → Type 0 = λ x. (x .model .fixed .frozen ≡ m .fixed .frozen) × (x .model .fixed .queue ≡ queueAfter (m .fixed) w) in
+    by-if P (m .fixed .configuring && not (eqb (read REQOP w) 4) && not (granted (m .fixed) w)) (λ d. (refl, refl))
+    (λ d. by-if P (eqb (read REQOP w) 4) (λ e. by-if P (m .fixed .configuring) (λ c. (refl, refl)) (λ c. (refl, refl)))
+    (λ e. by-if P (m .fixed .configuring) (λ c. (refl, refl)) (λ c. (refl, refl))))
+
+-- outside Configuration no write changes either
+pub fixed-outside : (m : Model) (r : Register) (w : ℕ) → m .fixed .configuring ≡ false
+    → (registerWritten m r w .model .fixed .frozen ≡ m .fixed .frozen) × (registerWritten m r w .model .fixed .queue ≡ m .fixed .queue)
+unfolding registerWritten controlWritten statusWritten queueWritten
+fixed-outside m Register.Con w c = (con-fixed m w .0, con-fixed m w .1 ∙ rw c)
+fixed-outside m Register.Osc w c = (refl, refl)
+fixed-outside m (Register.Plain k) w c = (refl, refl)
+fixed-outside m (Register.Filter k) w c = (refl, refl)
+fixed-outside m (Register.Object k) w c = (refl, refl)
+fixed-outside m (Register.Mask k) w c = (refl, refl)
+fixed-outside m (Register.Control n) w c = rw c (refl, refl)
+fixed-outside m (Register.Status n) w c =
+    by-if (λ (x : Model). (x .fixed .frozen ≡ m .fixed .frozen) × (x .fixed .queue ≡ m .fixed .queue)) (flag RXOVIF w) (λ e. (refl, refl)) (λ e. (refl, refl))
+fixed-outside m (Register.Address n) w c = (refl, refl)
+fixed-outside m Register.QueueControl w c = rw c (refl, refl)
+fixed-outside m Register.QueueStatus w c = (refl, refl)
+fixed-outside m Register.QueueAddress w c = (refl, refl)
 
 pub frozen-outside : FrozenOutside
-unfolding registerWritten controlWritten statusWritten queueWritten
-frozen-outside m Register.Con w c = con-frozen m w
-frozen-outside m Register.Osc w c = refl
-frozen-outside m (Register.Plain k) w c = refl
-frozen-outside m (Register.Filter k) w c = refl
-frozen-outside m (Register.Object k) w c = refl
-frozen-outside m (Register.Mask k) w c = refl
-frozen-outside m (Register.Control n) w c = rw c
-frozen-outside m (Register.Status n) w c = by-if (λ (x : Model). x .fixed .frozen ≡ m .fixed .frozen) (flag RXOVIF w) (λ e. refl) (λ e. refl)
-frozen-outside m (Register.Address n) w c = refl
-frozen-outside m Register.QueueControl w c = rw c
-frozen-outside m Register.QueueStatus w c = refl
-frozen-outside m Register.QueueAddress w c = refl
+frozen-outside m r w c = fixed-outside m r w c .0
 
 -- what a grant tells
 pub granted-fits : (x : Fixed) (w : ℕ) → granted x w ≡ true → end (flag TXQEN w) (x .frozen) 31 ≤ 2048

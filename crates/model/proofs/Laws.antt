@@ -21,8 +21,8 @@ use Rattle.state.specs.declared.Model.{Model}
 use Rattle.state.specs.Model.{frozenAt}
 use Rattle.bank.specs.declared.writing.Written.{Written}
 use Rattle.bank.specs.Registers.{wordOf, denied, granted, conSet, conWritten, registerWritten}
-use Rattle.bank.proofs.Laws.{frozen-outside}
-use Rattle.bank.proofs.QueueLaws.{txqen-reads, txqen-outside}
+use Rattle.bank.proofs.Laws.{fixed-outside}
+use Rattle.bank.proofs.QueueLaws.{txqen-reads}
 use Rattle.model.specs.Exchange.{failed, received, noLayout, doneWriting, performed, exchange}
 use Rattle.model.specs.Laws.{reads, ReadingKeeps, OthersFail, FailureKeeps, FrozenOutside, QueueFrozenOutside, TxqenOutside, replyNumbers, Answers27, OthersAnswerNone}
 
@@ -71,7 +71,7 @@ module _ (s : List ℕ) (want : ℕ) (m : Model) (c : m .fixed .configuring ≡ 
   stays (Operation.Read r) h = (refl, refl)
   stays (Operation.Checked r) h = (refl, refl)
   stays (Operation.ReadRam a) h = (refl, refl)
-  stays (Operation.Write r w) h = (frozen-outside m r w c, txqen-outside m r w c)
+  stays (Operation.Write r w) h = fixed-outside m r w c
   stays (Operation.WriteRam a) h = (refl, refl)
   stays Operation.Reset h = absurd (h refl)
   stays Operation.None h = (refl, refl)

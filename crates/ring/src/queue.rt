@@ -41,10 +41,12 @@ fn run(held: [u8; 32], on: bool, depth: u32) -> u32
     requires { ⌜ depth ≤ 32 ⌝ }
     ensures { λ r. ⌜ (r ≡ firstNot (λ k. if on then eqb (getD held k 0) 1 else not (eqb (getD held k 0) 1)) 0 depth) × (r ≤ depth) ⌝ }
 {
-    for k in 0..depth {
+    let mut k = 0;
+    while k < depth {
         if !is(held, on, k) {
             return k;
         }
+        k += 1;
     }
     depth
 }
