@@ -37,8 +37,9 @@ pub struct Chip {
     pub model: Model,
     /// How many exchanges it was asked for.
     pub exchanges: u32,
-    /// How many of them asked to leave Configuration and were not granted (27), because the FIFOs do not fit into RAM or the transmit
-    /// queue or event FIFO is on. Such a write is done on the line, so no call is told: `set_op_mode` polls in vain and is refused 12.
+    /// How many of them asked to leave Configuration and were not granted (27), because the FIFOs, and the transmit queue where it is on,
+    /// do not fit into RAM or the event FIFO is on. Such a write is done on the line, so no call is told: `set_op_mode` polls in vain and
+    /// is refused 12.
     pub no_layout: u32,
 }
 
@@ -51,6 +52,14 @@ impl Chip {
     /// The chip sends the oldest message of a FIFO, if sending is requested there. The frame has no content but beside `Sending::Frame`.
     pub fn send(&mut self, fifo: u32) -> (Sending, Frame) {
         let sent = bus::send(self.model, fifo);
+        self.model = sent.model;
+        (sent.sending, sent.frame)
+    }
+
+    /// The chip sends from the transmit queue, if sending is requested there: of all that it holds the message whose identifier wins
+    /// arbitration, of equal ones that in the lowest slot. Nothing is sent where the queue is off.
+    pub fn send_queue(&mut self) -> (Sending, Frame) {
+        let sent = bus::send_queue(self.model);
         self.model = sent.model;
         (sent.sending, sent.frame)
     }
@@ -82,6 +91,16 @@ impl Chip {
     /// The message `k` places behind a FIFO's oldest, decoded from RAM, or `None` where it holds fewer. Refused: 20.
     pub fn held_at(&self, fifo: u32, k: u8) -> Result<Option<Decoded>, Refusal> {
         Ok((k < self.held(fifo)?).then(|| bus::held_at(self.model, fifo, k)))
+    }
+
+    /// How many messages the transmit queue holds: none where it is off.
+    pub fn held_queue(&self) -> u8 {
+        (0..32).map(|slot| u8::from(bus::queue_holds(self.model, slot))).sum()
+    }
+
+    /// The message in a slot of the transmit queue, 0 to 31, decoded from RAM, or `None` where the slot holds none.
+    pub fn held_queue_at(&self, slot: u8) -> Option<Decoded> {
+        bus::queue_holds(self.model, slot).then(|| bus::queue_item(self.model, slot))
     }
 }
 

@@ -44,6 +44,9 @@ pub use proved::driver::Identifier;
 pub use proved::driver::RxFifo;
 /// Of a FIFO that sends: priority 0 to 31, TXAT (0 no retransmission, 1 three attempts, 2 and 3 unlimited), RTREN, interrupt enables.
 pub use proved::driver::TxFifo;
+/// What the transmit queue is set up with: `size` and `plsize` as a FIFO's, priority and TXAT as those of one that sends, and its interrupt
+/// enables.
+pub use proved::driver::TxQueueConfiguration;
 /// Both bit rates.
 pub use proved::driver::BitTimeConfiguration;
 /// Fields of CiDBTCFG as the register has them, one less than what they count, and TDCO, -64 to 63.
@@ -78,7 +81,7 @@ pub use proved::driver::Report;
 pub use proved::driver::Rewrite;
 /// The number of a refusal in documents 01 and 02.
 pub use proved::driver::number;
-/// Why a call was refused, by document 01's table; 30 to 33 are document 02's. 3 carries the address, 4 and 5 the length.
+/// Why a call was refused, by document 01's table; 30 to 34 are document 02's. 3 carries the address, 4 and 5 the length.
 ///
 /// | number | | given exactly when |
 /// |---|---|---|
@@ -87,8 +90,8 @@ pub use proved::driver::number;
 /// | 3 | `InvalidRamAddress` | an access does not lie in 0x400 to 0xBFF |
 /// | 4, 5 | `InvalidReadLength`, `InvalidWriteLength` | in range, but no multiple of 4 |
 /// | 6 | `FifoNotTx` | push on a FIFO that receives |
-/// | 7 | `FifoTooSmall` | the payload is longer than the FIFO's |
-/// | 8 | `FifoFull` | push on a full FIFO |
+/// | 7 | `FifoTooSmall` | the payload is longer than the FIFO's, or the transmit queue's |
+/// | 8 | `FifoFull` | push on a full FIFO, or to a full queue |
 /// | 9 | `FifoNotRx` | has-next, peek or get on a FIFO that sends |
 /// | 10 | `CrcMismatch` | three checked reads in a row mismatched |
 /// | 11 | `ConfigurationModeTimeout` | `configure`: five polls without the mode; a failed exchange in a call that [`Mcp`] names for it |
@@ -99,7 +102,7 @@ pub use proved::driver::number;
 /// | 21 | `BadIdentifier` | standard above 0x7FF, extended above 0x1FFF_FFFF |
 /// | 22 | `BadPayload` | a length that no message has; of a frame that arrives: not what its DLC means, or a DLC above 15 |
 /// | 23 | | given no more: a classic frame with a DLC above 8 is received, with 8 bytes |
-/// | 24 | `BadSetting` | FIFO size 0, or a number wider than its field |
+/// | 24 | `BadSetting` | size 0 of a FIFO or of the queue, or a number wider than its field |
 /// | 25 | `BadUserAddress` | the chip's user address is above 0xFBFF |
 /// | 26 | `WrongAnswer` | an answer of another length or kind than asked for, at the end of a RAM read too: only in a loop of your own |
 /// | 27 | `NoLayout` | the modelled chip did not leave Configuration: never of a call |
@@ -108,6 +111,7 @@ pub use proved::driver::number;
 /// | 31 | `DeviceNet` | DNCNT of the modelled chip is above 0 where it was to sort a frame: never of a call |
 /// | 32 | `EmptyList` | scrub: the list has no entry |
 /// | 33 | `NotCarried` | scrub: an entry's address is no register's that [`Watch`] names |
+/// | 34 | `TxQueueDisabled` | queue_push: the transmit queue is off |
 pub use proved::driver::Refusal;
 
 /// The calls themselves, for a loop of your own, with interrupts or DMA perhaps. No function here has a precondition.
@@ -166,7 +170,8 @@ pub mod calls {
     pub use crate::proved::driver::finish;
     /// The most exchanges and waits that are left: it falls at every answer, and is 0 exactly where the call is over.
     pub use crate::proved::driver::turns;
-    /// Whether the message of a push or a transmit is in the chip: also where the transmit's request was refused.
+    /// Whether the message of a push, to the transmit queue too, or of a transmit is in the chip: also where the transmit's request was
+    /// refused. Of an unchecked push: whether that is done, which does not say so.
     pub use crate::proved::driver::accepted;
     /// The scrubber of a scrub: moved on where that reported, as it was where it was refused or is not over. Of another call: at the first
     /// entry. [`run`](crate::run) does not give it: a step is [`Mcp::scrub`](crate::Mcp::scrub) or a loop of your own.
@@ -190,9 +195,9 @@ pub mod calls {
     pub use crate::proved::driver::scrub;
     /// As the method of [`Mcp`](crate::Mcp) of this name.
     pub use crate::proved::driver::{
-        checked_read, configure, configure_bit_timing, configure_fifo, configure_filter, configure_io, configure_osc, disable_filter,
-        get_op_mode, has_next, modify_register, push, read_register, request, reset, set_op_mode, transmit, verify, verify_long,
-        write_register,
+        checked_read, configure, configure_bit_timing, configure_fifo, configure_filter, configure_io, configure_osc, configure_tx_queue,
+        disable_filter, get_op_mode, has_next, modify_register, push, queue_push, queue_push_unchecked, queue_request, read_register,
+        request, reset, set_op_mode, transmit, verify, verify_long, write_register,
     };
 
     /// How an exchange or a wait went: `Failed` says that nothing was carried out.
@@ -208,6 +213,8 @@ pub mod calls {
     pub use crate::proved::driver::Numbers;
     /// How a call ended; `Running` where it has not. `Checked`: the word of a checked read, and how many exchanges mismatched before it.
     pub use crate::proved::driver::Outcome;
+    /// The transmit queue off, or on and set up so.
+    pub use crate::proved::driver::TxQueueSetting;
 }
 
 #[cfg(feature = "chip")]

@@ -1,9 +1,9 @@
 //! The Rust user's side: one loop over the user's SPI, and a method for each call.
 use crate::calls;
-use crate::calls::{answer_lent, body_of, finish_lent, next_lent, numbers_of, Answer, Call, Next, Outcome};
+use crate::calls::{answer_lent, body_of, finish_lent, next_lent, numbers_of, Answer, Call, Next, Outcome, TxQueueSetting};
 use crate::{
     BitTimeConfiguration, FifoConfiguration, FilterConfiguration, Header, IoConfiguration, OscillatorConfiguration, Refusal, Report,
-    Scrubber, Settings, Stamp, Watch,
+    Scrubber, Settings, Stamp, TxQueueConfiguration, Watch,
 };
 
 /// An exchange was not carried out. What went wrong is the line's to remember.
@@ -103,8 +103,9 @@ fn served<L: Line>(line: &mut L, next: Next, tx: &[u8], rx: &mut [u8]) -> Option
 /// A refused call has asked for no exchange after the one that it was refused at, and has changed no byte of what was lent to it. What
 /// is wrong with a call's own numbers is found before its first exchange (20, 21, 22, 24, 28, 32, 33, and 3, 4, 5 of RAM calls): any
 /// number may be given, of a FIFO, a filter or a register too. A failed exchange is 1, of a RAM write or the reset 2, and 11 instead in
-/// `configure`, `configure_osc`, `configure_io`, `configure_bit_timing`, `set_op_mode` and the two echo tests; `scrub` reports it, and is
-/// not refused. 26 and 27 are no method's: the loop gives every answer as it was asked for, and 27 is the modelled chip's.
+/// `configure`, `configure_osc`, `configure_io`, `configure_bit_timing`, `configure_tx_queue`, `set_op_mode` and the two echo tests;
+/// `scrub` reports it, and is not refused. 26 and 27 are no method's: the loop gives every answer as it was asked for, and 27 is the
+/// modelled chip's.
 ///
 /// Between two exchanges of a call nobody else may use the chip; nothing is kept here from one call to the next.
 #[derive(Debug)]
@@ -225,7 +226,8 @@ impl<L: Line> Mcp<L> {
     }
 
     /// Takes the chip to Configuration, tries the RAM (`verify`) and sets up all but FIFOs and filters; transmit queue and event FIFO are
-    /// turned off. Refused: 24; 11, also where five polls did not show the mode; 13; 14 where three polls did not show the PLL ready.
+    /// turned off: [`Mcp::configure_tx_queue`] comes behind it. Refused: 24; 11, also where five polls did not show the mode; 13; 14 where
+    /// three polls did not show the PLL ready.
     pub fn configure(&mut self, settings: Settings) -> Result<(), Refusal> {
         self.done(calls::configure(settings))
     }
@@ -248,6 +250,29 @@ impl<L: Line> Mcp<L> {
     /// Sets a FIFO up, 1 to 31. Size, payload size, direction and RXTSEN take effect only in Configuration. Refused: 20; 24; 1.
     pub fn configure_fifo(&mut self, fifo: u32, c: FifoConfiguration) -> Result<(), Refusal> {
         self.done(calls::configure_fifo(fifo, c))
+    }
+
+    /// Turns the transmit queue on and sets it up, or, with `None`, turns it off. On, it lies in RAM before FIFO 1. Whether it is on, its
+    /// size and its payload size change only in Configuration: outside, the call is done all the same. Refused: 24; 11.
+    ///
+    /// CiCON is written back as it was read, but for TXQEN: where a mode was asked for and not granted (12), it is asked for again, and
+    /// may be granted before size and payload size are written. `set_op_mode(4)` before it makes sure.
+    ///
+    /// ```
+    /// # use masevuru::*;
+    /// # fn safe<L: Line>(mcp: &mut Mcp<L>, settings: Settings, routine: Header, safing: Header) -> Result<(), Refusal> {
+    /// mcp.configure(settings)?; // turns the queue off
+    /// let (txpri, txat, txatie, empty, notfull) = (0, 3, false, false, false);
+    /// mcp.configure_tx_queue(Some(TxQueueConfiguration { size: 8, plsize: 0, txpri, txat, txatie, empty, notfull }))?;
+    /// mcp.set_op_mode(6)?;
+    /// mcp.queue_push(routine, 1, &[0xB1])?;
+    /// mcp.queue_push(safing, 2, &[0x5A, 0xFE])?; // with the smaller identifier it goes out first
+    /// mcp.queue_request()?;
+    /// # Ok(())
+    /// # }
+    /// ```
+    pub fn configure_tx_queue(&mut self, c: Option<TxQueueConfiguration>) -> Result<(), Refusal> {
+        self.done(calls::configure_tx_queue(c.map_or(TxQueueSetting::Off, TxQueueSetting::On)))
     }
 
     /// Sets a filter up, 0 to 31, and turns it on. Refused: 20, also for the FIFO that it gives to; 21; 1.
@@ -276,6 +301,28 @@ impl<L: Line> Mcp<L> {
     pub fn transmit(&mut self, fifo: u32, header: Header, seq: u32, payload: &[u8]) -> Result<(), TransmitRefusal> {
         self.push(fifo, header, seq, payload).map_err(|refusal| TransmitRefusal { refusal, accepted: false })?;
         self.request(fifo).map_err(|refusal| TransmitRefusal { refusal, accepted: true })
+    }
+
+    /// Puts a message into the transmit queue, from which the message goes out first whose identifier wins arbitration, whatever was
+    /// pushed before it. Refused: 21, 24 (SEQ has 23 bits), 22; then 34, 7, 8, 25, 3, and 1 or 2 for a failed exchange. Done says that the
+    /// message is in the chip; where it is refused the queue holds what it held.
+    pub fn queue_push(&mut self, header: Header, seq: u32, payload: &[u8]) -> Result<(), Refusal> {
+        self.done(calls::queue_push(header, seq, payload))
+    }
+
+    /// Writes a message to where the transmit queue's next one goes, in two exchanges less than [`Mcp::queue_push`], since it does not
+    /// test whether the queue is on, has room, and takes the payload. Where it has no room, the message that was pushed last is
+    /// overwritten; where it is off, or the payload is longer than the queue's, what other slots hold, a FIFO's too. That may have happened
+    /// also where the call is refused, and where it is done the queue need not hold the message. Refused: 21, 24, 22; then 25, 3, and 1
+    /// or 2.
+    pub fn queue_push_unchecked(&mut self, header: Header, seq: u32, payload: &[u8]) -> Result<(), Refusal> {
+        self.done(calls::queue_push_unchecked(header, seq, payload))
+    }
+
+    /// Asks for what the transmit queue holds to be sent, and what is pushed to it before it is empty. Nothing is tested: it is done also
+    /// where the queue is off. Refused: 1.
+    pub fn queue_request(&mut self) -> Result<(), Refusal> {
+        self.done(calls::queue_request())
     }
 
     /// Whether a receive FIFO holds a message. Refused: 20; 9; 1.

@@ -66,6 +66,7 @@ void entry(void)
 {
     static const mcp_settings settings;
     static const mcp_fifo fifo;
+    static const mcp_tx_queue queue;
     static const mcp_filter filter;
     static const mcp_header header;
     static uint8_t buf[64];
@@ -82,8 +83,10 @@ void entry(void)
     answers += mcp_verify(&line) + mcp_verify_long(&line) + mcp_set_op_mode(&line, 4) + mcp_get_op_mode(&line, &word);
     answers += mcp_configure(&line, &settings) + mcp_configure_osc(&line, &settings.oscillator) + mcp_configure_io(&line, &settings.io);
     answers += mcp_configure_bit_timing(&line, &settings.bittime) + mcp_configure_fifo(&line, 1, &fifo);
+    answers += mcp_configure_tx_queue(&line, &queue) + mcp_disable_tx_queue(&line);
     answers += mcp_configure_filter(&line, 0, &filter) + mcp_disable_filter(&line, 0);
     answers += mcp_push(&line, 1, &header, 0, buf, 8) + mcp_request(&line, 1) + mcp_transmit(&line, 1, &header, 0, buf, 8, &next);
+    answers += mcp_queue_push(&line, &header, 0, buf, 8) + mcp_queue_push_unchecked(&line, &header, 0, buf, 8) + mcp_queue_request(&line);
     answers += mcp_has_next(&line, 2, &next) + mcp_peek(&line, 2, buf, 64, &message) + mcp_get(&line, 2, buf, 64, &message);
     answers += mcp_scrub(&line, &scrubber, &watch, 1, 1, &report);
     for (;;)

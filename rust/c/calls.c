@@ -1,7 +1,7 @@
 /* calls: what the header promises, call by call, on the modelled chip: exchanges that fail one after the other, NULLs, numbers too wide,
- * what refusals carry, every DLC, lists that are scrubbed, mismatches that are counted, and that each field of each structure is where the
- * library looks for it. What is expected was written down from documents 01 and 02 and the data sheet's bits. Says how many things were
- * looked at, or which line found another. */
+ * what refusals carry, every DLC, lists that are scrubbed, mismatches that are counted, messages that overtake others in the transmit
+ * queue, and that each field of each structure is where the library looks for it. What is expected was written down from documents 01 and
+ * 02 and the data sheet's bits. Says how many things were looked at, or which line found another. */
 #include "masevuru.h"
 #include <stdio.h>
 #include <stdlib.h>
@@ -48,6 +48,7 @@ static const mcp_settings all = { .oscillator = { .pll = 1 }, .dncnt = 1, .count
 static const mcp_header header = { .id = 0x123 };
 static const mcp_filter filter = { .fifo = 2, .mode = MCP_STANDARD, .object = { 0x100, 0 }, .mask = { 0x700, 0 } };
 static const mcp_fifo sender = { .size = 4, .transmit = 1 };
+static const mcp_tx_queue queue = { .size = 4 };
 static const uint8_t bytes[72] = { 1, 2, 3, 4, 5, 6, 7, 8 };
 
 static void fresh(void)
@@ -59,13 +60,15 @@ static void fresh(void)
 
 static int untouched(void) { return !memcmp(&out, &before, sizeof out); }
 
-/* A chip outside Configuration: FIFO 1 sends; FIFO 2, with timestamps, and FIFO 3 receive, and hold a message each. */
-static void prepare(void)
+/* A chip outside Configuration: FIFO 1 sends; FIFO 2, with timestamps, and FIFO 3 receive, and hold a message each; or besides with a
+ * transmit queue of 4 slots of 16 bytes. */
+static void prepare_with(int is_queued)
 {
     const mcp_fifo stamped = { .size = 2, .plsize = 7, .rxtsen = 1 }, receiver = { .size = 2 };
     uint32_t turned_down;
     IS(mcp_chip_new(&chip) == 0);
     IS(mcp_configure(&line, &plain) == 0);
+    IS((is_queued ? mcp_configure_tx_queue(&line, &queue) : mcp_disable_tx_queue(&line)) == 0);
     IS(mcp_configure_fifo(&line, 1, &sender) == 0);
     IS(mcp_configure_fifo(&line, 2, &stamped) == 0);
     IS(mcp_configure_fifo(&line, 3, &receiver) == 0);
@@ -75,10 +78,15 @@ static void prepare(void)
     fresh();
 }
 
+static void prepare(void) { prepare_with(0); }
+
+/* In the place of a FIFO, below. */
+enum { QUEUE = 32 };
+
 static uint32_t held(uint32_t fifo)
 {
     uint32_t count;
-    IS(mcp_chip_held(&chip, fifo, &count) == 0);
+    IS((fifo == QUEUE ? mcp_chip_held_queue(&chip, &count) : mcp_chip_held(&chip, fifo, &count)) == 0);
     return count;
 }
 
@@ -133,13 +141,19 @@ CALL(a_get_2, mcp_get(l, 2, out.buf, 72, &out.message))
 CALL(a_get_3, mcp_get(l, 3, out.buf, 72, &out.message))
 CALL(a_scrub, scrubbed(l, 0))
 CALL(a_rewrite, scrubbed(l, 1))
+CALL(a_queue, mcp_configure_tx_queue(l, &queue))
+CALL(a_queue_off, mcp_disable_tx_queue(l))
+CALL(a_queue_push, mcp_queue_push(l, &header, 5, bytes, 8))
+CALL(a_queue_bare, mcp_queue_push_unchecked(l, &header, 5, bytes, 8))
+CALL(a_queue_request, mcp_queue_request(l))
 
 /* Document 01: 1 where a read or a register write failed; 2 where a RAM write or the reset failed; 11 in place of both in any
  * configuration, mode or echo call but configure_fifo and configure_filter (get_op_mode is a register read). The exchanges are those of
  * "Exchange by exchange"; a change is two, a read and a write. The chip takes a mode at once and shows PLLRDY with PLLEN: one poll.
  * configure: mode 2, poll 1, echo 64, OSC 2, PLL's poll 1 if on, IOCON 2, bit timing 6, STEF 2, TXQEN 2, TSCON 2 if the counter is on,
- * DNCNT 2 if not 0, RTXAT 2, CiINT 2. A scrub reports what failed. FIFO `fifo` holds `then` messages where an exchange up to `last` failed,
- * `after` where a later one or none did. */
+ * DNCNT 2 if not 0, RTXAT 2, CiINT 2. A scrub reports what failed. Document 02, of the queue: a change of CiCON, and of control where it
+ * is turned on; a push is CiCON, control, status, user address, RAM write, control; unchecked user address, RAM write, and a change of
+ * control. FIFO `fifo` holds `then` messages where an exchange up to `last` failed, `after` where a later one or none did. */
 static const struct {
     int (*call)(const mcp_line *);
     struct { unsigned times; int answer; } parts[3];
@@ -175,6 +189,11 @@ static const struct {
     { a_get_3, { { 8, 1 } }, 3, 8, 1, 0 },
     { a_scrub, { { 1, 1 } }, 0, 0, 0, 0 },
     { a_rewrite, { { 3, 1 } }, 0, 0, 0, 0 },
+    { a_queue, { { 4, 11 } }, QUEUE, 0, 0, 0 },
+    { a_queue_off, { { 2, 11 } }, QUEUE, 0, 0, 0 },
+    { a_queue_push, { { 4, 1 }, { 1, 2 }, { 1, 1 } }, QUEUE, 6, 0, 1 },
+    { a_queue_bare, { { 1, 1 }, { 1, 2 }, { 2, 1 } }, QUEUE, 4, 0, 1 },
+    { a_queue_request, { { 2, 1 } }, QUEUE, 0, 0, 0 },
 };
 
 static void failing(void)
@@ -183,7 +202,7 @@ static void failing(void)
         unsigned k = 0;
         for (size_t p = 0; p < 3; p++)
             for (unsigned t = 0; t < rows[i].parts[p].times; t++) {
-                prepare();
+                prepare_with(rows[i].fifo == QUEUE);
                 fail_at = ++k;
                 IS(rows[i].call(&line) == rows[i].parts[p].answer);
                 IS(exchanges == k);
@@ -191,7 +210,7 @@ static void failing(void)
                 if (rows[i].fifo)
                     IS(held(rows[i].fifo) == (k <= rows[i].last ? rows[i].then : rows[i].after));
             }
-        prepare();
+        prepare_with(rows[i].fifo == QUEUE);
         IS(rows[i].call(&line) == 0);
         IS(exchanges == k);
         if (rows[i].fifo)
@@ -220,16 +239,18 @@ static void transmitted(void)
     IS(mcp_transmit(&line, 2, &header, 5, bytes, 8, &out.accepted) == 6 && out.accepted == 0);
 }
 
-/* The chip as its registers of FIFO 1 to 3 and its RAM show it. */
-typedef struct { uint8_t registers[36], ram[2048]; } view;
+/* The chip as its registers of the queue and of FIFO 1 to 3, CiCON and its RAM show it. */
+typedef struct { uint8_t registers[48], con[4], ram[2048]; } view;
 
 static view looked_at(void)
 {
-    uint8_t read[2] = { 0x30, 0x5C };
+    uint8_t read[2] = { 0x30, 0x50 };
     view v;
     for (size_t i = 0; i < sizeof v.registers; i += 4, read[1] += 4)
         IS(mcp_chip_transfer(&chip, read, 2, v.registers + i, 4) == 0);
-    read[0] = 0x34, read[1] = 0x00;
+    read[1] = 0x00;
+    IS(mcp_chip_transfer(&chip, read, 2, v.con, 4) == 0);
+    read[0] = 0x34;
     IS(mcp_chip_transfer(&chip, read, 2, v.ram, 2048) == 0);
     return v;
 }
@@ -249,7 +270,7 @@ static void nulls(void)
     const mcp_line *bad[] = { NULL, &no_transfer, &no_wait };
     view kept;
     const size_t too_long = (size_t)-1;
-    prepare();
+    prepare_with(1);
     for (size_t i = 0; i < sizeof rows / sizeof *rows; i++)
         for (size_t k = 0; k < 3; k++)
             NOTHING_DONE(rows[i].call(bad[k]));
@@ -276,6 +297,14 @@ static void nulls(void)
     NOTHING_DONE(mcp_transmit(&line, 1, NULL, 5, bytes, 8, &out.accepted));
     NOTHING_DONE(mcp_transmit(&line, 1, &header, 5, NULL, 8, &out.accepted));
     NOTHING_DONE(mcp_transmit(&line, 1, &header, 5, bytes, too_long, &out.accepted));
+    NOTHING_DONE(mcp_configure_tx_queue(&line, NULL)); /* it is not turned off */
+    NOTHING_DONE(mcp_queue_push(&line, NULL, 5, bytes, 8));
+    NOTHING_DONE(mcp_queue_push(&line, &header, 5, NULL, 8));
+    NOTHING_DONE(mcp_queue_push(&line, &header, 5, bytes, too_long));
+    NOTHING_DONE(mcp_queue_push(&line, &header, 0x800000, NULL, 8)); /* before 24 */
+    NOTHING_DONE(mcp_queue_push_unchecked(&line, NULL, 5, bytes, 8));
+    NOTHING_DONE(mcp_queue_push_unchecked(&line, &header, 5, NULL, 8));
+    NOTHING_DONE(mcp_queue_push_unchecked(&line, &header, 5, bytes, too_long));
     NOTHING_DONE(mcp_has_next(&line, 2, NULL));
     NOTHING_DONE(mcp_peek(&line, 2, NULL, 64, &out.message));
     NOTHING_DONE(mcp_peek(&line, 2, out.buf, too_long, &out.message));
@@ -312,6 +341,12 @@ static void nulls(void)
     NOTHING_DONE(mcp_chip_held(&chip, 1, NULL));
     NOTHING_DONE(mcp_chip_held_at(NULL, 2, 0, &out.frame));
     NOTHING_DONE(mcp_chip_held_at(&chip, 2, 0, NULL));
+    NOTHING_DONE(mcp_chip_send_queue(NULL, &out.frame));
+    NOTHING_DONE(mcp_chip_send_queue(&chip, NULL));
+    NOTHING_DONE(mcp_chip_held_queue(NULL, &out.word));
+    NOTHING_DONE(mcp_chip_held_queue(&chip, NULL));
+    NOTHING_DONE(mcp_chip_held_queue_at(NULL, 0, &out.frame));
+    NOTHING_DONE(mcp_chip_held_queue_at(&chip, 0, NULL));
     NOTHING_DONE(mcp_chip_no_layout(NULL, &out.word));
     NOTHING_DONE(mcp_chip_no_layout(&chip, NULL));
     /* NULL with a length of 0 is an empty buffer: a RAM access of length 0 is an exchange; 64 bytes are asked of a payload's buffer. */
@@ -321,6 +356,8 @@ static void nulls(void)
     IS(mcp_push(&line, 1, &header, 5, NULL, 0) == 0 && held(1) == 1 && exchanges == 7);
     IS(mcp_peek(&line, 2, NULL, 0, &out.message) == 28 && mcp_get(&line, 2, NULL, 0, &out.message) == 28 && exchanges == 7);
     IS(mcp_scrub(&line, &out.scrubber, NULL, 0, 1, &out.report) == 32 && exchanges == 7);
+    IS(mcp_queue_push(&line, &header, 5, NULL, 0) == 0 && held(QUEUE) == 1 && exchanges == 13);
+    IS(mcp_queue_push_unchecked(&line, &header, 5, NULL, 0) == 0 && held(QUEUE) == 2 && exchanges == 17);
     IS(mcp_chip_transfer(&chip, NULL, 0, NULL, 0) == 1);
     IS(untouched());
     IS(mcp_chip_deliver(&chip, 3, &header, 0, 0, NULL, 0, &out.word) == 0 && out.word == MCP_DELIVERED && held(3) == 2);
@@ -421,6 +458,34 @@ static void fifo_fields(void)
         IS(mcp_chip_new(&chip) == 0 && mcp_configure_fifo(&line, 31, &fields[i].settings) == 0);
         IS(reg(0x1C4) == fields[i].control);
     }
+}
+
+static void queue_fields(void)
+{
+    static const struct { mcp_tx_queue settings; uint32_t control; } fields[] = {
+        /* After a reset TXAT is 3 and FRESET 1; TXEN is always 1. */
+        { { .size = 1 }, 0x00000480 },
+        { { .size = 32 }, 0x1F000480 },
+        { { .size = 33 }, 0x1F000480 },
+        { { .size = 1, .plsize = 7 }, 0xE0000480 },
+        { { .size = 1, .txpri = 31 }, 0x001F0480 },
+        { { .size = 1, .txat = 3 }, 0x00600480 },
+        { { .size = 1, .txatie = 2 }, 0x00000490 },
+        { { .size = 1, .empty = 128 }, 0x00000484 },
+        { { .size = 1, .notfull = 255 }, 0x00000481 },
+    };
+    static const mcp_tx_queue wide[] = {
+        { .size = 0 }, { .size = 1, .plsize = 8 }, { .size = 1, .txpri = 32 }, { .size = 1, .txat = 4 }, { .size = 1, .plsize = 0x100 },
+        { .size = 1, .txpri = 0xFFFFFFFF }, { .size = 1, .txat = 0x10000 }, { .size = 0, .txatie = 1, .empty = 1, .notfull = 1 },
+    };
+    for (size_t i = 0; i < sizeof fields / sizeof *fields; i++) {
+        IS(mcp_chip_new(&chip) == 0 && mcp_disable_tx_queue(&line) == 0 && reg(0x000) == 0x04880760 && reg(0x050) == 0x00600480);
+        IS(mcp_configure_tx_queue(&line, &fields[i].settings) == 0);
+        IS(reg(0x000) == 0x04980760 && reg(0x050) == fields[i].control);
+    }
+    exchanges = 0;
+    for (size_t i = 0; i < sizeof wide / sizeof *wide; i++)
+        IS(mcp_configure_tx_queue(&line, &wide[i]) == 24 && exchanges == 0);
 }
 
 static void settings_fields(void)
@@ -724,6 +789,162 @@ static void classic_dlcs(void)
     }
 }
 
+/* A push to the queue of two bytes, the second of them SEQ. */
+static int queued(uint32_t id, uint8_t extended, uint32_t seq)
+{
+    const mcp_header h = { .id = id, .extended = extended };
+    const uint8_t payload[2] = { 0xB0, (uint8_t)seq };
+    return mcp_queue_push(&line, &h, seq, payload, 2);
+}
+
+static int is_queued(mcp_frame f, uint32_t id, uint8_t extended, uint32_t seq)
+{
+    return f.kind == MCP_FRAME && f.header.id == id && f.header.extended == extended && !f.header.rtr && !f.header.brs && !f.header.fdf &&
+           !f.header.esi && f.seq == seq && !f.stamped && !f.time && f.len == 2 && f.dlc == 2 && f.payload[0] == 0xB0 &&
+           f.payload[1] == seq;
+}
+
+/* Whether the queue's slots 0 to 3 hold the messages with these SEQs, 0 for none. */
+static int slots(uint32_t a, uint32_t b, uint32_t c, uint32_t d)
+{
+    const uint32_t seqs[4] = { a, b, c, d };
+    uint32_t count = 0;
+    for (uint32_t k = 0; k < 4; k++) {
+        IS(mcp_chip_held_queue_at(&chip, k, &out.frame) == 0);
+        if (out.frame.kind != (seqs[k] ? MCP_FRAME : MCP_NOTHING) || out.frame.seq != seqs[k])
+            return 0;
+        count += seqs[k] != 0;
+    }
+    return held(QUEUE) == count;
+}
+
+/* Whether the queue sends this; SEQ 0: nothing. */
+static int sends(uint32_t id, uint8_t extended, uint32_t seq)
+{
+    memset(&out.frame, 0x5A, sizeof out.frame);
+    IS(mcp_chip_send_queue(&chip, &out.frame) == 0);
+    return seq ? is_queued(out.frame, id, extended, seq) : out.frame.kind == MCP_NOTHING && !out.frame.seq && !out.frame.len;
+}
+
+/* Document 02: smaller 11-bit base first, at equal base standard before extended, then smaller low 18 bits, then the lowest slot; one free
+ * slot is shown until UINC claims it, then the lowest free one; of a full queue the first freed comes next. */
+static void overtaking(void)
+{
+    prepare_with(1);
+    IS(queued(0x320, 0, 1) == 0 && queued(0x310, 0, 2) == 0 && queued(0x320, 0, 3) == 0 && slots(1, 2, 3, 0) && sends(0, 0, 0));
+    IS(queued(0x010, 0, 4) == 0 && slots(1, 2, 3, 4));
+    const view full = looked_at();
+    exchanges = 0;
+    IS(queued(0x011, 0, 5) == MCP_FIFO_FULL && exchanges == 3 && is_same(full));
+    IS(mcp_queue_request(&line) == 0 && sends(0x010, 0, 4) && sends(0x310, 0, 2) && slots(1, 0, 3, 0));
+    IS(queued(0x18DA00F1, 1, 5) == 0 && slots(1, 0, 3, 5) && queued(0x320, 0, 6) == 0 && slots(1, 6, 3, 5));
+    IS(queued(0x011, 0, 7) == 8 && sends(0x320, 0, 1) && queued(0x011, 0, 7) == 0 && slots(7, 6, 3, 5));
+    IS(sends(0x011, 0, 7) && sends(0x320, 0, 6) && sends(0x320, 0, 3) && slots(0, 0, 0, 5));
+    /* 18DA00F1 has the base 636 and the low bits 200F1. */
+    IS(queued(0x18DA00F0, 1, 8) == 0 && queued(0x636, 0, 9) == 0 && queued(0x637, 0, 10) == 0 && slots(8, 9, 10, 5));
+    IS(sends(0x636, 0, 9) && sends(0x18DA00F0, 1, 8) && sends(0x18DA00F1, 1, 5) && sends(0x637, 0, 10) && sends(0, 0, 0));
+    IS(held(QUEUE) == 0 && queued(0x001, 0, 11) == 0 && sends(0, 0, 0)); /* empty: TXREQ was 0 again */
+    IS(mcp_queue_request(&line) == 0 && sends(0x001, 0, 11));
+    /* Slots that there are not, 256 is 0 in a byte. */
+    static const uint32_t none[] = { 4, 31, 32, 255, 256, 0x10000, 0xFFFFFFFF };
+    IS(queued(0x001, 0, 12) == 0 && slots(12, 0, 0, 0));
+    for (size_t i = 0; i < sizeof none / sizeof *none; i++)
+        IS(mcp_chip_held_queue_at(&chip, none[i], &out.frame) == 0 && out.frame.kind == MCP_NOTHING);
+    /* The FIFOs are what they were. */
+    IS(held(1) == 0 && held(2) == 1 && held(3) == 1 && finds(mcp_get, 5, 5) && !memcmp(out.buf, bytes, 5));
+}
+
+/* 21, 24, 22 before any exchange; then 34, 7, 8, 25, 3 in this order, each told by the word that it stands in: CiCON, control, status, user
+ * address. 6 is not: TXEN is not asked for. */
+static void queue_refusals(void)
+{
+    static int (*const pushes[])(const mcp_line *, const mcp_header *, uint32_t, const uint8_t *, size_t) = { mcp_queue_push,
+                                                                                                          mcp_queue_push_unchecked };
+    const mcp_header far = { .id = 0x800 }, fd = { .id = 0x123, .fdf = 1 };
+    prepare_with(1);
+    const view kept = looked_at();
+    for (size_t i = 0; i < 2; i++) {
+        IS(pushes[i](&line, &far, 0x800000, bytes, 9) == 21 && pushes[i](&line, &header, 0x800000, bytes, 9) == 24);
+        IS(pushes[i](&line, &header, 0x7FFFFF, bytes, 9) == 22 && pushes[i](&line, &header, 0, bytes, 12) == 22);
+        IS(pushes[i](&line, &fd, 0, bytes, 13) == 22 && pushes[i](&line, &fd, 0, bytes, 72) == 22);
+    }
+    IS(exchanges == 0 && untouched() && is_same(kept));
+    /* Exchange k is answered by a word: what is answered then, after how many exchanges. 12 bytes are too long for this queue. */
+    static const struct {
+        size_t len;
+        unsigned at;
+        uint32_t word;
+        int answer;
+        unsigned exchanges;
+    } cases[] = {
+        { 12, 1, 0xFFEFFFFF, 34, 1 }, { 12, 0, 0, 7, 2 },           { 8, 1, 0x00000000, 34, 1 }, { 8, 2, 0x00000000, 0, 6 },
+        { 8, 3, 0xFFFFFFFE, 8, 3 },   { 12, 2, 0x1FFFFFFF, 7, 2 },  { 8, 4, 0xFFFFFFFF, 25, 4 }, { 8, 4, 0x0000FC00, 25, 4 },
+        { 8, 4, 0x0000FBFF, 3, 4 },   { 8, 4, 0x000007F4, 3, 4 },   { 8, 4, 0x000007F0, 0, 6 },
+    };
+    for (size_t i = 0; i < sizeof cases / sizeof *cases; i++) {
+        prepare_with(1);
+        twist_at = cases[i].at, twist = cases[i].word;
+        int r = mcp_queue_push(&line, &fd, 5, bytes, cases[i].len);
+        IS(r == cases[i].answer && exchanges == cases[i].exchanges);
+        IS(out.value == (r == 3 ? twist + 0x400 : 0x5A5A5A5A));
+        if (cases[i].at == 4) { /* unchecked the user address is exchange 1 */
+            prepare_with(1);
+            twist_at = 1, twist = cases[i].word;
+            IS(mcp_queue_push_unchecked(&line, &fd, 5, bytes, cases[i].len) == r && exchanges == (r ? 1 : 4));
+            IS(out.value == (r == 3 ? twist + 0x400 : 0x5A5A5A5A));
+        }
+    }
+    /* Off: 34, nothing is held or sent, and a request is done. */
+    prepare();
+    IS(mcp_queue_push(&line, &header, 5, bytes, 8) == MCP_TX_QUEUE_DISABLED && exchanges == 1 && untouched());
+    IS(mcp_queue_request(&line) == 0 && held(QUEUE) == 0 && sends(0, 0, 0));
+}
+
+/* On and off only in Configuration, where the queue is emptied; behind mcp_configure it is off; its place is before FIFO 1. */
+static void queue_on_and_off(void)
+{
+    const mcp_tx_queue other = { .size = 2, .plsize = 3, .txpri = 9, .txat = 1, .txatie = 1, .empty = 1, .notfull = 1 };
+    const mcp_tx_queue most = { .size = 18, .plsize = 7 }, more = { .size = 19, .plsize = 7 };
+    prepare_with(1);
+    IS(reg(0x064) == 64 && reg(0x054) == 5 && reg(0x058) == 0 && queued(0x123, 0, 1) == 0 && reg(0x058) == 16 && reg(0x054) == 1);
+    IS(mcp_disable_tx_queue(&line) == 0 && (reg(0x000) & 0x00100000) && queued(0x123, 0, 2) == 0 && slots(1, 2, 0, 0));
+    IS(mcp_configure_tx_queue(&line, &other) == 0 && reg(0x050) == 0x03290095);
+    IS(mcp_set_op_mode(&line, 4) == 0 && held(QUEUE) == 0 && mcp_set_op_mode(&line, 0) == 0 && slots(0, 0, 0, 0));
+    prepare();
+    IS(reg(0x064) == 0 && reg(0x054) == 0 && reg(0x058) == 0);
+    IS(mcp_configure_tx_queue(&line, &queue) == 0 && !(reg(0x000) & 0x00100000) && queued(0x123, 0, 1) == 34);
+    prepare_with(1);
+    IS(mcp_configure(&line, &plain) == 0 && !(reg(0x000) & 0x00100000));
+    /* FIFOs 1 to 3 have 64, 152 and 32 bytes, 4 to 31 have 16 each: 1,352 are left, 18 slots of 72. */
+    IS(mcp_configure_tx_queue(&line, &more) == 0 && mcp_set_op_mode(&line, 0) == 12);
+    IS(mcp_chip_no_layout(&chip, &out.word) == 0 && out.word == 1);
+    IS(mcp_set_op_mode(&line, 4) == 0 && mcp_configure_tx_queue(&line, &most) == 0 && mcp_set_op_mode(&line, 0) == 0);
+    IS(reg(0x064) == 18 * 72);
+}
+
+/* What an unchecked push overwrites: of a full queue the message that was pushed last, also where the call is refused; with the queue off
+ * the message of FIFO 1 at 0x400. */
+static void unchecked(void)
+{
+    prepare_with(1);
+    for (uint32_t seq = 1; seq <= 4; seq++)
+        IS(mcp_queue_push_unchecked(&line, &header, seq, bytes, 8) == 0 && held(QUEUE) == seq);
+    IS(slots(1, 2, 3, 4) && mcp_queue_push_unchecked(&line, &header, 5, bytes, 8) == 0 && slots(1, 2, 3, 5));
+    for (unsigned k = 1; k <= 4; k++) {
+        exchanges = 0, fail_at = k;
+        IS(mcp_queue_push_unchecked(&line, &header, 5 + k, bytes, 8) == (k == 2 ? 2 : 1) && slots(1, 2, 3, k < 3 ? 5 : 5 + k));
+    }
+    prepare();
+    IS(mcp_push(&line, 1, &header, 1, bytes, 8) == 0 && mcp_queue_push_unchecked(&line, &header, 2, bytes, 8) == 0 && held(QUEUE) == 0);
+    IS(mcp_chip_held_at(&chip, 1, 0, &out.frame) == 0 && out.frame.kind == MCP_FRAME && out.frame.seq == 2 && held(1) == 1);
+    /* A slot that is no frame takes part by its identifier bits. */
+    static const uint8_t dlc_9[4] = { 9, 0, 0, 0 };
+    prepare_with(1);
+    IS(queued(0x200, 0, 1) == 0 && queued(0x100, 0, 2) == 0 && mcp_write_ram(&line, 0x414, dlc_9, 4) == 0);
+    IS(mcp_chip_held_queue_at(&chip, 1, &out.frame) == 0 && out.frame.kind == MCP_NO_FRAME && mcp_queue_request(&line) == 0);
+    IS(mcp_chip_send_queue(&chip, &out.frame) == 0 && out.frame.kind == MCP_NO_FRAME && sends(0x200, 0, 1) && sends(0, 0, 0));
+}
+
 /* Filter 0 as `filter` sets it up: control of filters 0 to 3, of which its byte is cared for; its object; its mask. */
 static const mcp_watch watched[3] = {
     { 0x1D0, 0x00000082, 0x000000FF }, { 0x1F0, 0x00000100, 0xFFFFFFFF }, { 0x1F4, 0x40000700, 0xFFFFFFFF },
@@ -944,6 +1165,7 @@ int main(void)
     nulls();
     numbers();
     fifo_fields();
+    queue_fields();
     settings_fields();
     filter_fields();
     header_fields();
@@ -951,6 +1173,10 @@ int main(void)
     sorting();
     every_dlc();
     classic_dlcs();
+    overtaking();
+    queue_refusals();
+    queue_on_and_off();
+    unchecked();
     scrubbed_in_turn();
     every_flipped_bit();
     scrubbed_amiss();

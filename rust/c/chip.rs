@@ -7,7 +7,7 @@ use masevuru::{number, Line, Refusal, Stamp};
 
 #[repr(C)]
 pub struct CChip {
-    words: [u32; 700],
+    words: [u32; 704],
 }
 
 const _: () = assert!(size_of::<Chip>() <= size_of::<CChip>() && align_of::<Chip>() <= align_of::<CChip>());
@@ -33,7 +33,7 @@ pub struct CSorted {
 }
 
 layout! {
-    CChip 2800, words 0;
+    CChip 2816, words 0;
     CFrame 88, header 0, seq 12, time 16, kind 20, stamped 21, len 22, dlc 23, payload 24;
     CSorted 12, turned_down 0, fifo 4, filter 8;
 }
@@ -124,17 +124,30 @@ pub unsafe extern "C" fn mcp_chip_transfer(p: *mut c_void, tx: *const u8, tx_len
 #[no_mangle]
 pub unsafe extern "C" fn mcp_chip_wait(_: *mut c_void, _: u32) {}
 
+/// A frame, MCP_NO_FRAME or MCP_NOTHING, or a refusal.
+fn sent((sending, frame): (Sending, Frame)) -> Result<CFrame, Refusal> {
+    match sending {
+        Sending::Frame => Ok(CFrame::of(frame)),
+        Sending::NoFrame => Ok(CFrame::none(NO_FRAME)),
+        Sending::Nothing => Ok(CFrame::none(NOTHING)),
+        Sending::Refused(r) => Err(r),
+    }
+}
+
 #[no_mangle]
 pub unsafe extern "C" fn mcp_chip_send(p: *mut CChip, fifo: u32, frame: *mut CFrame) -> c_int {
     (|| {
         there(frame)?;
-        let sent = match chip(p)?.send(fifo) {
-            (Sending::Frame, f) => Ok(CFrame::of(f)),
-            (Sending::NoFrame, _) => Ok(CFrame::none(NO_FRAME)),
-            (Sending::Nothing, _) => Ok(CFrame::none(NOTHING)),
-            (Sending::Refused(r), _) => Err(r),
-        };
-        Some(told(sent, frame))
+        Some(told(sent(chip(p)?.send(fifo)), frame))
+    })()
+    .unwrap_or(NULL)
+}
+
+#[no_mangle]
+pub unsafe extern "C" fn mcp_chip_send_queue(p: *mut CChip, frame: *mut CFrame) -> c_int {
+    (|| {
+        there(frame)?;
+        Some(told(sent(chip(p)?.send_queue()), frame))
     })()
     .unwrap_or(NULL)
 }
@@ -205,6 +218,26 @@ pub unsafe extern "C" fn mcp_chip_held_at(p: *const CChip, fifo: u32, k: u32, fr
         there(frame)?;
         let k = u8::try_from(k).unwrap_or(u8::MAX);
         Some(told(looked_at(p)?.held_at(fifo, k).map(CFrame::held), frame))
+    })()
+    .unwrap_or(NULL)
+}
+
+#[no_mangle]
+pub unsafe extern "C" fn mcp_chip_held_queue(p: *const CChip, count: *mut u32) -> c_int {
+    (|| {
+        there(count)?;
+        Some(told(Ok(looked_at(p)?.held_queue().into()), count))
+    })()
+    .unwrap_or(NULL)
+}
+
+/// A slot wider than Rust's is one that there is not.
+#[no_mangle]
+pub unsafe extern "C" fn mcp_chip_held_queue_at(p: *const CChip, slot: u32, frame: *mut CFrame) -> c_int {
+    (|| {
+        there(frame)?;
+        let slot = u8::try_from(slot).unwrap_or(u8::MAX);
+        Some(told(Ok(CFrame::held(looked_at(p)?.held_queue_at(slot))), frame))
     })()
     .unwrap_or(NULL)
 }

@@ -3,7 +3,7 @@
  * a failed exchange, change a byte where it is refused, write outside what it was lent, tell a message whose length is not what its DLC
  * means, leave a scrubber where it does not belong, count other mismatches than the answers had, or answer what documents 01 and 02 do not
  * have for it. Prints how often each number was answered, or reported, how many classic messages with a DLC above 8 were found, how many
- * entries were seen, and how many checked reads were done behind 0, 1 and 2 mismatches. */
+ * entries were seen, how many checked reads were done behind 0, 1 and 2 mismatches, and what the transmit queue sent. */
 #include "masevuru.h"
 #include <stdio.h>
 #include <stdlib.h>
@@ -95,8 +95,9 @@ static void wait(void *context, uint32_t microseconds) { IS(context == &chip && 
 
 /* The calls, and how many exchanges each asks for at most, whatever is answered. */
 enum { RESET, READ, WRITE, MODIFY, CHECKED, READ_RAM, WRITE_RAM, VERIFY, VERIFY_LONG, SET_MODE, GET_MODE, CONFIGURE, OSC, IO, TIMING, FIFO,
-       FILTER, DISABLE, PUSH, REQUEST, TRANSMIT, HAS_NEXT, PEEK, GET, SCRUB, SEND, DELIVER, SORT, HELD, HELD_AT, KINDS };
-static const unsigned bound[KINDS] = { 1, 1, 1, 2, 3, 1, 1, 64, 2, 7, 1, 96, 5, 2, 6, 2, 8, 2, 5, 2, 7, 2, 7, 9, 7, 0, 0, 0, 0, 0 };
+       FILTER, DISABLE, PUSH, REQUEST, TRANSMIT, HAS_NEXT, PEEK, GET, SCRUB, QUEUE, QUEUE_OFF, QUEUE_PUSH, QUEUE_BARE, QUEUE_REQUEST, SEND,
+       DELIVER, SORT, HELD, HELD_AT, SEND_QUEUE, HELD_QUEUE, HELD_QUEUE_AT, KINDS };
+static const unsigned bound[KINDS] = { 1, 1, 1, 2, 3, 1, 1, 64, 2, 7, 1, 96, 5, 2, 6, 2, 8, 2, 5, 2, 7, 2, 7, 9, 7, 4, 2, 6, 4, 2 };
 
 /* Whether the documents have a number for a call, or for its report: what a failed exchange is; what is tested before the first; what comes
  * later. */
@@ -112,8 +113,10 @@ static int is_answer(int call, int r)
         [PUSH] = { { 1, 2 }, { 20, 21, 24, 22, 6, 7, 8, 25, 3 } }, [REQUEST] = { { 1 }, { 20 } },
         [TRANSMIT] = { { 1, 2 }, { 20, 21, 24, 22, 6, 7, 8, 25, 3 } }, [HAS_NEXT] = { { 1 }, { 20, 9 } },
         [PEEK] = { { 1 }, { 20, 28, 9, 25, 3 } }, [GET] = { { 1 }, { 20, 28, 9, 25, 3 } }, [SCRUB] = { { 1 }, { 32, 33, 10 } },
+        [QUEUE] = { { 11 }, { 24 } }, [QUEUE_OFF] = { { 11 }, { 0 } }, [QUEUE_PUSH] = { { 1, 2 }, { 21, 24, 22, 34, 7, 8, 25, 3 } },
+        [QUEUE_BARE] = { { 1, 2 }, { 21, 24, 22, 25, 3 } }, [QUEUE_REQUEST] = { { 1 }, { 0 } },
         [SEND] = { { 0 }, { 20 } }, [DELIVER] = { { 0 }, { 20, 21, 22 } }, [SORT] = { { 0 }, { 21, 22, 31, 30 } },
-        [HELD] = { { 0 }, { 20 } }, [HELD_AT] = { { 0 }, { 20 } },
+        [HELD] = { { 0 }, { 20 } }, [HELD_AT] = { { 0 }, { 20 } }, /* of the queue: nothing is refused */
     };
     if (failed)
         return r > 0 && (r == has[call].failed[0] || r == has[call].failed[1]);
@@ -138,13 +141,16 @@ static uint8_t meant(uint8_t dlc, uint8_t fdf)
     return fdf || dlc < 8 ? lengths[dlc] : 8;
 }
 
-/* A chip outside Configuration with four FIFOs, two of which send, so that calls have something to do. */
+/* A chip outside Configuration with four FIFOs, two of which send, and often the transmit queue, so that calls have something to do. */
 static void settle(void)
 {
     const mcp_line line = { .transfer = transfer, .wait = wait, .context = &chip };
     const mcp_settings settings = { .dncnt = 0 };
     asked = 0, failed = 0, rough = 0;
+    const mcp_tx_queue queue = { .size = 1 + next() % 4, .plsize = next() % 8 };
     IS(mcp_chip_new(&chip) == 0 && mcp_configure(&line, &settings) == 0);
+    if (next() % 4)
+        IS(mcp_configure_tx_queue(&line, &queue) == 0);
     for (uint32_t n = 1; n <= 4; n++) {
         const mcp_fifo fifo = { .size = 1 + next() % 4, .plsize = next() % 8, .transmit = n % 2, .rxtsen = next() % 2 };
         const mcp_filter filter = { .fifo = n, .mode = next() % 3, .object = { next() % 0x800, 0 }, .mask = { next() % 4, 0 } };
@@ -199,8 +205,8 @@ static int is_visit(const mcp_watch *list, size_t n, size_t place, int rewrite, 
 
 int main(int argc, char **argv)
 {
-    unsigned long calls = argc > 1 ? strtoul(argv[1], NULL, 0) : 100000, counts[35] = { 0 }, coded = 0, seen[3] = { 0 };
-    unsigned long checked[3] = { 0 };
+    unsigned long calls = argc > 1 ? strtoul(argv[1], NULL, 0) : 100000, counts[36] = { 0 }, coded = 0, seen[3] = { 0 };
+    unsigned long checked[3] = { 0 }, queued[3] = { 0 };
     size_t place = 0;
     static uint8_t from[4096];
     if (argc > 2)
@@ -213,6 +219,7 @@ int main(int argc, char **argv)
         mcp_header header;
         mcp_settings settings;
         mcp_fifo fifo;
+        mcp_tx_queue queue;
         mcp_filter filter;
         mcp_watch list[4];
         uint32_t a = number(), b = number(), c = number(), dlc = number();
@@ -240,6 +247,7 @@ int main(int argc, char **argv)
         fill(&header, sizeof header);
         fill(&settings, sizeof settings);
         fill(&fifo, sizeof fifo);
+        fill(&queue, sizeof queue);
         fill(&filter, sizeof filter);
         for (size_t i = 0; i < 4; i++)
             list[i] = (mcp_watch){ number(), number(), number() };
@@ -253,6 +261,10 @@ int main(int argc, char **argv)
             fifo.plsize = b % 9;
             fifo.txpri %= 33;
             fifo.txat %= 4;
+            queue.size = a % 40;
+            queue.plsize = b % 9;
+            queue.txpri %= 33;
+            queue.txat %= 4;
             filter.fifo = number() % 33;
             filter.mode %= 4;
             filter.object.id %= 0x800;
@@ -261,7 +273,7 @@ int main(int argc, char **argv)
             a %= next() % 2 ? 6 : next() % 2 ? 34 : 0x1000;
             if (next() % 2) header.fdf = header.extended = 0;
             dlc %= 16;
-            if (lent == len && (call == PUSH || call == TRANSMIT)) lent = len = lengths[dlc];
+            if (lent == len && (call == PUSH || call == TRANSMIT || call == QUEUE_PUSH || call == QUEUE_BARE)) lent = len = lengths[dlc];
             if (lent == len && (call == DELIVER || call == SORT)) lent = len = meant((uint8_t)dlc, header.fdf);
             if (lent == len && (call == PEEK || call == GET)) lent = len |= 64;
         }
@@ -302,11 +314,19 @@ int main(int argc, char **argv)
             r = mcp_scrub(l, at, entries, listed, rewrite, seen_at);
             none |= !at || !seen_at || listed != n || (n && !entries);
             break;
+        case QUEUE: r = mcp_configure_tx_queue(l, &queue); break;
+        case QUEUE_OFF: r = mcp_disable_tx_queue(l); break;
+        case QUEUE_PUSH: r = mcp_queue_push(l, h, b, q, lent); none |= !h || no_from; break;
+        case QUEUE_BARE: r = mcp_queue_push_unchecked(l, h, b, q, lent); none |= !h || no_from; break;
+        case QUEUE_REQUEST: r = mcp_queue_request(l); break;
         case SEND: r = mcp_chip_send(&chip, a, f); none |= !f; break;
         case DELIVER: r = mcp_chip_deliver(&chip, a, h, dlc, c, q, lent, w); none |= !h || !w || no_from; break;
         case SORT: r = mcp_chip_sort(&chip, h, dlc, c, q, lent, s); none |= !h || !s || no_from; break;
         case HELD: r = mcp_chip_held(&chip, a, w); none |= !w; break;
-        default: r = mcp_chip_held_at(&chip, a, b, f); none |= !f; break;
+        case HELD_AT: r = mcp_chip_held_at(&chip, a, b, f); none |= !f; break;
+        case SEND_QUEUE: r = mcp_chip_send_queue(&chip, f); none |= !f; break;
+        case HELD_QUEUE: r = mcp_chip_held_queue(&chip, w); none |= !w; break;
+        default: r = mcp_chip_held_queue_at(&chip, a, f); none |= !f; break;
         }
         const int told = call == SCRUB && r == 0 ? (int)out.report.number : r;
         IS(none ? r == MCP_NULL && asked == 0 : is_answer(call, told) && (call != SCRUB || r == 0 || r == 32 || r == 33));
@@ -349,20 +369,24 @@ int main(int argc, char **argv)
             }
             IS(!memcmp(out.to + filled, before.to + filled, sizeof out.to - filled));
             IS(call == HAS_NEXT ? out.flag <= 1 : out.flag == 0x5A);
-            if (call == SEND || call == HELD_AT) {
+            if (call == SEND || call == HELD_AT || call == SEND_QUEUE || call == HELD_QUEUE_AT) {
                 IS(out.frame.kind <= MCP_NO_FRAME && (out.frame.kind == MCP_FRAME || !out.frame.dlc));
                 IS(out.frame.len == meant(out.frame.dlc, out.frame.header.fdf));
             }
             IS(call != SORT || (out.sorted.turned_down <= MCP_FULL && out.sorted.fifo < 32 && out.sorted.filter < 32));
-            IS((call != DELIVER || out.word <= MCP_FULL) && (call != HELD || out.word <= 32) && (call != GET_MODE || out.word <= 7));
+            IS((call != DELIVER || out.word <= MCP_FULL) && (call != GET_MODE || out.word <= 7));
+            IS((call != HELD && call != HELD_QUEUE) || out.word <= 32);
+            if (call == SEND_QUEUE) queued[out.frame.kind]++;
+            IS(call != HELD_QUEUE_AT || a < 32 || out.frame.kind == MCP_NOTHING);
             IS(out.value == before.value);
         }
         counts[told + 1]++;
     }
-    for (int r = 0; r < 35; r++)
+    for (int r = 0; r < 36; r++)
         if (counts[r]) printf("%d: %lu\n", r - 1, counts[r]);
     printf("classic, DLC above 8: %lu\n", coded);
     printf("entries that agreed, differed, were not read: %lu %lu %lu\n", seen[0], seen[1], seen[2]);
     printf("checked reads behind 0, 1, 2 mismatches: %lu %lu %lu\n", checked[0], checked[1], checked[2]);
+    printf("sent from the queue, nothing, a frame, no frame: %lu %lu %lu\n", queued[0], queued[1], queued[2]);
     return 0;
 }

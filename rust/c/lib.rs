@@ -172,6 +172,18 @@ pub struct CFifo {
 
 #[repr(C)]
 #[derive(Clone, Copy)]
+pub struct CTxQueue {
+    size: u32,
+    plsize: u32,
+    txpri: u32,
+    txat: u32,
+    txatie: u8,
+    empty: u8,
+    notfull: u8,
+}
+
+#[repr(C)]
+#[derive(Clone, Copy)]
 pub struct CIdentifier {
     id: u32,
     extended: u8,
@@ -261,6 +273,7 @@ layout! {
     CSettings 52, oscillator 0, io 2, bittime 8, dncnt 44, counter 48, canerrors 49, spierror 50, eccerror 51;
     CFifo 28, size 0, plsize 4, txpri 8, txat 12, transmit 16, rtren 17, txatie 18, tx_empty 19, tx_half 20, tx_notfull 21, rxtsen 22,
         rxovie 23, rx_full 24, rx_half 25, rx_notempty 26;
+    CTxQueue 20, size 0, plsize 4, txpri 8, txat 12, txatie 16, empty 17, notfull 18;
     CIdentifier 8, id 0, extended 4;
     CFilter 24, fifo 0, mode 4, object 8, mask 16;
     CWatch 12, address 0, wanted 4, care 8;
@@ -329,6 +342,20 @@ impl CFifo {
             })
         };
         FifoConfiguration { size: self.size, plsize: self.plsize, mode }
+    }
+}
+
+impl CTxQueue {
+    fn settings(self) -> TxQueueConfiguration {
+        TxQueueConfiguration {
+            size: self.size,
+            plsize: self.plsize,
+            txpri: self.txpri,
+            txat: self.txat,
+            txatie: self.txatie != 0,
+            empty: self.empty != 0,
+            notfull: self.notfull != 0,
+        }
     }
 }
 
@@ -483,6 +510,8 @@ exported! {
     mcp_configure_io(m, io: *const CIo) = m.configure_io(io.as_ref()?.settings());
     mcp_configure_bit_timing(m, bittime: *const CBittime) = m.configure_bit_timing(bittime.as_ref()?.settings());
     mcp_configure_fifo(m, fifo: u32, settings: *const CFifo) = m.configure_fifo(fifo, settings.as_ref()?.settings());
+    mcp_configure_tx_queue(m, settings: *const CTxQueue) = m.configure_tx_queue(Some(settings.as_ref()?.settings()));
+    mcp_disable_tx_queue(m) = m.configure_tx_queue(None);
     mcp_configure_filter(m, filter: u32, settings: *const CFilter) = settings.as_ref()?.configure(&mut m, filter);
     mcp_disable_filter(m, filter: u32) = m.disable_filter(filter);
     mcp_push(m, fifo: u32, header: *const CHeader, seq: u32, payload: *const u8, len: usize) = {
@@ -496,6 +525,13 @@ exported! {
         }
         answer.map_err(Refusal::from)
     };
+    mcp_queue_push(m, header: *const CHeader, seq: u32, payload: *const u8, len: usize) = {
+        m.queue_push(header.as_ref()?.header(), seq, bytes(payload, len)?)
+    };
+    mcp_queue_push_unchecked(m, header: *const CHeader, seq: u32, payload: *const u8, len: usize) = {
+        m.queue_push_unchecked(header.as_ref()?.header(), seq, bytes(payload, len)?)
+    };
+    mcp_queue_request(m) = m.queue_request();
     mcp_has_next(m, fifo: u32, next: *mut u8) = {
         there(next)?;
         m.has_next(fifo).map(|n| next.write(n as u8))

@@ -30,8 +30,8 @@ enum {
     MCP_INVALID_READ_LENGTH = 4,         /* in range, but no multiple of 4; carries the length */
     MCP_INVALID_WRITE_LENGTH = 5,
     MCP_FIFO_NOT_TX = 6,                 /* push on a FIFO that receives */
-    MCP_FIFO_TOO_SMALL = 7,              /* the payload is longer than the FIFO's */
-    MCP_FIFO_FULL = 8,                   /* push on a full FIFO */
+    MCP_FIFO_TOO_SMALL = 7,              /* the payload is longer than the FIFO's, or the transmit queue's */
+    MCP_FIFO_FULL = 8,                   /* push on a full FIFO, or to a full queue */
     MCP_FIFO_NOT_RX = 9,                 /* has-next, peek or get on a FIFO that sends */
     MCP_CRC_MISMATCH = 10,               /* three checked reads in a row mismatched */
     MCP_CONFIGURATION_MODE_TIMEOUT = 11, /* mcp_configure: five polls without the mode; of the calls marked (11): a failed exchange */
@@ -42,7 +42,7 @@ enum {
     MCP_BAD_IDENTIFIER = 21,             /* standard above 0x7FF, extended above 0x1FFFFFFF */
     MCP_BAD_PAYLOAD = 22,                /* a length that no message has; of a frame that arrives: not its DLC's, or a DLC above 15 */
     /* 23 is given no more: a classic frame with a DLC above 8 is received, with 8 bytes */
-    MCP_BAD_SETTING = 24,                /* FIFO size 0, or a number wider than its field */
+    MCP_BAD_SETTING = 24,                /* size 0 of a FIFO or of the queue, or a number wider than its field */
     MCP_BAD_USER_ADDRESS = 25,           /* the chip's user address is above 0xFBFF */
     MCP_WRONG_ANSWER = 26,               /* never answered here: the loop gives each answer as it was asked for */
     MCP_NO_LAYOUT = 27,                  /* never answered here: see mcp_chip_no_layout */
@@ -51,6 +51,7 @@ enum {
     MCP_DEVICE_NET = 31,                 /* mcp_chip_sort: DNCNT is above 0 */
     MCP_EMPTY_LIST = 32,                 /* mcp_scrub: the list has no entry */
     MCP_NOT_CARRIED = 33,                /* mcp_scrub: an entry's address is no register's that mcp_watch names */
+    MCP_TX_QUEUE_DISABLED = 34,          /* mcp_queue_push: the transmit queue is off */
     /* A pointer is NULL that must not be, one of the line's functions too, or more than PTRDIFF_MAX bytes are lent, as no object has.
      * Nothing was done. This is told before any refusal. NULL with a length of 0 is an empty buffer, or an empty list. */
     MCP_NULL = -1
@@ -116,6 +117,12 @@ typedef struct {
     uint8_t rxtsen, rxovie, rx_full, rx_half, rx_notempty;
 } mcp_fifo;
 
+/* The transmit queue: size, plsize, txpri and txat as a FIFO's that sends, and its interrupt enables. */
+typedef struct {
+    uint32_t size, plsize, txpri, txat;
+    uint8_t txatie, empty, notfull;
+} mcp_tx_queue;
+
 /* The frames that a filter takes. */
 enum { MCP_STANDARD = 0, MCP_EXTENDED = 1, MCP_BOTH = 2 };
 
@@ -167,13 +174,20 @@ int mcp_verify_long(const mcp_line *line);                                      
 int mcp_set_op_mode(const mcp_line *line, uint32_t mode);                                               /* (11) 24; 12 */
 int mcp_get_op_mode(const mcp_line *line, uint32_t *mode);
 
-/* Takes the chip to Configuration, tries the RAM and sets up all but FIFOs and filters; transmit queue and event FIFO are turned off. */
+/* Takes the chip to Configuration, tries the RAM and sets up all but FIFOs and filters; transmit queue and event FIFO are turned off:
+ * mcp_configure_tx_queue comes behind it. */
 int mcp_configure(const mcp_line *line, const mcp_settings *settings);                                  /* (11) 24; 11, 13, 14 */
 int mcp_configure_osc(const mcp_line *line, const mcp_oscillator *oscillator);                          /* (11) 14 */
 int mcp_configure_io(const mcp_line *line, const mcp_io *io);                                           /* (11) */
 int mcp_configure_bit_timing(const mcp_line *line, const mcp_bittime *bittime);                         /* (11) 24 */
 /* Size, payload size, direction and rxtsen take effect only in Configuration. */
 int mcp_configure_fifo(const mcp_line *line, uint32_t fifo, const mcp_fifo *settings);                  /* 20, 24 */
+/* The transmit queue is turned on and set up, or turned off. On, it lies in RAM before FIFO 1. Whether it is on, its size and its payload
+ * size change only in Configuration: outside, the call answers 0 all the same. CiCON is written back as it was read, but for TXQEN: where a
+ * mode was asked for and not granted (12), it is asked for again, and may be granted before size and payload size are written.
+ * mcp_set_op_mode with 4 before it makes sure. */
+int mcp_configure_tx_queue(const mcp_line *line, const mcp_tx_queue *settings);                         /* (11) 24 */
+int mcp_disable_tx_queue(const mcp_line *line);                                                         /* (11) */
 int mcp_configure_filter(const mcp_line *line, uint32_t filter, const mcp_filter *settings);            /* 20, 21, 24 */
 int mcp_disable_filter(const mcp_line *line, uint32_t filter);                                          /* 20 */
 
@@ -186,6 +200,17 @@ int mcp_request(const mcp_line *line, uint32_t fifo);                           
  * Refused and accepted, only the request was refused: mcp_request is what to try again, another transmit would send the message twice. */
 int mcp_transmit(const mcp_line *line, uint32_t fifo, const mcp_header *header, uint32_t seq,
                  const uint8_t *payload, size_t len, uint8_t *accepted);                                /* as push */
+
+/* A push to the transmit queue, from which the message goes out first whose identifier wins arbitration, whatever was pushed before. */
+int mcp_queue_push(const mcp_line *line, const mcp_header *header, uint32_t seq,
+                   const uint8_t *payload, size_t len);                                                 /* 21, 24, 22; 34, 7, 8, 25, 3 */
+/* Two exchanges less: it does not test whether the queue is on, has room, and takes the payload. Where it has no room, the message that
+ * was pushed last is overwritten; where it is off, or the payload is longer than the queue's, what other slots hold, a FIFO's too. That may
+ * have happened also where the call is refused, and where it answers 0 the queue need not hold the message. */
+int mcp_queue_push_unchecked(const mcp_line *line, const mcp_header *header, uint32_t seq,
+                             const uint8_t *payload, size_t len);                                       /* 21, 24, 22; 25, 3 */
+/* What the queue holds is to be sent, and what is pushed to it before it is empty. Nothing is tested: it answers 0 also where it is off. */
+int mcp_queue_request(const mcp_line *line);
 
 /* *next is 1 where the FIFO holds a message, else 0. */
 int mcp_has_next(const mcp_line *line, uint32_t fifo, uint8_t *next);                                   /* 20; 9 */
@@ -204,7 +229,7 @@ int mcp_scrub(const mcp_line *line, mcp_scrubber *scrubber, const mcp_watch *lis
 
 /* The modelled chip, to test your own code against: in a library built with the feature chip. A chip is plain memory of the caller's, and
  * has to be made by mcp_chip_new, as after a reset with RAM of zeros, before anything else is done with it. It may be copied. */
-typedef struct { uint32_t words[700]; } mcp_chip;
+typedef struct { uint32_t words[704]; } mcp_chip;
 
 int mcp_chip_new(mcp_chip *chip);
 
@@ -228,6 +253,10 @@ typedef struct {
 /* The chip sends the oldest message of a FIFO, if sending is requested there. */
 int mcp_chip_send(mcp_chip *chip, uint32_t fifo, mcp_frame *frame);                                     /* 20 */
 
+/* The chip sends from the transmit queue, if sending is requested there: of all that it holds the message whose identifier wins
+ * arbitration, of equal ones that in the lowest slot. Nothing is sent where the queue is off. */
+int mcp_chip_send_queue(mcp_chip *chip, mcp_frame *frame);
+
 /* A frame arrives for a FIFO. Its payload is as long as its DLC means: DLC 0 to 8 as many bytes, 9 to 15 in an FD frame 12, 16, 20, 24, 32,
  * 48 or 64, in a classic one 8. */
 enum { MCP_DELIVERED = 0, MCP_IN_CONFIGURATION = 1, MCP_NOT_RECEIVING = 2, MCP_TOO_LONG = 3, MCP_FULL = 4 };
@@ -244,8 +273,12 @@ int mcp_chip_sort(mcp_chip *chip, const mcp_header *header, uint32_t dlc, uint32
 int mcp_chip_held(const mcp_chip *chip, uint32_t fifo, uint32_t *count);                                /* 20 */
 int mcp_chip_held_at(const mcp_chip *chip, uint32_t fifo, uint32_t k, mcp_frame *frame);                /* 20 */
 
-/* How often leaving Configuration was asked for and not granted (27), because the FIFOs do not fit into RAM or the transmit queue or event
- * FIFO is on. Such a write is done on the line, so no call is told: mcp_set_op_mode polls in vain and answers 12. */
+/* How many messages the transmit queue holds, none where it is off; and the one in a slot, 0 to 31, MCP_NOTHING where it holds none. */
+int mcp_chip_held_queue(const mcp_chip *chip, uint32_t *count);
+int mcp_chip_held_queue_at(const mcp_chip *chip, uint32_t slot, mcp_frame *frame);
+
+/* How often leaving Configuration was asked for and not granted (27), because the FIFOs, and the transmit queue where it is on, do not fit
+ * into RAM or the event FIFO is on. Such a write is done on the line, so no call is told: mcp_set_op_mode polls in vain and answers 12. */
 int mcp_chip_no_layout(const mcp_chip *chip, uint32_t *count);
 
 /* The sizes and places that the library was built with; a compiler that lays structures out otherwise stops here. */
@@ -271,6 +304,9 @@ MCP_LAYOUT(mcp_fifo, 28, MCP_AT(mcp_fifo, size, 0) && MCP_AT(mcp_fifo, plsize, 4
     MCP_AT(mcp_fifo, txat, 12) && MCP_AT(mcp_fifo, transmit, 16) && MCP_AT(mcp_fifo, rtren, 17) && MCP_AT(mcp_fifo, txatie, 18) &&
     MCP_AT(mcp_fifo, tx_empty, 19) && MCP_AT(mcp_fifo, tx_half, 20) && MCP_AT(mcp_fifo, tx_notfull, 21) && MCP_AT(mcp_fifo, rxtsen, 22) &&
     MCP_AT(mcp_fifo, rxovie, 23) && MCP_AT(mcp_fifo, rx_full, 24) && MCP_AT(mcp_fifo, rx_half, 25) && MCP_AT(mcp_fifo, rx_notempty, 26));
+MCP_LAYOUT(mcp_tx_queue, 20, MCP_AT(mcp_tx_queue, size, 0) && MCP_AT(mcp_tx_queue, plsize, 4) && MCP_AT(mcp_tx_queue, txpri, 8) &&
+    MCP_AT(mcp_tx_queue, txat, 12) && MCP_AT(mcp_tx_queue, txatie, 16) && MCP_AT(mcp_tx_queue, empty, 17) &&
+    MCP_AT(mcp_tx_queue, notfull, 18));
 MCP_LAYOUT(mcp_identifier, 8, MCP_AT(mcp_identifier, id, 0) && MCP_AT(mcp_identifier, extended, 4));
 MCP_LAYOUT(mcp_filter, 24, MCP_AT(mcp_filter, fifo, 0) && MCP_AT(mcp_filter, mode, 4) && MCP_AT(mcp_filter, object, 8) &&
     MCP_AT(mcp_filter, mask, 16));
@@ -279,7 +315,7 @@ MCP_LAYOUT(mcp_scrubber, sizeof(void *), MCP_AT(mcp_scrubber, place, 0));
 MCP_LAYOUT(mcp_report, 36, MCP_AT(mcp_report, seen, 0) && MCP_AT(mcp_report, address, 4) && MCP_AT(mcp_report, read, 8) &&
     MCP_AT(mcp_report, wanted, 12) && MCP_AT(mcp_report, rewrite, 16) && MCP_AT(mcp_report, back, 20) && MCP_AT(mcp_report, number, 24) &&
     MCP_AT(mcp_report, mismatches, 28) && MCP_AT(mcp_report, back_mismatches, 32));
-MCP_LAYOUT(mcp_chip, 2800, MCP_AT(mcp_chip, words, 0));
+MCP_LAYOUT(mcp_chip, 2816, MCP_AT(mcp_chip, words, 0));
 MCP_LAYOUT(mcp_frame, 88, MCP_AT(mcp_frame, header, 0) && MCP_AT(mcp_frame, seq, 12) && MCP_AT(mcp_frame, time, 16) &&
     MCP_AT(mcp_frame, kind, 20) && MCP_AT(mcp_frame, stamped, 21) && MCP_AT(mcp_frame, len, 22) && MCP_AT(mcp_frame, dlc, 23) &&
     MCP_AT(mcp_frame, payload, 24));

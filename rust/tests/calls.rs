@@ -1,6 +1,7 @@
 //! Call by call on the modelled chip: exchanges that fail one after the other, answers that come late or wrong, numbers that there are
 //! not, what lent buffers hold afterwards, scratch that is too short, turns that are left, frames that the filters sort, every DLC, lists
-//! that are scrubbed, mismatches that are counted. What is expected was written down from documents 01 and 02.
+//! that are scrubbed, mismatches that are counted, messages that overtake others in the transmit queue. What is expected was written down
+//! from documents 01 and 02.
 use masevuru::calls::*;
 use masevuru::chip::{Chip, Delivery, Frame, Payload, Reading, Sending, Sorted};
 use masevuru::*;
@@ -65,6 +66,10 @@ fn sender() -> FifoConfiguration {
     FifoConfiguration { size: 4, plsize: 0, mode: FifoMode::Transmit(tx) }
 }
 
+fn queue() -> TxQueueConfiguration {
+    TxQueueConfiguration { size: 4, plsize: 0, txpri: 0, txat: 0, txatie: false, empty: false, notfull: false }
+}
+
 fn receiver(plsize: u32, rxtsen: bool) -> FifoConfiguration {
     let rx = RxFifo { rxtsen, rxovie: false, full: false, half: false, notempty: false };
     FifoConfiguration { size: 2, plsize, mode: FifoMode::Receive(rx) }
@@ -81,8 +86,18 @@ fn on(chip: Chip) -> Driver {
 
 /// Outside Configuration: FIFO 1 sends; FIFO 2, with timestamps, and FIFO 3 receive and hold a message of 5 bytes each.
 fn prepared() -> Driver {
+    with_queue(None)
+}
+
+/// The same, with a transmit queue of 4 slots of 16 bytes.
+fn queued() -> Driver {
+    with_queue(Some(queue()))
+}
+
+fn with_queue(c: Option<TxQueueConfiguration>) -> Driver {
     let mut mcp = on(Chip::new());
     mcp.configure(settings(false)).unwrap();
+    mcp.configure_tx_queue(c).unwrap();
     mcp.configure_fifo(1, sender()).unwrap();
     mcp.configure_fifo(2, receiver(7, true)).unwrap();
     mcp.configure_fifo(3, receiver(0, false)).unwrap();
@@ -135,17 +150,29 @@ fn scrubbed(m: &mut Driver, list: &[Watch], rewrite: bool) -> u32 {
     m.scrub(&mut FIRST.clone(), list, rewrite).map_or_else(number, reported)
 }
 
+/// In the place of a FIFO, in a row.
+const QUEUE: u32 = 32;
+
+fn ready(fifo: u32) -> Driver {
+    if fifo == QUEUE { queued() } else { prepared() }
+}
+
+fn holds(m: &Bench, fifo: u32) -> u8 {
+    if fifo == QUEUE { m.chip.held_queue() } else { m.chip.held(fifo).unwrap() }
+}
+
 /// A call's name, what it does with the driver and 72 lent bytes, how the same is started for a loop of one's own, and by what number each
-/// of its exchanges is refused (of a scrub: reported) that fails: so many times a number. Behind that a FIFO, the last exchange whose
-/// failing leaves it as it was, and how many messages it holds then and later.
+/// of its exchanges is refused (of a scrub: reported) that fails: so many times a number. Behind that a FIFO, or the queue, the last
+/// exchange whose failing leaves it as it was, and how many messages it holds then and later.
 type Row = (&'static str, fn(&mut Driver, &mut [u8; 72]) -> u32, fn() -> Call, &'static [(u32, u32)], (u32, u32, u8, u8));
 
 /// Document 01: 1 where a read or a register write failed; 2 where a RAM write or the reset failed; 11 in place of both in any
 /// configuration, mode or echo call but `configure_fifo` and `configure_filter`; `get_op_mode` is a register read. The exchanges are
 /// those of "Exchange by exchange"; a change is two, a read and a write. The chip takes a mode at once and shows PLLRDY with PLLEN:
 /// one poll. `configure`: mode 2, poll 1, echo 64, OSC 2, PLL's poll 1 if on, IOCON 2, bit timing 6, STEF 2, TXQEN 2, TSCON 2 if
-/// the counter is on, DNCNT 2 if not 0, RTXAT 2, CiINT 2.
-const ROWS: [Row; 31] = [
+/// the counter is on, DNCNT 2 if not 0, RTXAT 2, CiINT 2. Document 02, of the queue: a change of CiCON, and of control where it is turned
+/// on; a push is CiCON, control, status, user address, RAM write, control; unchecked user address, RAM write, and a change of control.
+const ROWS: [Row; 36] = [
     ("reset", |m, _| told(m.reset()), || reset(), &[(1, 2)], (0, 0, 0, 0)),
     ("read_register", |m, _| told(m.read_register(0x000)), || read_register(0x000), &[(1, 1)], (0, 0, 0, 0)),
     ("write_register", |m, _| told(m.write_register(0x004, 7)), || write_register(0x004, 7), &[(1, 1)], (0, 0, 0, 0)),
@@ -195,6 +222,35 @@ const ROWS: [Row; 31] = [
     ("scrub", |m, _| scrubbed(m, &DIFFERS, false), || scrub(FIRST, &DIFFERS, false), &[(1, 1)], (0, 0, 0, 0)),
     ("scrub, rewriting", |m, _| scrubbed(m, &DIFFERS, true), || scrub(FIRST, &DIFFERS, true), &[(3, 1)], (0, 0, 0, 0)),
     ("scrub, nothing to rewrite", |m, _| scrubbed(m, &AGREES, true), || scrub(FIRST, &AGREES, true), &[(1, 1)], (0, 0, 0, 0)),
+    (
+        "configure_tx_queue",
+        |m, _| told(m.configure_tx_queue(Some(queue()))),
+        || configure_tx_queue(TxQueueSetting::On(queue())),
+        &[(4, 11)],
+        (QUEUE, 4, 0, 0),
+    ),
+    (
+        "configure_tx_queue, off",
+        |m, _| told(m.configure_tx_queue(None)),
+        || configure_tx_queue(TxQueueSetting::Off),
+        &[(2, 11)],
+        (QUEUE, 2, 0, 0),
+    ),
+    (
+        "queue_push",
+        |m, _| told(m.queue_push(HEADER, 5, &BYTES)),
+        || queue_push(HEADER, 5, &BYTES),
+        &[(4, 1), (1, 2), (1, 1)],
+        (QUEUE, 6, 0, 1),
+    ),
+    (
+        "queue_push_unchecked",
+        |m, _| told(m.queue_push_unchecked(HEADER, 5, &BYTES)),
+        || queue_push_unchecked(HEADER, 5, &BYTES),
+        &[(1, 1), (1, 2), (2, 1)],
+        (QUEUE, 4, 0, 1),
+    ),
+    ("queue_request", |m, _| told(m.queue_request()), || queue_request(), &[(2, 1)], (QUEUE, 2, 0, 0)),
 ];
 
 fn each_of(parts: &[(u32, u32)]) -> Vec<u32> {
@@ -206,20 +262,20 @@ fn each_exchange_fails() {
     for (name, call, _, parts, (fifo, last, then, after)) in ROWS {
         let answers = each_of(parts);
         for (k, n) in (1..).zip(&answers) {
-            let (mut mcp, mut buf) = (prepared(), [0x5A; 72]);
+            let (mut mcp, mut buf) = (ready(fifo), [0x5A; 72]);
             mcp.line.fail_at = k;
             assert_eq!(call(&mut mcp, &mut buf), *n, "{name}, exchange {k}");
             assert_eq!(mcp.line.exchanges, k, "{name} asked for more after exchange {k}");
             assert_eq!(buf, [0x5A; 72], "{name}, exchange {k}");
             if fifo != 0 {
-                assert_eq!(mcp.line.chip.held(fifo), Ok(if k <= last { then } else { after }), "{name}, exchange {k}");
+                assert_eq!(holds(&mcp.line, fifo), if k <= last { then } else { after }, "{name}, exchange {k}");
             }
         }
-        let (mut mcp, mut buf) = (prepared(), [0x5A; 72]);
+        let (mut mcp, mut buf) = (ready(fifo), [0x5A; 72]);
         assert_eq!(call(&mut mcp, &mut buf), 0, "{name}");
         assert_eq!((mcp.line.exchanges as usize, mcp.line.waits), (answers.len(), 0), "{name}");
         if fifo != 0 {
-            assert_eq!(mcp.line.chip.held(fifo), Ok(after), "{name}");
+            assert_eq!(holds(&mcp.line, fifo), after, "{name}");
         }
     }
 }
@@ -256,8 +312,8 @@ fn turned(line: &mut Bench, start: Call, lent: &[u8]) -> (Call, Vec<u8>) {
 fn a_loop_of_ones_own() {
     for (name, call, start, parts, (fifo, ..)) in ROWS {
         for k in 0..=each_of(parts).len() as u32 {
-            let (mut mcp, mut buf) = (prepared(), [0x5A; 72]);
-            let (mut other, mut own) = (prepared().line, [0x5A; 72]);
+            let (mut mcp, mut buf) = (ready(fifo), [0x5A; 72]);
+            let (mut other, mut own) = (ready(fifo).line, [0x5A; 72]);
             (mcp.line.fail_at, other.fail_at) = (k, k);
             let answer = call(&mut mcp, &mut buf);
             let (end, received) = turned(&mut other, start(), &BYTES);
@@ -266,8 +322,8 @@ fn a_loop_of_ones_own() {
             assert!(outcome != Outcome::Running);
             assert_eq!((other.exchanges, own), (mcp.line.exchanges, buf), "{name}, exchange {k}");
             assert_eq!(other.chip, mcp.line.chip, "{name}, exchange {k}");
-            let is_message = matches!(name, "push" | "transmit");
-            assert_eq!(accepted(end), is_message && other.chip.held(fifo) == Ok(1), "{name}, exchange {k}");
+            let is_message = matches!(name, "push" | "transmit" | "queue_push" | "queue_push_unchecked");
+            assert_eq!(accepted(end), is_message && holds(&other, fifo) == 1, "{name}, exchange {k}");
         }
     }
 }
@@ -275,7 +331,8 @@ fn a_loop_of_ones_own() {
 /// What the calls of the rows, in their order, ask for at most: a mode's poll is five reads and four waits, the PLL's three and two;
 /// has-next, peek and get say what a get with a timestamp does; a scrub reads three times, and that is told to rewrite writes and reads
 /// three times more.
-const TURNS: [u32; 31] = [1, 1, 1, 2, 3, 1, 1, 64, 2, 11, 1, 93, 102, 2, 7, 2, 6, 2, 8, 2, 5, 2, 7, 9, 9, 9, 9, 9, 3, 7, 7];
+const TURNS: [u32; 36] =
+    [1, 1, 1, 2, 3, 1, 1, 64, 2, 11, 1, 93, 102, 2, 7, 2, 6, 2, 8, 2, 5, 2, 7, 9, 9, 9, 9, 9, 3, 7, 7, 4, 2, 6, 4, 2];
 
 #[test]
 fn turns_at_the_start() {
@@ -347,18 +404,28 @@ fn finished_again() {
 }
 
 /// "After a failed exchange in a push only the free slot's bytes may differ": those of slot 0, RAM 0 to 15, and only where the last failed.
+/// Of the queue, which holds two messages, those of the slot shown, RAM 32 to 47; of an unchecked push also where the read before failed.
 #[test]
 fn a_failed_push_leaves_the_chip() {
-    for k in 1..=5 {
-        let mut mcp = prepared();
-        let mut before = mcp.line.chip.model;
-        mcp.line.fail_at = k;
-        assert!(mcp.push(1, HEADER, 5, &BYTES).is_err());
-        if k == 5 {
-            assert_ne!(mcp.line.chip.model, before);
-            before.ram[..16].copy_from_slice(&mcp.line.chip.model.ram[..16]);
+    let mut half = queued();
+    assert_eq!((half.queue_push(HEADER, 1, &BYTES), half.queue_push(HEADER, 2, &BYTES)), (Ok(()), Ok(())));
+    let half = half.line.chip;
+    for (start, call, slot, written, last) in [
+        (&prepared().line.chip, (|m| m.push(1, HEADER, 5, &BYTES)) as fn(&mut Driver) -> Result<(), Refusal>, 0, 4, 5),
+        (&half, |m| m.queue_push(HEADER, 5, &BYTES), 32, 5, 6),
+        (&half, |m| m.queue_push_unchecked(HEADER, 5, &BYTES), 32, 2, 4),
+    ] {
+        for k in 1..=last {
+            let mut mcp = on(start.clone());
+            let mut before = mcp.line.chip.model;
+            mcp.line.fail_at = k;
+            assert!(call(&mut mcp).is_err());
+            if k > written {
+                assert_ne!(mcp.line.chip.model, before);
+                before.ram[slot..slot + 16].copy_from_slice(&mcp.line.chip.model.ram[slot..slot + 16]);
+            }
+            assert_eq!(mcp.line.chip.model, before, "exchange {k}");
         }
-        assert_eq!(mcp.line.chip.model, before, "exchange {k}");
     }
 }
 
@@ -568,6 +635,376 @@ fn classic_dlcs() {
     }
 }
 
+/// With a standard identifier, or an extended one.
+fn std(id: u32) -> Header {
+    Header { id, ..HEADER }
+}
+
+fn ext(id: u32) -> Header {
+    Header { extended: true, id, ..HEADER }
+}
+
+/// What the queue's slots 0 to 3 hold: its SEQ, 0 where that is nothing.
+fn slots(m: &Driver) -> [u32; 4] {
+    core::array::from_fn(|k| m.line.chip.held_queue_at(k as u8).map_or(0, |slot| slot.frame.seq))
+}
+
+/// The SEQ of what the queue sends, 0 where nothing is sent.
+fn sent(m: &mut Driver) -> u32 {
+    match m.line.chip.send_queue() {
+        (Sending::Frame, frame) => frame.seq,
+        (other, _) => {
+            assert_eq!(other, Sending::Nothing);
+            0
+        }
+    }
+}
+
+/// A safing command, 010, overtakes routine ones; full is 8; the slot that was freed first is filled next, then the lowest free one.
+#[test]
+fn overtaking() {
+    let mut m = queued();
+    for (seq, id) in [(1, 0x320), (2, 0x310), (3, 0x320)] {
+        assert_eq!(m.queue_push(std(id), seq, &[0xB0]), Ok(()));
+    }
+    assert_eq!((slots(&m), m.line.chip.held_queue(), sent(&mut m)), ([1, 2, 3, 0], 3, 0)); // not requested
+    assert_eq!((m.queue_push(std(0x010), 4, &[0x5A, 0xFE]), slots(&m)), (Ok(()), [1, 2, 3, 4]));
+    let full = m.line.chip.model;
+    m.line.exchanges = 0;
+    assert_eq!((m.queue_push(std(0x011), 5, &[]), m.line.exchanges), (Err(Refusal::FifoFull), 3));
+    assert_eq!((m.line.chip.model == full, m.queue_request(), sent(&mut m), sent(&mut m)), (true, Ok(()), 4, 2));
+    assert_eq!((m.queue_push(ext(0x18DA_00F1), 5, &[]), slots(&m)), (Ok(()), [1, 0, 3, 5]));
+    assert_eq!((m.queue_push(std(0x320), 6, &[]), slots(&m)), (Ok(()), [1, 6, 3, 5]));
+    assert_eq!((m.queue_push(std(0x011), 7, &[]), sent(&mut m)), (Err(Refusal::FifoFull), 1));
+    // of equal ones the lowest slot: 6 before 3, which came before it
+    assert_eq!((m.queue_push(std(0x011), 7, &[]), slots(&m)), (Ok(()), [7, 6, 3, 5]));
+    assert_eq!((sent(&mut m), sent(&mut m), sent(&mut m), slots(&m)), (7, 6, 3, [0, 0, 0, 5]));
+    // 18DA00F1 has the base 636
+    assert_eq!((m.queue_push(std(0x636), 8, &[]), slots(&m)), (Ok(()), [8, 0, 0, 5]));
+    assert_eq!((sent(&mut m), sent(&mut m), sent(&mut m), m.line.chip.held_queue()), (8, 5, 0, 0));
+    // empty: TXREQ is 0 again
+    assert_eq!((m.queue_push(std(0x001), 9, &[]), sent(&mut m)), (Ok(()), 0));
+    assert_eq!((m.queue_request(), sent(&mut m)), (Ok(()), 9));
+}
+
+/// "Smaller 11-bit base first, at equal base standard before extended, then smaller low 18 bits."
+fn rank(h: Header) -> (u32, bool, u32) {
+    if h.extended { (h.id >> 18, true, h.id & 0x3_FFFF) } else { (h.id, false, 0) }
+}
+
+/// The queue by document 02's words: each slot's message, by header and SEQ, and the slot shown.
+struct Slots {
+    held: Vec<Option<(Header, u32)>>,
+    shown: usize,
+}
+
+impl Slots {
+    fn is_full(&self) -> bool {
+        self.held.iter().all(Option::is_some)
+    }
+
+    /// "Shows one free slot until UINC claims it, then the lowest free one; when all are held it goes on showing the last claimed."
+    fn push(&mut self, header: Header, seq: u32) -> Result<(), Refusal> {
+        if self.is_full() {
+            return Err(Refusal::FifoFull);
+        }
+        self.held[self.shown] = Some((header, seq));
+        self.shown = self.held.iter().position(Option::is_none).unwrap_or(self.shown);
+        Ok(())
+    }
+
+    /// "Full ties by the lowest slot"; when all were held "the first freed comes next".
+    fn send(&mut self) -> Option<(Header, u32)> {
+        let rank_of = |k: &usize| self.held[*k].map(|(header, _)| rank(header));
+        let winner = (0..self.held.len()).filter(|k| self.held[*k].is_some()).min_by_key(|k| (rank_of(k), *k))?;
+        if self.is_full() {
+            self.shown = winner;
+        }
+        self.held[winner].take()
+    }
+}
+
+/// Pushes and sends in any order, from a queue of every size, with identifiers of which many are equal or have an equal base.
+#[test]
+fn the_queue_by_document_02() {
+    const IDS: [(bool, u32); 12] = [
+        (false, 0),
+        (true, 0),
+        (true, 0x3_FFFF),
+        (false, 1),
+        (true, 0x4_0000),
+        (true, 0x4_0001),
+        (false, 0x3FF),
+        (false, 0x7FE),
+        (true, 0x1FFB_FFFF),
+        (false, 0x7FF),
+        (true, 0x1FFC_0000),
+        (true, 0x1FFF_FFFF),
+    ];
+    let mut seed = 0x9E37_79B9_7F4A_7C15u64;
+    let mut next = move |n: u64| {
+        seed ^= seed << 13;
+        seed ^= seed >> 7;
+        seed ^= seed << 17;
+        seed % n
+    };
+    for size in 1..=32 {
+        let mut m = with_queue(Some(TxQueueConfiguration { size, ..queue() }));
+        let mut by_words = Slots { held: vec![None; size as usize], shown: 0 };
+        let mut full = 0;
+        for seq in 1..400 {
+            // fifty steps that fill it, then fifty that empty it
+            if next(8) < if seq / 50 % 2 == 0 { 7 } else { 1 } {
+                let (extended, id) = IDS[next(12) as usize];
+                let header = Header { extended, id, ..HEADER };
+                let expected = by_words.push(header, seq);
+                full += u32::from(expected.is_err());
+                assert_eq!(m.queue_push(header, seq, &seq.to_le_bytes()), expected, "{size} slots, SEQ {seq}");
+            } else {
+                assert_eq!(m.queue_request(), Ok(()));
+                let (sending, frame) = m.line.chip.send_queue();
+                let went = (sending == Sending::Frame).then_some((frame.header, frame.seq));
+                assert_eq!(went, by_words.send(), "{size} slots, at {seq}");
+                assert!(sending == Sending::Nothing || frame.payload.bytes[..4] == frame.seq.to_le_bytes());
+            }
+            for k in 0..=32 {
+                let slot = m.line.chip.held_queue_at(k).map(|slot| (slot.frame.header, slot.frame.seq));
+                assert_eq!(slot, by_words.held.get(k as usize).copied().flatten(), "{size} slots, slot {k} at {seq}");
+            }
+            assert_eq!(m.line.chip.held_queue() as usize, by_words.held.iter().flatten().count());
+        }
+        assert!(full > 0 && m.line.chip.held_queue_at(255).is_none());
+        // FIFOs as they were
+        assert_eq!((m.line.chip.held(1), m.line.chip.held(2), m.line.chip.held(3)), (Ok(0), Ok(1), Ok(1)));
+        assert_eq!(m.get(3, &mut [0; 64]), Ok(Some(Received { header: HEADER, dlc: 5, time: None, len: 5 })));
+    }
+}
+
+/// What a call sends, and how it ends, where each read is answered by the next of these words, as long as there are some.
+fn talk(start: Call, words: &[u32]) -> (Vec<Vec<u8>>, Outcome) {
+    let (mut call, mut sent, mut tx, mut words) = (start, vec![], [0; 74], words.iter());
+    while let Next::Transfer { n, want } = next(call, &[], &mut tx) {
+        sent.push(tx[..n].to_vec());
+        let word = if want == 4 { words.next().map(|w| w.to_le_bytes().to_vec()) } else { Some(vec![]) };
+        let Some(rx) = word else { break };
+        call = answer(call, Answer::Exchanged, &rx);
+    }
+    (sent, finish(call, &[], &mut []))
+}
+
+/// Byte by byte, as document 02 names the exchanges: 0x000 is CiCON, 0x050 CiTXQCON, 0x054 CiTXQSTA, 0x058 CiTXQUA.
+#[test]
+fn queue_talks() {
+    let (con, control) = (0x06D0_0760, 0x0300_0080);
+    let done = |sent: &[&[u8]]| (sent.iter().map(|bytes| bytes.to_vec()).collect(), Outcome::Done);
+    let object = [0x24, 0x10, 0x20, 0x03, 0x00, 0x00, 0x01, 0x02, 0x00, 0x00, 0xB1, 0x00, 0x00, 0x00];
+    let claim = [0x20, 0x50, 0x80, 0x01, 0x00, 0x03];
+    assert_eq!(
+        talk(queue_push(std(0x320), 1, &[0xB1]), &[con, control, 1, 0x10]),
+        done(&[&[0x30, 0x00], &[0x30, 0x50], &[0x30, 0x54], &[0x30, 0x58], &object, &claim])
+    );
+    assert_eq!(
+        talk(queue_push_unchecked(std(0x320), 1, &[0xB1]), &[0x10, control]),
+        done(&[&[0x30, 0x58], &object, &[0x30, 0x50], &claim])
+    );
+    assert_eq!(talk(queue_request(), &[control]), done(&[&[0x30, 0x50], &[0x20, 0x50, 0x80, 0x02, 0x00, 0x03]]));
+    // every bit that is not the call's is written as it was read
+    for kept in [0, !0] {
+        let written = |address, w: u32| [&[0x20, address][..], &w.to_le_bytes()].concat();
+        assert_eq!(talk(queue_request(), &[kept]).0[1], written(0x50, kept | 0x200));
+        assert_eq!(talk(queue_push_unchecked(HEADER, 0, &[]), &[0, kept]).0[3], written(0x50, kept | 0x100));
+        assert_eq!(talk(queue_push(HEADER, 0, &[]), &[!0, kept, 1, 0]).0[5], written(0x50, kept | 0x100));
+        let off = talk(configure_tx_queue(TxQueueSetting::Off), &[kept]);
+        assert_eq!(off, done(&[&[0x30, 0x00], &written(0x00, kept & !0x0010_0000)]));
+        // PLSIZE 31..29, FSIZE 28..24, TXAT 22..21, TXPRI 20..16, TXATIE 4, TXQEIE 2, TXQNIE 0
+        let ones = TxQueueConfiguration { size: 32, plsize: 7, txpri: 31, txat: 3, txatie: true, empty: true, notfull: true };
+        let none = TxQueueConfiguration { size: 1, ..queue() };
+        for (c, bits) in [(none, 0), (ones, 0xFF7F_0015)] {
+            let on = talk(configure_tx_queue(TxQueueSetting::On(c)), &[kept, kept]);
+            let control = written(0x50, kept & !0xFF7F_0015 | bits);
+            assert_eq!(on, done(&[&[0x30, 0x00], &written(0x00, kept | 0x0010_0000), &[0x30, 0x50], &control]));
+        }
+    }
+}
+
+/// Which bits decide: TXQEN is bit 20 of CiCON, PLSIZE 31..29 of control, bit 0 of status says that there is room; TXEN, bit 7 of control,
+/// is not asked for. 34, 7, 8, 25 and 3 in this order.
+#[test]
+fn queue_words() {
+    let refused = |start, words: &[u32]| {
+        let (sent, outcome) = talk(start, words);
+        (ended(outcome), sent.len())
+    };
+    let [con, status] = [0x0010_0000, 1];
+    for bit in (0..32).map(|b| 1u32 << b) {
+        for word in [bit, !bit] {
+            let is_on = word & con != 0;
+            assert_eq!(refused(queue_push(HEADER, 0, &[]), &[word, 0, status, 0]), if is_on { (0, 6) } else { (34, 1) });
+            let has_room = word & 1 != 0;
+            assert_eq!(refused(queue_push(HEADER, 0, &[]), &[con, 0, word, 0]), if has_room { (0, 6) } else { (8, 3) });
+        }
+    }
+    let bytes = [0; 64];
+    for (plsize, most) in (0..).zip([8, 12, 16, 20, 24, 32, 48, 64]) {
+        for len in [0, 7, 8, 12, 16, 20, 24, 32, 48, 64] {
+            for control in [plsize << 29, plsize << 29 | 0x1FFF_FFFF] {
+                let pushed = refused(queue_push(Header { fdf: true, ..HEADER }, 0, &bytes[..len]), &[con, control, status, 0]);
+                assert_eq!(pushed, if len > most { (7, 2) } else { (0, 6) }, "{len} bytes, PLSIZE {plsize}");
+            }
+        }
+    }
+    // the object of 12 bytes has 20
+    let long = || queue_push(Header { fdf: true, ..HEADER }, 0, &bytes[..12]);
+    assert_eq!(refused(long(), &[!con, 0, 0, !0]), (34, 1));
+    assert_eq!(refused(long(), &[con, 0, 0, !0]), (7, 2));
+    assert_eq!(refused(long(), &[con, !0, 0, !0]), (8, 3));
+    for (address, n) in [(!0, 25), (0xFC00, 25), (0xFBFF, 3), (0x800, 3), (0x7F0, 3), (0x7EC, 0)] {
+        assert_eq!(refused(long(), &[con, !0, status, address]), if n == 0 { (0, 6) } else { (n, 4) }, "{address:#X}");
+        let bare = queue_push_unchecked(Header { fdf: true, ..HEADER }, 0, &bytes[..12]);
+        assert_eq!(refused(bare, &[address, 0]), if n == 0 { (0, 4) } else { (n, 1) }, "{address:#X}, unchecked");
+    }
+    assert_eq!(talk(long(), &[con, !0, status, 0x7F0]).1, Outcome::Refused(Refusal::InvalidRamAddress(0xBF0)));
+    assert_eq!((number(Refusal::TxQueueDisabled), Refusal::TxQueueDisabled.to_string()), (34, "refused 34: TxQueueDisabled".into()));
+}
+
+/// 21, 24, 22 in this order, and the settings' 24, before any exchange; a size above 32 is 32.
+#[test]
+fn queue_inputs() {
+    let mut m = queued();
+    let before = m.line.chip.model;
+    for call in [Driver::queue_push, Driver::queue_push_unchecked] {
+        for far in [std(0x800), ext(0x2000_0000), std(u32::MAX)] {
+            assert_eq!(call(&mut m, far, 0x80_0000, &[0; 9]), Err(Refusal::BadIdentifier));
+        }
+        for header in [std(0x7FF), ext(0x1FFF_FFFF)] {
+            assert_eq!(call(&mut m, header, 0x80_0000, &[0; 9]), Err(Refusal::BadSetting));
+            assert_eq!(call(&mut m, header, u32::MAX, &[0; 9]), Err(Refusal::BadSetting));
+            assert_eq!(call(&mut m, header, 0x7F_FFFF, &[0; 9]), Err(Refusal::BadPayload));
+        }
+        for len in 9..=72 {
+            let is_length = matches!(len, 12 | 16 | 20 | 24 | 32 | 48 | 64);
+            assert_eq!(call(&mut m, HEADER, 0, &[0; 72][..len]), Err(Refusal::BadPayload));
+            assert!(is_length || call(&mut m, Header { fdf: true, ..HEADER }, 0, &[0; 72][..len]) == Err(Refusal::BadPayload));
+        }
+    }
+    let wide = [8, 32, 0x100, 0x1_0001, u32::MAX];
+    for n in wide {
+        for c in [
+            TxQueueConfiguration { plsize: n, ..queue() },
+            TxQueueConfiguration { txpri: n.max(32), ..queue() },
+            TxQueueConfiguration { txat: n.max(4), ..queue() },
+            TxQueueConfiguration { size: 0, plsize: n, ..queue() },
+        ] {
+            assert_eq!(m.configure_tx_queue(Some(c)), Err(Refusal::BadSetting), "{c:?}");
+        }
+    }
+    assert_eq!(m.configure_tx_queue(Some(TxQueueConfiguration { size: 0, ..queue() })), Err(Refusal::BadSetting));
+    assert_eq!(m.configure_tx_queue(Some(TxQueueConfiguration { txat: 4, ..queue() })), Err(Refusal::BadSetting));
+    assert_eq!((m.line.exchanges, m.line.chip.model == before), (0, true));
+    m.set_op_mode(4).unwrap();
+    for (size, fsize) in [(1, 0), (31, 30), (32, 31), (33, 31), (0x101, 31), (u32::MAX, 31)] {
+        assert_eq!(m.configure_tx_queue(Some(TxQueueConfiguration { size, ..queue() })), Ok(()));
+        assert_eq!(m.read_register(0x050).unwrap() >> 24, fsize);
+    }
+}
+
+/// The queue lies before FIFO 1 where it is on, and counts among what has to fit into RAM; where it is off it has no place, and its status
+/// and its user address read 0.
+#[test]
+fn the_queue_in_ram() {
+    // user address of FIFO 1, and the queue's status and user address
+    let shown = |m: &mut Driver| [0x064, 0x054, 0x058].map(|address| m.read_register(address).unwrap());
+    assert_eq!((shown(&mut prepared()), shown(&mut queued())), ([0, 0, 0], [64, 5, 0]));
+    // 12 slots of 72 bytes, then FIFO 1 of 4 x 16 and so on; the third slot
+    let mut m = with_queue(Some(TxQueueConfiguration { size: 12, plsize: 7, ..queue() }));
+    assert_eq!((m.queue_push(HEADER, 1, &BYTES), m.queue_push(HEADER, 2, &BYTES)), (Ok(()), Ok(())));
+    assert_eq!(shown(&mut m), [12 * 72, 1, 2 * 72]);
+    // FIFOs 1 to 3 have 64, 152 and 32 bytes here, 4 to 31 have 16 each: 1,352 are left, 18 slots of 72
+    for (size, n) in [(18, 0), (19, 12)] {
+        let mut m = prepared();
+        let deep = TxQueueConfiguration { size, plsize: 7, ..queue() };
+        assert_eq!((m.set_op_mode(4), m.configure_tx_queue(Some(deep)), told(m.set_op_mode(0))), (Ok(()), Ok(()), n));
+        assert_eq!(m.line.chip.no_layout, u32::from(n == 12));
+        assert_eq!((m.set_op_mode(4), m.configure_tx_queue(None), m.set_op_mode(0)), (Ok(()), Ok(()), Ok(())));
+    }
+}
+
+/// TXQEN changes only in Configuration, and so do size and payload size; `configure` turns the queue off; Configuration empties it.
+#[test]
+fn the_queue_on_and_off() {
+    let is_on = |m: &mut Driver| m.read_register(0x000).unwrap() & 0x0010_0000 != 0;
+    let other = TxQueueConfiguration { size: 2, plsize: 3, txpri: 9, txat: 1, txatie: true, empty: true, notfull: true };
+    // outside: priority, TXAT and the enables are taken, and nothing else
+    let mut m = queued();
+    assert_eq!((m.queue_push(HEADER, 1, &BYTES), m.configure_tx_queue(None), is_on(&mut m)), (Ok(()), Ok(()), true));
+    assert_eq!((m.configure_tx_queue(Some(other)), m.read_register(0x050)), (Ok(()), Ok(0x0329_0095)));
+    assert_eq!((slots(&m), m.queue_push(HEADER, 2, &BYTES), slots(&m)), ([1, 0, 0, 0], Ok(()), [1, 2, 0, 0]));
+    let mut m = prepared();
+    assert_eq!((m.configure_tx_queue(Some(queue())), is_on(&mut m)), (Ok(()), false));
+    m.line.exchanges = 0;
+    assert_eq!((m.queue_push(HEADER, 1, &BYTES), m.line.exchanges), (Err(Refusal::TxQueueDisabled), 1));
+    assert_eq!((m.queue_request(), m.line.chip.held_queue(), sent(&mut m)), (Ok(()), 0, 0));
+    // entering Configuration
+    let mut m = queued();
+    assert_eq!((m.queue_push(HEADER, 1, &BYTES), m.queue_request(), m.set_op_mode(4)), (Ok(()), Ok(()), Ok(())));
+    assert_eq!((m.line.chip.held_queue(), m.read_register(0x050).unwrap() & 0x200, m.set_op_mode(0)), (0, 0, Ok(())));
+    assert_eq!((sent(&mut m), m.queue_push(HEADER, 2, &BYTES), slots(&m)), (0, Ok(()), [2, 0, 0, 0]));
+    // FRESET
+    assert_eq!((m.modify_register(0x050, 0, 0x400), slots(&m), m.line.chip.held_queue()), (Ok(()), [0; 4], 0));
+    // turned off by `configure`, and on again behind it
+    let mut m = queued();
+    assert_eq!((m.configure(settings(false)), is_on(&mut m), m.configure_tx_queue(Some(other))), (Ok(()), false, Ok(())));
+    assert_eq!((is_on(&mut m), m.read_register(0x050).unwrap() >> 24, m.set_op_mode(0)), (true, 0x61, Ok(())));
+    // a mode that was asked for and not granted is asked for again by the call's first write, and its second finds the sizes frozen
+    let mut m = prepared();
+    let deep = FifoConfiguration { size: 32, plsize: 7, ..sender() };
+    assert_eq!((m.set_op_mode(4), m.configure_fifo(1, deep), told(m.set_op_mode(0))), (Ok(()), Ok(()), 12));
+    assert_eq!((m.configure_fifo(1, sender()), m.get_op_mode()), (Ok(()), Ok(4)));
+    let mut careful = on(m.line.chip.clone());
+    assert_eq!((m.configure_tx_queue(Some(queue())), m.get_op_mode(), m.read_register(0x050).unwrap() >> 24), (Ok(()), Ok(0), 0));
+    assert_eq!((careful.set_op_mode(4), careful.configure_tx_queue(Some(queue())), careful.get_op_mode()), (Ok(()), Ok(()), Ok(4)));
+    assert_eq!(careful.read_register(0x050).unwrap() >> 24, 3);
+}
+
+/// An unchecked push with room is held as a checked one is; with none it overwrites the message that was pushed last; with the queue off,
+/// or a payload beyond its slot, what else lies there.
+#[test]
+fn unchecked() {
+    let (mut m, mut other) = (queued(), queued());
+    for seq in 1..=4 {
+        let header = std(0x700 - seq);
+        assert_eq!((m.queue_push(header, seq, &BYTES), other.queue_push_unchecked(header, seq, &BYTES)), (Ok(()), Ok(())));
+        assert_eq!(m.line.chip.model, other.line.chip.model);
+    }
+    assert_eq!((m.queue_push_unchecked(std(0x700), 5, &BYTES), slots(&m), m.line.chip.held_queue()), (Ok(()), [1, 2, 3, 5], 4));
+    // refused, and overwritten all the same: the RAM write is exchange 2
+    for k in 3..=4 {
+        m.line.exchanges = 0;
+        m.line.fail_at = k;
+        assert_eq!((m.queue_push_unchecked(HEADER, 3 + k, &BYTES), slots(&m)), (Err(Refusal::SpiRead), [1, 2, 3, 3 + k]));
+    }
+    m.line.fail_at = 0;
+    assert_eq!((m.queue_request(), sent(&mut m)), (Ok(()), 7)); // 123, the smallest
+    assert_eq!((m.queue_push_unchecked(HEADER, 8, &BYTES), slots(&m)), (Ok(()), [1, 2, 3, 8]));
+    // off: the message that FIFO 1 holds in RAM 0x400 is another
+    let mut m = prepared();
+    assert_eq!((m.push(1, HEADER, 1, &BYTES), m.queue_push_unchecked(std(0x124), 2, &BYTES)), (Ok(()), Ok(())));
+    assert_eq!((m.line.chip.held_queue(), m.line.chip.held(1)), (0, Ok(1)));
+    assert_eq!(m.line.chip.held_at(1, 0).unwrap().unwrap().frame.seq, 2);
+    // 12 bytes in a slot for 8: its message is no frame, and the next slot's first word is overwritten
+    let (mut m, fd) = (queued(), Header { fdf: true, ..HEADER });
+    for seq in 1..=3 {
+        assert_eq!(m.queue_push(std(0x200 + seq), seq, &BYTES), Ok(()));
+    }
+    assert_eq!((m.queue_request(), sent(&mut m), m.queue_push(std(0x300), 4, &BYTES)), (Ok(()), 1, Ok(())));
+    assert_eq!(slots(&m), [0, 2, 3, 4]);
+    assert_eq!(m.queue_push_unchecked(fd, 5, &[0; 12]), Ok(()));
+    let reading = |m: &Driver, k| m.line.chip.held_queue_at(k).map(|slot| (slot.reading, slot.frame.header.id));
+    assert_eq!((reading(&m, 0), reading(&m, 1)), (Some((Reading::Short, 0)), Some((Reading::Whole, 0))));
+    // it takes part in arbitration by its identifier bits: 0 of the spoilt one, then 123, which is no frame
+    assert_eq!((sent(&mut m), m.line.chip.send_queue().0, sent(&mut m), sent(&mut m)), (2, Sending::NoFrame, 3, 4));
+}
+
 /// Filter 0 as `filter()` sets it up: control of filters 0 to 3, of which its byte is cared for; its object; its mask.
 const FILTER: [Watch; 3] = [
     Watch { address: 0x1D0, wanted: 0x0000_0082, care: 0x0000_00FF },
@@ -636,8 +1073,10 @@ fn scrubbed_in_turn() {
 /// has beside them.
 #[test]
 fn every_flipped_bit() {
-    // FIFO 4's control, which no other call set up, and those that only hold what is written
-    for (address, kept) in [(0x004, !0), (0x00C, !0), (0x01C, !0), (0x1F0, !0), (0x2EC, !0), (0xE04, !0), (0x080, 0x1F00_0000)] {
+    // control of FIFO 4 and of the queue, which no other call set up, and those that only hold what is written
+    for (address, kept) in
+        [(0x004, !0), (0x00C, !0), (0x01C, !0), (0x1F0, !0), (0x2EC, !0), (0xE04, !0), (0x080, 0x1F00_0000), (0x050, 0x1F00_0000)]
+    {
         let mut m = filtering();
         m.set_op_mode(4).unwrap();
         let right = m.read_register(address).unwrap();
@@ -892,7 +1331,7 @@ fn mismatches_scrubbed_of_ones_own() {
     assert_eq!(over(visit), unread(Refusal::CrcMismatch));
 }
 
-/// The registers of document 01, by their addresses.
+/// The registers of document 01 and the transmit queue's three, by their addresses.
 fn is_carried(a: u32) -> bool {
     a % 4 == 0 && matches!(a, 0x000..=0x00C | 0x014 | 0x01C | 0x050..=0x2EC | 0xE00 | 0xE04)
 }
@@ -993,8 +1432,10 @@ fn lent_bytes() {
 
 /// A call, how many bytes of `tx` and of `rx` it needs, and what it is refused by where `tx` is too short for its longest exchange.
 type Scratch = (fn() -> Call, [usize; 2], u32);
-const SCRATCH: [Scratch; 5] = [
+const SCRATCH: [Scratch; 7] = [
     (|| push(1, HEADER, 5, &BYTES), [18, 4], 2), // the command's 2 and the object's 16
+    (|| queue_push(HEADER, 5, &BYTES), [18, 4], 2),
+    (|| queue_push_unchecked(HEADER, 5, &BYTES), [18, 4], 2),
     (|| get(3, 64), [6, 8], 1),
     (|| write_ram(0x400, 8), [10, 0], 2),
     (|| read_ram(0x400, 64, 3, 60), [2, 60], 1),
@@ -1007,7 +1448,7 @@ fn short_scratch() {
     for room in 0..=80 {
         for (start, [tx, rx], failed) in SCRATCH {
             let run = |tx_room: usize, rx_room: usize| {
-                let (mut m, mut buf) = (prepared(), [0x5A; 64]);
+                let (mut m, mut buf) = (queued(), [0x5A; 64]);
                 let (tx, rx) = (&mut [0; 80][..tx_room], &mut [0; 80][..rx_room]);
                 let end = run(&mut m.line, start(), &BYTES, &mut buf, tx, rx);
                 (end, buf == [0x5A; 64], m.line.exchanges)

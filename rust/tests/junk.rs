@@ -1,9 +1,9 @@
 //! Random calls with random numbers over a line that answers junk, fails and otherwise is the modelled chip. None may panic, send what is
 //! no instruction, go on after a failed exchange, change a byte where it is refused, be refused for what the documents do not have for it,
 //! find a message whose length is not what its DLC means, leave a scrubber where it does not belong, count other mismatches than the
-//! answers had, or take more turns than it said.
+//! answers had, or take more turns than it said. What the transmit queue sends it has held.
 use masevuru::calls::*;
-use masevuru::chip::{Chip, Decoded, Delivery, Reading, Sorted};
+use masevuru::chip::{Chip, Decoded, Delivery, Reading, Sending, Sorted};
 use masevuru::*;
 
 #[derive(Clone)]
@@ -100,7 +100,7 @@ impl Line for Junk {
 /// For each call: how many exchanges at most, whatever is answered; what a failed one is refused by; what else it is refused by. Of a scrub
 /// also what its report tells.
 type Row = (&'static str, u32, &'static [u32], &'static [u32]);
-const ROWS: [Row; 25] = [
+const ROWS: [Row; 29] = [
     ("reset", 1, &[2], &[]),
     ("read_register", 1, &[1], &[24]),
     ("write_register", 1, &[1], &[24]),
@@ -126,6 +126,10 @@ const ROWS: [Row; 25] = [
     ("peek", 7, &[1], &[20, 28, 9, 25, 3]),
     ("get", 9, &[1], &[20, 28, 9, 25, 3]),
     ("scrub", 7, &[1], &[32, 33, 10]),
+    ("configure_tx_queue", 4, &[11], &[24]),
+    ("queue_push", 6, &[1, 2], &[21, 24, 22, 34, 7, 8, 25, 3]),
+    ("queue_push_unchecked", 4, &[1, 2], &[21, 24, 22, 25, 3]),
+    ("queue_request", 2, &[1], &[]),
 ];
 
 /// Tested before the first exchange: of 3, 4 and 5 those of the RAM calls.
@@ -217,6 +221,7 @@ struct Given {
     header: Header,
     settings: Settings,
     area: FifoConfiguration,
+    queue: Option<TxQueueConfiguration>,
     filter: FilterConfiguration,
     list: Vec<Watch>,
     rewrite: bool,
@@ -267,18 +272,28 @@ fn given(l: &mut Junk) -> Given {
             plsize: to(b, 8),
             mode: if flags[6] { FifoMode::Transmit(tx) } else { FifoMode::Receive(rx) },
         },
+        queue: (l.below(4) != 0).then_some(TxQueueConfiguration {
+            size: to(a, 33),
+            plsize: to(b, 8),
+            txpri: to(c, 32),
+            txat: to(b, 4),
+            txatie,
+            empty,
+            notfull,
+        }),
         filter: FilterConfiguration { fifo: to(c, 32), mode: kind, object, mask },
         list: watched(l, fits),
         rewrite: l.flag(),
     }
 }
 
-/// A chip outside Configuration with four FIFOs, two of which send, so that calls have something to do.
+/// A chip outside Configuration with four FIFOs, two of which send, and often the transmit queue, so that calls have something to do.
 fn settle(mcp: &mut Mcp<Junk>) {
     mcp.line = Junk { rough: 0, ..Junk::new(mcp.line.seed) };
     while mcp.line.chip.model.fixed.configuring {
         let g = given(&mut mcp.line);
         let _ = mcp.configure(g.settings);
+        let _ = mcp.configure_tx_queue(g.queue.map(|c| TxQueueConfiguration { size: 1 + g.a % 4, ..c }));
         for n in 1..=4 {
             let g = given(&mut mcp.line);
             let _ = mcp.configure_fifo(n, FifoConfiguration { size: 1 + g.a % 4, ..g.area });
@@ -293,14 +308,14 @@ fn a_hundred_thousand() {
     let mut mcp = Mcp::new(Junk::new(0x9E37_79B9_7F4A_7C15));
     let bytes: Vec<u8> = (0..4096).map(|i| i as u8).collect();
     let (mut buf, before) = (vec![0x5Au8; 4096], vec![0x5Au8; 4096]);
-    let (mut counts, mut sorted, mut coded) = ([0u32; 34], [0u32; 37], [0u32; 16]);
-    let (mut scrubber, mut seen, mut mismatched) = (Scrubber { place: 0 }, [0u32; 4], [0u32; 3]);
+    let (mut counts, mut sorted, mut coded) = ([0u32; 35], [0u32; 37], [0u32; 16]);
+    let (mut scrubber, mut seen, mut mismatched, mut queued) = (Scrubber { place: 0 }, [0u32; 4], [0u32; 3], [0u32; 3]);
     for i in 0..100_000 {
         if i % 64 == 0 {
             settle(&mut mcp);
         }
         let g = given(&mut mcp.line);
-        let (call, room) = (mcp.line.below(25), g.len * 4 % 4096);
+        let (call, room) = (mcp.line.below(29), g.len * 4 % 4096);
         mcp.line.rough = [4, 16, 64][mcp.line.below(3)];
         (mcp.line.asked, mcp.line.mismatched, mcp.line.failed) = (0, 0, false);
         // how many bytes at the front of `buf` a call that is done has filled
@@ -348,6 +363,10 @@ fn a_hundred_thousand() {
                 }
                 answer.and_then(reported)
             }
+            25 => mcp.configure_tx_queue(g.queue),
+            26 => mcp.queue_push(g.header, g.b % 0x80_0000, &bytes[..g.len]),
+            27 => mcp.queue_push_unchecked(g.header, g.b, &bytes[..g.len]),
+            28 => mcp.queue_request(),
             _ => {
                 let lent = &mut buf[..room];
                 let found = if call == 22 { mcp.peek(g.fifo, lent) } else { mcp.get(g.fifo, lent) };
@@ -359,7 +378,7 @@ fn a_hundred_thousand() {
             }
         };
         judge(call, answer, &mcp.line);
-        assert!(filled <= if call > 21 { 64 } else { g.len });
+        assert!(filled <= if matches!(call, 22 | 23) { 64 } else { g.len });
         assert!(!matches!(call, 22 | 23) || answer.is_err() || room >= 64, "done with a buffer of {room}");
         assert_eq!(buf[filled..], before[filled..], "{} changed what it was not to fill", ROWS[call].0);
         buf[..filled].fill(0x5A);
@@ -368,6 +387,7 @@ fn a_hundred_thousand() {
         let g = given(&mut mcp.line);
         let (chip, frame) = (&mut mcp.line.chip, &bytes[..g.brought]);
         let _ = chip.send(g.fifo);
+        queued[sent_from_queue(chip)] += 1;
         let delivery = chip.deliver(g.fifo, g.header, g.dlc, g.c, frame);
         assert!(delivery != Delivery::Delivered || is_brought(newest(chip, g.fifo), &g, frame));
         let s = chip.sort(g.header, g.dlc, g.c, frame);
@@ -381,9 +401,30 @@ fn a_hundred_thousand() {
     assert!(!coded.contains(&0), "classic messages with each DLC: {coded:?}");
     assert!(!seen.contains(&0), "entries that agree, differ, were rewritten, were not read: {seen:?}");
     assert!(!mismatched.contains(&0), "checked reads behind 0, 1 and 2 mismatches: {mismatched:?}");
+    assert!(!queued.contains(&0), "sent from the queue: nothing, a frame, no frame: {queued:?}");
     for (n, count) in counts.iter().enumerate() {
         let is_never = matches!(n, 15..=19 | 23 | 26 | 27 | 29..=31);
         assert_eq!(*count == 0, is_never, "{n} was answered {count} times: {counts:?}");
+    }
+}
+
+/// The queue's turn on the bus: 0 where it sends nothing, 1 for a frame, 2 for what is no frame. What goes was held in a slot, and no other
+/// slot has lost its message; nothing goes only where nothing is held or requested.
+fn sent_from_queue(chip: &mut Chip) -> usize {
+    let held = |chip: &Chip| -> Vec<_> { (0..32).map(|k| chip.held_queue_at(k)).collect() };
+    let (before, is_requested) = (held(chip), chip.model.queue.control & 0x200 != 0);
+    let (sending, frame) = chip.send_queue();
+    let after = held(chip);
+    let gone: Vec<_> = before.iter().zip(&after).filter(|(b, a)| b != a).collect();
+    assert_eq!(chip.held_queue() as usize, after.iter().flatten().count());
+    match (sending, &gone[..]) {
+        (Sending::Nothing, []) => {
+            assert!(!is_requested || before.iter().all(Option::is_none));
+            0
+        }
+        (Sending::Frame, [(Some(Decoded { reading: Reading::Whole, frame: held }), None)]) if *held == frame => 1,
+        (Sending::NoFrame, [(Some(Decoded { reading: Reading::NoFrame | Reading::Short, .. }), None)]) => 2,
+        _ => panic!("{sending:?}, {gone:?}"),
     }
 }
 
@@ -451,6 +492,10 @@ fn started(call: usize, g: &Given, bytes: &[u8]) -> Call {
         22 => peek(g.fifo, g.len),
         23 => get(g.fifo, 64),
         24 => scrub(Scrubber { place: g.dlc as usize }, &g.list, g.rewrite),
+        25 => configure_tx_queue(g.queue.map_or(TxQueueSetting::Off, TxQueueSetting::On)),
+        26 => queue_push(g.header, g.b, &bytes[..g.len]),
+        27 => queue_push_unchecked(g.header, g.b, &bytes[..g.len]),
+        28 => queue_request(),
         _ => read_ram(g.a, g.b as usize, g.c as usize, g.len),
     }
 }
@@ -493,7 +538,7 @@ fn any_buffers() {
         }
         let l = &mut mcp.line;
         l.rough = [4, 16, 64][l.below(3)];
-        let (g, number) = (given(l), l.below(26));
+        let (g, number) = (given(l), l.below(30));
         let call = started(number, &g, &bytes);
         let [lent, room, tx, rx] = core::array::from_fn(|_| if l.flag() { l.below(140) } else { l.below(4096) });
         let (mut buf, mut own, before) = (vec![0x5Au8; room], vec![0x5Au8; room], vec![0x5Au8; room]);
@@ -514,7 +559,7 @@ fn any_answers() {
     let mut l = Junk::new(0x0FED_CBA9_8765_4321);
     let bytes: Vec<u8> = (0..4096).map(|i| i as u8).collect();
     for _ in 0..20_000 {
-        let (g, number, wild) = (given(&mut l), l.below(26), l.flag());
+        let (g, number, wild) = (given(&mut l), l.below(30), l.flag());
         let mut call = started(number, &g, &bytes);
         let (mut tx, mut rx, mut left) = ([0; 2050], [0; 140], turns(call));
         loop {
@@ -539,7 +584,7 @@ fn any_answers() {
         assert!(end != Outcome::Running);
         assert!(matches!(end, Outcome::Message(_) | Outcome::Done) || buf == vec![0x5Au8; room], "{end:?} changed what was lent");
         assert!(is_as_meant(end), "{end:?}");
-        assert!(!accepted(call) || matches!(number, 18 | 20));
+        assert!(!accepted(call) || matches!(number, 18 | 20 | 26 | 27));
         let place = if number == 24 { g.dlc as usize } else { 0 };
         let expected = if let Outcome::Scrubbed(_) = end { due(place, &g.list).1 } else { place };
         assert!(scrubber(call).place == expected && (number == 24 || !matches!(end, Outcome::Scrubbed(_))));
