@@ -213,7 +213,7 @@ pub mod calls {
     pub use crate::proved::driver::Numbers;
     /// How a call ended; `Running` where it has not. `Checked`: the word of a checked read, and how many exchanges mismatched before it.
     pub use crate::proved::driver::Outcome;
-    /// The transmit queue off, or on and set up so.
+    /// What [`configure_tx_queue`] is given: the transmit queue off, or on and set up so.
     pub use crate::proved::driver::TxQueueSetting;
 }
 

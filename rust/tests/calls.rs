@@ -307,7 +307,7 @@ fn turned(line: &mut Bench, start: Call, lent: &[u8]) -> (Call, Vec<u8>) {
 }
 
 /// A loop of one's own comes to what the method comes to, whichever exchange fails; the message of a push or a transmit is accepted exactly
-/// where the FIFO holds it.
+/// where the FIFO, or the queue, holds it.
 #[test]
 fn a_loop_of_ones_own() {
     for (name, call, start, parts, (fifo, ..)) in ROWS {
@@ -341,6 +341,9 @@ fn turns_at_the_start() {
     }
     let refused = [push(257, HEADER, 5, &BYTES), read_register(0x1000), set_op_mode(8), request(0), get(1, 63), write_ram(0x400, 7)];
     assert_eq!(refused.map(turns), [0; 6]);
+    let none = TxQueueSetting::On(TxQueueConfiguration { size: 0, ..queue() });
+    let refused = [configure_tx_queue(none), queue_push(std(0x800), 5, &BYTES), queue_push_unchecked(HEADER, 5, &[0; 9])];
+    assert_eq!(refused.map(turns), [0; 3]);
     let ram = Watch { address: 0x400, ..AGREES[0] };
     assert_eq!([scrub(FIRST, &[], true), scrub(FIRST, &[AGREES[0], ram], true)].map(turns), [0; 2]);
 }
