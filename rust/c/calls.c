@@ -840,9 +840,9 @@ static void overtaking(void)
     IS(queued(0x18DA00F1, 1, 5) == 0 && slots(1, 0, 3, 5) && queued(0x320, 0, 6) == 0 && slots(1, 6, 3, 5));
     IS(queued(0x011, 0, 7) == 8 && sends(0x320, 0, 1) && queued(0x011, 0, 7) == 0 && slots(7, 6, 3, 5));
     IS(sends(0x011, 0, 7) && sends(0x320, 0, 6) && sends(0x320, 0, 3) && slots(0, 0, 0, 5));
-    /* 18DA00F1 has the base 636 and the low bits 200F1. */
-    IS(queued(0x18DA00F0, 1, 8) == 0 && queued(0x636, 0, 9) == 0 && queued(0x637, 0, 10) == 0 && slots(8, 9, 10, 5));
-    IS(sends(0x636, 0, 9) && sends(0x18DA00F0, 1, 8) && sends(0x18DA00F1, 1, 5) && sends(0x637, 0, 10) && sends(0, 0, 0));
+    /* 18D80000 and 18DA00F1 have the base 636, and the low bits 0 and 200F1. */
+    IS(queued(0x18D80000, 1, 8) == 0 && queued(0x636, 0, 9) == 0 && queued(0x18DA00F2, 1, 10) == 0 && slots(8, 9, 10, 5));
+    IS(sends(0x636, 0, 9) && sends(0x18D80000, 1, 8) && sends(0x18DA00F1, 1, 5) && sends(0x18DA00F2, 1, 10) && sends(0, 0, 0));
     IS(held(QUEUE) == 0 && queued(0x001, 0, 11) == 0 && sends(0, 0, 0)); /* empty: TXREQ was 0 again */
     IS(mcp_queue_request(&line) == 0 && sends(0x001, 0, 11));
     /* Slots that there are not, 256 is 0 in a byte. */
