@@ -1,7 +1,9 @@
-// What stands between calls: bus steps, raw exchanges, what a FIFO holds, a new chip. Each is done and written.
+// What stands between calls: bus steps, raw exchanges, what a FIFO or the transmit queue holds, a new chip. Each is done and written.
 use bus::Delivery;
 use bus::Sending;
+use bus::Sent;
 use header::Dlc;
+use message::Decoded;
 use message::Frame;
 use message::Reading;
 use model::Heard;
@@ -54,8 +56,7 @@ fn answered(words: &[u8], answer: &[u8]) {
     write_line(answer);
 }
 
-fn sent(m: Model, words: &[u8], numbers: &[u64]) -> Model {
-    let s = bus::send(m, starts::word(numbers, 0));
+fn sent(s: Sent, words: &[u8]) -> Model {
     let sending = s.sending;
     let f = s.frame;
     let mut out = [0u8; 256];
@@ -115,7 +116,8 @@ fn sorted(m: Model, words: &[u8], coded: bool, numbers: &[u64], lent: &[u8]) -> 
 pub fn bus_step(m: Model, s: Spoken, words: &[u8], numbers: &[u64], lent: &[u8]) -> Model {
     let row = s.row;
     match row {
-        script::SEND => sent(m, words, numbers),
+        script::SEND => sent(bus::send(m, starts::word(numbers, 0)), words),
+        script::SEND_QUEUE => sent(bus::send_queue(m), words),
         script::DELIVER => delivered(m, words, false, numbers, lent),
         script::DELIVER_CODED => delivered(m, words, true, numbers, lent),
         _ => sorted(m, words, row == script::SORT_CODED, numbers, lent),
@@ -182,19 +184,18 @@ fn is_sending(m: Model, n: u32) -> bool {
     }
 }
 
-fn item(m: Model, n: u32, k: u8) {
-    let d = bus::held_at(m, n, k);
+fn item(d: Decoded, sending: bool) {
     let reading = d.reading;
     let f = d.frame;
     let mut out = [0u8; 256];
-    let a = put_item(reading, is_sending(m, n), f, &mut out);
+    let a = put_item(reading, sending, f, &mut out);
     write_line(text::front(&out, a));
 }
 
 fn items(m: Model, n: u32, count: u8) {
     let mut k: u8 = 0;
     while k < count {
-        item(m, n, k);
+        item(bus::held_at(m, n, k), is_sending(m, n));
         k += 1;
     }
 }
@@ -216,6 +217,41 @@ fn held(m: Model, n: u32, words: &[u8]) {
     items(m, n, bus::held_len(m, n));
 }
 
+// The queue has at most 32 slots.
+fn queue_len(m: Model) -> u8 {
+    let mut n: u8 = 0;
+    let mut k: u8 = 0;
+    while k < 32 {
+        if bus::queue_holds(m, k) {
+            n += 1;
+        }
+        k += 1;
+    }
+    n
+}
+
+fn queue_item(m: Model, k: u8) {
+    if bus::queue_holds(m, k) {
+        item(bus::queue_item(m, k), true);
+    }
+}
+
+fn queue_items(m: Model) {
+    let mut k: u8 = 0;
+    while k < 32 {
+        queue_item(m, k);
+        k += 1;
+    }
+}
+
+fn held_queue(m: Model, words: &[u8]) {
+    write(words);
+    write(b" ");
+    output::number(queue_len(m) as u64);
+    write(b"\n");
+    queue_items(m);
+}
+
 pub fn new_chip() -> Model {
     state::reset([0u8; 2048])
 }
@@ -228,7 +264,8 @@ pub fn between(m: Model, s: Spoken, words: &[u8], numbers: &[u64], lent: &[u8]) 
         | script::DELIVER
         | script::DELIVER_CODED
         | script::SORT
-        | script::SORT_CODED => bus_step(m, s, words, numbers, lent),
+        | script::SORT_CODED
+        | script::SEND_QUEUE => bus_step(m, s, words, numbers, lent),
         script::RAW => raw(
             m,
             text::front(lent, starts::number(numbers, 0) as usize),
@@ -236,6 +273,10 @@ pub fn between(m: Model, s: Spoken, words: &[u8], numbers: &[u64], lent: &[u8]) 
         ),
         script::HELD => {
             held(m, starts::word(numbers, 0), words);
+            m
+        }
+        script::HELD_QUEUE => {
+            held_queue(m, words);
             m
         }
         _ => {

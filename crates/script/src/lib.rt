@@ -29,15 +29,19 @@ pub const SORT: usize = 3;
 
 pub const SORT_CODED: usize = 4;
 
-pub const RAW: usize = 5;
+pub const SEND_QUEUE: usize = 5;
 
-pub const HELD: usize = 6;
+pub const RAW: usize = 6;
 
-pub const NEW: usize = 7;
+pub const HELD: usize = 7;
 
-pub const FAIL: usize = 5;
+pub const HELD_QUEUE: usize = 8;
 
-pub const ANSWER: usize = 6;
+pub const NEW: usize = 9;
+
+pub const FAIL: usize = 6;
+
+pub const ANSWER: usize = 7;
 
 // The number of the exchange that an @ line is about.
 pub fn exchange_of(line: &[u8]) -> Number {
@@ -53,7 +57,7 @@ pub fn exchange_of(line: &[u8]) -> Number {
 pub fn note_of(line: &[u8], numbers: &mut [u64], lent: &mut [u8]) -> Line {
     spoken::row_of(
         text::rest(line, 1),
-        b"send d deliver difhb deliver difhbd sort ifhb sort ifhbd fail - answer b",
+        b"send d deliver difhb deliver difhbd sort ifhb sort ifhbd send q fail - answer b",
         numbers,
         lent,
     )
@@ -77,7 +81,8 @@ fn call(line: &[u8], numbers: &mut [u64], lent: &mut [u8]) -> Entry {
 }
 
 fn step(line: &[u8], numbers: &mut [u64], lent: &mut [u8]) -> Entry {
-    let table = b"send d deliver difhb deliver difhbd sort ifhb sort ifhbd raw bd held d new -";
+    let table =
+        b"send d deliver difhb deliver difhbd sort ifhb sort ifhbd send q raw bd held d held q new -";
     match spoken::row_of(line, table, numbers, lent) {
         Line::Row(s) => Entry::Step(s),
         Line::Bad(f) => Entry::Bad(f),

@@ -82,6 +82,7 @@ fn argument(letter: u8, w: &[u8], lent: &mut [u8]) -> Number {
         b't' => choice(w, b"tx"),
         b'r' => choice(w, b"rx"),
         b'o' => choice(w, b"off"),
+        b'q' => choice(w, b"queue"),
         b'w' => choice(w, b"report rewrite"),
         b'a' => choice(w, b"back"),
         b'u' => choice(w, b"unread"),
@@ -181,8 +182,9 @@ fn nearer(a: Fault, b: Fault) -> Fault {
 }
 
 // The first row of a table that is the line's. A row is a name, the line's first word, and a letter for each word that follows it: d
-// decimal, h hex, i identifier, f flags, b bytes, m std, ext or both, k std or ext, s timestamp; t, r, o, a and u are the words tx, rx,
-// off, back and unread; - is no word. The row we is report or rewrite, and behind it entries, any number up to 256, none included.
+// decimal, h hex, i identifier, f flags, b bytes, m std, ext or both, k std or ext, s timestamp; t, r, o, q, a and u are the words tx,
+// rx, off, queue, back and unread; - is no word. The row we is report or rewrite, and behind it entries, any number up to 256, none
+// included.
 pub fn row_of(line: &[u8], table: &[u8], numbers: &mut [u64], lent: &mut [u8]) -> Line {
     let n = text::count(table) / 2;
     let mut fault = Fault::Name;
@@ -205,7 +207,7 @@ pub fn row_of(line: &[u8], table: &[u8], numbers: &mut [u64], lent: &mut [u8]) -
 // A call's line, `call NAME ARGS...`.
 pub fn understood(line: &[u8], numbers: &mut [u64], lent: &mut [u8]) -> Line {
     let table =
-        b"reset - get_op_mode - read_register h checked_read h write_register hh verify_long - read_ram hd write_ram hb verify - modify_register hhh set_op_mode d configure_osc dd configure_io dddd configure_bit_timing ddddddddd configure dddddddddddddddddddd configure_fifo dddtddddddd configure_fifo dddrddddd configure_filter do configure_filter ddmii request d push difdb transmit difdb has_next d peek d get d scrub we";
+        b"reset - get_op_mode - read_register h checked_read h write_register hh verify_long - read_ram hd write_ram hb verify - modify_register hhh set_op_mode d configure_osc dd configure_io dddd configure_bit_timing ddddddddd configure dddddddddddddddddddd configure_fifo dddtddddddd configure_fifo dddrddddd configure_filter do configure_filter ddmii request d push difdb transmit difdb has_next d peek d get d scrub we configure_tx_queue o configure_tx_queue ddddddd queue_push ifdb queue_push_unchecked ifdb queue_request -";
     row_of(text::rest(line, 1), table, numbers, lent)
 }
 

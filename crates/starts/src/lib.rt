@@ -2,6 +2,7 @@
 // its parameter becomes the parameter's largest, which the call refuses by the same number.
 mod fifos;
 mod plans;
+mod queue;
 mod scrubbing;
 mod setup;
 mod simple;
@@ -34,5 +35,8 @@ pub fn start(row: usize, a: &[u64], lent: &[u8]) -> Call {
     if row < SCRUB {
         return fifos::fifo_call(row, a, lent);
     }
-    scrubbing::scrub_call(a, lent)
+    if row == SCRUB {
+        return scrubbing::scrub_call(a, lent);
+    }
+    queue::queue_call(row, a, lent)
 }

@@ -22,12 +22,12 @@ use driver::RxFifo;
 use driver::Settings;
 use driver::TxFifo;
 
-fn is_on(a: &[u64], k: usize) -> bool {
+pub fn is_on(a: &[u64], k: usize) -> bool {
     number(a, k) == 1
 }
 
 // Whether the arguments from `from` up to `to` are each 0 or 1.
-fn are_flags(a: &[u64], from: usize, to: usize) -> bool
+pub fn are_flags(a: &[u64], from: usize, to: usize) -> bool
     requires { ⌜ from ≤ to ⌝ }
 {
     let mut i = from;
@@ -136,7 +136,7 @@ pub fn configure_call(a: &[u64]) -> Call {
 }
 
 // A number that no field holds, where a yes or no was neither.
-fn spoilt(good: bool, n: u32) -> u32 {
+pub fn spoilt(good: bool, n: u32) -> u32 {
     if good { n } else { 0xFFFF_FFFF }
 }
 
