@@ -29,8 +29,8 @@ pub const LENGTH: u8 = 5;
 // A header field that document 01 does not carry.
 pub const ABSENT: u8 = 6;
 
-// What was seen of a case so far. `row` is the call's in `spoken`. Of the calls on RAM `address` and `size` are the arguments, of push
-// and transmit `size` is the payload's, of the two calls on bit timing it is TDCO. `asked` counts the exchanges; the others are of
+// What was seen of a case so far. `row` is the call's in `spoken`. Of the calls on RAM `address` and `size` are the arguments, of the
+// pushes and transmit `size` is the payload's, of the two calls on bit timing it is TDCO. `asked` counts the exchanges; the others are of
 // their answers: whether CiTDC's word makes a difference, the user address word, a header's second word, whether a timestamp follows.
 pub struct Seen {
     pub row: usize,
@@ -65,6 +65,9 @@ fn is_wide(row: usize, a: &[u64]) -> bool {
         16 => at(a, 1) == 0,
         20 => 0x7F_FFFF < at(a, 3),
         21 => 0x7F_FFFF < at(a, 3),
+        27 => at(a, 0) == 0 || 31 < at(a, 2),
+        28 => 0x7F_FFFF < at(a, 2),
+        29 => 0x7F_FFFF < at(a, 2),
         _ => false,
     }
 }
@@ -77,6 +80,8 @@ fn size_of(row: usize, a: &[u64]) -> u64 {
         14 => at(a, 14),
         20 => at(a, 4),
         21 => at(a, 4),
+        28 => at(a, 3),
+        29 => at(a, 3),
         _ => 0,
     }
 }
@@ -129,13 +134,22 @@ fn word_at(rx: &[u8], start: usize) -> u32 {
     0
 }
 
+// Which exchange reads the user address: of a FIFO the third, in the queue's checked push the fourth, in the other the first.
+fn user_read(row: usize) -> u32 {
+    match row {
+        28 => 4,
+        29 => 1,
+        _ => 3,
+    }
+}
+
 // After the answer to an exchange.
 pub fn answered(s: Seen, rx: &[u8]) -> Seen {
     let mut t = s;
     if s.delay {
         t.cut = is_cut(s.size, word_at(rx, 0));
     }
-    if s.asked == 3 {
+    if s.asked == user_read(s.row) {
         t.user = word_at(rx, 0);
     }
     if s.asked == 4 {
@@ -219,7 +233,7 @@ fn is_timing(row: usize) -> bool {
 }
 
 fn is_push(row: usize) -> bool {
-    row == 20 || row == 21
+    row == 20 || row == 21 || row == 28 || row == 29
 }
 
 fn is_fetch(row: usize) -> bool {
