@@ -217,14 +217,20 @@ fn held(m: Model, n: u32, words: &[u8]) {
     items(m, n, bus::held_len(m, n));
 }
 
+// One more where slot k of the queue is held.
+fn counted(m: Model, k: u8, n: u64) -> u64 {
+    if bus::queue_holds(m, k) {
+        return output::one_more(n);
+    }
+    n
+}
+
 // The queue has at most 32 slots.
-fn queue_len(m: Model) -> u8 {
-    let mut n: u8 = 0;
+fn queue_len(m: Model) -> u64 {
+    let mut n: u64 = 0;
     let mut k: u8 = 0;
     while k < 32 {
-        if bus::queue_holds(m, k) {
-            n += 1;
-        }
+        n = counted(m, k, n);
         k += 1;
     }
     n
@@ -247,7 +253,7 @@ fn queue_items(m: Model) {
 fn held_queue(m: Model, words: &[u8]) {
     write(words);
     write(b" ");
-    output::number(queue_len(m) as u64);
+    output::number(queue_len(m));
     write(b"\n");
     queue_items(m);
 }

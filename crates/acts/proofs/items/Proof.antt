@@ -12,4 +12,7 @@ abbrev μ-loop : tie.MeasureT-loop
 μ-loop m n count k₀ k = count - k
 
 pub items-spec : {M : Type 1} → statement M
-items-spec = tie.close (tie.spec Inv-loop μ-loop (search needs) (λ c κs. search needs) (search needs) (search needs) (search needs) (search needs))
+items-spec =
+    tie.close
+    (tie.spec Inv-loop μ-loop (search needs) (λ c κs. search needs) (λ c κs. search needs) (λ c κs. search needs) (search needs) (search needs)
+    (search needs) (search needs))
