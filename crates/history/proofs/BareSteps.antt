@@ -1,21 +1,19 @@
 -- Each exchange of an unchecked push to the queue, which does not stray, keeps what is true of the FIFOs; the queue's lists it ends.
 -- Assumes nothing.
-use Prim.Native.Nat.{ℕ, _+_, _%_, _^_, _≤_, _<_}
+use Prim.Native.Nat.{ℕ, _+_, _≤_}
 use native.Mathlib.Omega.{arith}
 use mathlib.Core.Path.{_≡_, refl, sym, ap, _∙_}
 use mathlib.Core.Bool.{Bool, true, false, true≢false}
-use mathlib.Core.List.{List, [], _∷_}
+use mathlib.Core.List.{List, []}
 use lib.ListN.{length}
 use Rattle.field.specs.Field.{mark}
 use Rattle.fifo.specs.Control.{CiFIFOCON, UINC, payloadOf}
 use Rattle.parts.specs.Parts.{zeroed}
-use Rattle.words.specs.Words.{leBytes}
 use Rattle.spi.specs.declared.refusal.Refusal.{Refusal}
 use Rattle.spi.specs.declared.ask.Ask.{Ask}
 use Rattle.spi.specs.declared.ask.Answer.{Answer}
 use Rattle.header.specs.declared.Header.{Header}
 use Rattle.message.specs.Message.{Encoding, encoding}
-use Rattle.place.specs.declared.Register.{Register}
 use Rattle.call.specs.declared.Outcome.{Outcome}
 use Rattle.plan.specs.Plan.{Plan}
 use Rattle.tx_fifo.specs.PushAt.{PushAt}
@@ -28,9 +26,9 @@ use Rattle.ring.specs.Layout.{size}
 use Rattle.ring.specs.Queue as queue
 use Rattle.state.specs.declared.Model.{Model}
 use Rattle.state.specs.Model.{frozenAt, withQueue}
-use Rattle.bank.specs.Registers.{queueShown, wordOf}
+use Rattle.bank.specs.Registers.{queueShown}
 use Rattle.bus.specs.Held.{held}
-use Rattle.bus.specs.Queue.{queueDepth, queueSlot}
+use Rattle.bus.specs.Queue.{queueSlot}
 use Rattle.history.specs.Command.{Command, QueueUnchecked, started}
 use Rattle.history.specs.History.{Said, called, idle, World, hears, heard, settled, goesOn}
 use Rattle.history.specs.Demand.{NotCaused}

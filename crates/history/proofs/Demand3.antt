@@ -16,6 +16,7 @@ use Rattle.history.proofs.Winner.{queue-together, winner-sent}
 use Rattle.history.proofs.QueueExactly.{queue-push-exactly, queue-pushed-iff}
 use Rattle.history.proofs.QueueFails.{queue-push-fails}
 use Rattle.history.proofs.QueueAsked.{queue-request-exactly}
+use Rattle.history.proofs.QueueSets.{queue-enabled, queue-set-up}
 use Rattle.history.proofs.Scrubs.{flip-reported, rewrite-leaves}
 use Rattle.history.proofs.Counts.{never-mismatches, none-mismatched}
 use Rattle.history.proofs.Example as example
@@ -49,6 +50,8 @@ demand3 = record {
   queuePushedIff = λ c w g es r. queue-pushed-iff (world c w es) (fits c w g es r);
   queuePushFails = λ c w g es r. queue-push-fails (world c w es) (fits c w g es r);
   queueRequestExactly = λ c w g es r. queue-request-exactly (world c w es);
+  queueEnabled = queue-enabled;
+  queueSetUp = queue-set-up;
   flipReported = flip-reported;
   rewriteLeaves = rewrite-leaves;
   neverMismatches = never-mismatches;

@@ -2,8 +2,8 @@
 -- Assumes nothing.
 use mathlib.Core.Path.{_≡_, refl}
 use Rattle.driver.specs.Calls.{started as doorStarted}
-use Rattle.history.specs.Command.{Look, Setting, Command, looks, sets, started}
-use Rattle.history.specs.Door.{lookAt, settingAt, doorOf, kept, StartsAtDoor}
+use Rattle.history.specs.Command.{Look, Setting, Command, looks, started}
+use Rattle.history.specs.Door.{lookAt, doorOf, StartsAtDoor}
 
 looks-at-door : (x : Look) → doorStarted (lookAt x) ≡ looks x
 looks-at-door (Look.Register a) = refl

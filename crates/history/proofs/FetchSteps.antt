@@ -40,7 +40,7 @@ use Rattle.bus.specs.Held.{slotOf}
 use Rattle.history.specs.Command.{Command, HasNext, Peek, Get, lent, started}
 use Rattle.history.specs.History.{Said, called, idle, hears, heard, settled, goesOn, isOver}
 use Rattle.history.specs.Lists.{only, foundIn, acceptedIn, handedOutIn, queuedIn}
-use Rattle.history.specs.Demand.{Each, TellsWell, NotCaused, Ordinary, Told}
+use Rattle.history.specs.Demand.{NotCaused, Ordinary, Told}
 use Rattle.history.proofs.Sound.{Sound, Asked}
 use Rattle.history.proofs.Line.{spoken}
 use Rattle.history.proofs.Bus.{Listed, Moves, oldest, map-only, quiet}

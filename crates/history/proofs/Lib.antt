@@ -39,6 +39,7 @@ pub mod PushFails
 pub mod QueueExactly
 pub mod QueueFails
 pub mod QueueAsked
+pub mod QueueSets
 pub mod QueueBus
 pub mod Still
 pub mod Theorem

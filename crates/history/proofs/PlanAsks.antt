@@ -84,7 +84,6 @@ module _ (X : ℕ → Type 0) (b : List ℕ) (c : Model) (s : Sound c) where
   write-effect a w (aside h) = aside-effect a w h
   write-effect a w (controls n i e g) =
       commands n w i g (ap (λ (x : ℕ). spoken (Ask.Word x w) b c .chip) e ∙ ap (λ (x : Heard). x .chip) (tell-control b c n i w (g .0 .small)))
-
   write-effect a w (queueControl e g) =
       queued w g (ap (λ (x : ℕ). spoken (Ask.Word x w) b c .chip) e ∙ ap (λ (x : Heard). x .chip) (tell-queue b c w (g .small)))
   write-effect a w (con e g) =

@@ -108,7 +108,7 @@ fifo-spared c e = go (fifo-told c e .1) (c .mode) (fifo-told c e .2)
     go f (FifoMode.Receive r) d =
         spared (FSIZE := storedSize (c .size) ∷ PLSIZE := c .plsize ∷ directionSettings (FifoMode.Receive r)) (search (flag-fits, arith) depth 12) refl refl refl refl
 
-queue-spared : (c : TxQueueConfiguration) → queueFits c ≡ true → Spared (queueSettings c)
+pub queue-spared : (c : TxQueueConfiguration) → queueFits c ≡ true → Spared (queueSettings c)
 queue-spared c e =
     let h = queue-told c e in
     spared (queueSettings c) (search (flag-fits, arith) depth 12) refl refl refl refl

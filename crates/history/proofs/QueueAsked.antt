@@ -20,7 +20,7 @@ use Rattle.state.specs.declared.Model.{Model}
 use Rattle.bank.specs.Registers.{wordOf, queueWritten}
 use Rattle.reach.specs.Bus.{Bus}
 use Rattle.history.specs.Command.{QueueRequest}
-use Rattle.history.specs.History.{Begin, Said, called, idle, busy, World, settled, event, after}
+use Rattle.history.specs.History.{Said, called, idle, busy, World, settled, event, after}
 use Rattle.history.specs.Demand.{calm, calls, buses, answer, Ends}
 use Rattle.history.proofs.Few.{two}
 use Rattle.history.proofs.Line.{world}

@@ -1,22 +1,19 @@
 -- What a bus step does to the queue's lists.
 -- Assumes nothing.
 use Prim.Native.Nat.{ℕ, _%_, _^_}
-use mathlib.Core.Path.{_≡_, refl, sym, ap, _∙_}
+use mathlib.Core.Path.{_≡_, refl, _∙_}
 use mathlib.Core.Bool.{Bool, true, false, _&&_}
-use mathlib.Core.List.{List, [], _∷_, _++_, map, append-nil, Perm, Perm·refl, Perm·trans, Perm·append-left}
+use mathlib.Core.List.{List, [], _∷_, _++_, map, append-nil, Perm, Perm·trans, Perm·append-left}
 use borrow.Author.Tests.{leb-false, ltb-false}
-use native.Mathlib.Omega.{arith}
 use Rattle.laws.specs.If.{if_then_else_}
 use Rattle.laws.proofs.Choice.{by-if}
-use Rattle.laws.proofs.Table.{both}
 use Rattle.fifo.specs.Control.{isFifo}
 use Rattle.header.specs.declared.Header.{Header}
-use Rattle.message.specs.Message.{Message, Decoding, holds}
-use Rattle.ring.specs.declared.queue.Queue.{Queue}
+use Rattle.message.specs.Message.{Message, holds}
 use Rattle.ring.specs.Queue as queue
 use Rattle.ring.proofs.Queues.{sent-held}
 use Rattle.state.specs.declared.Model.{Model}
-use Rattle.state.specs.Model.{fifoAt, frozenAt, withQueue}
+use Rattle.state.specs.Model.{frozenAt, withQueue}
 use Rattle.bus.specs.Bus.{nothing, outputOf, sends, sendModel, give}
 use Rattle.bus.specs.Queue.{queueSlot, queueItem, heldQueue, winner, queueSends, queueOutput, queueModel}
 use Rattle.bus.proofs.QueueLaws.{queue-winner}

@@ -3,8 +3,8 @@
 use Prim.Native.Nat.{ℕ, _+_, _≤_, _<_}
 use native.Mathlib.Omega.{arith}
 use borrow.Author.Tests.{ltb-false}
-use mathlib.Core.Path.{_≡_, refl, sym, ap, subst, _∙_}
-use mathlib.Core.Bool.{Bool, true, false}
+use mathlib.Core.Path.{_≡_, refl, sym, ap, subst}
+use mathlib.Core.Bool.{false}
 use mathlib.Core.List.{List, [], _∷_, _++_, map}
 use lib.Dec.{ltb}
 use lib.ListN.{length, getD}
@@ -12,7 +12,6 @@ use Rattle.laws.proofs.Choice.{by-if}
 use Rattle.fifo.specs.Control.{payloadOf}
 use Rattle.words.specs.Words.{leBytes}
 use Rattle.spi.specs.declared.refusal.Refusal.{Refusal}
-use Rattle.spi.specs.declared.ask.Answer.{Answer}
 use Rattle.header.specs.declared.Header.{Header}
 use Rattle.message.specs.Message.{Encoding, encoding}
 use Rattle.place.specs.declared.Register.{Register}
@@ -30,7 +29,7 @@ use Rattle.bank.specs.Registers.{queueShown, wordOf}
 use Rattle.bus.specs.Queue.{queueSlot}
 use Rattle.reach.specs.Bus.{Bus}
 use Rattle.history.specs.Command.{Command, QueuePush}
-use Rattle.history.specs.History.{Event, Begin, Exchange, Fail, On, Said, busy, idle, World, settled, event, after}
+use Rattle.history.specs.History.{Begin, Exchange, Fail, On, Said, busy, idle, World, settled, event, after}
 use Rattle.history.specs.Demand.{calm, buses, all, ButFor}
 use Rattle.history.proofs.Line.{world}
 use Rattle.history.proofs.Foot.{but-same, but-written, but-buses}

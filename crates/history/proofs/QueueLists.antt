@@ -1,7 +1,7 @@
 -- The queue's lists: what is accepted is what was sent and what is held together, each as often.
 -- Assumes nothing.
-use Prim.Native.Nat.{ℕ, suc, _+_}
-use mathlib.Core.Path.{_≡_, refl, sym, ap, _∙_}
+use Prim.Native.Nat.{ℕ, _+_}
+use mathlib.Core.Path.{_≡_, refl, ap, _∙_}
 use mathlib.Core.List.{List, [], _∷_, _++_, map, map-append, append-nil, append-assoc, Perm, Perm·refl, Perm·trans, Perm·append-left, Perm·append-right}
 use mathlib.Core.List.{List·Permᴰ, List·Permᴰ·nil, List·Permᴰ·cons, List·Permᴰ·swap, List·Permᴰ·trans}
 use native.Mathlib.Omega.{arith}
@@ -36,8 +36,13 @@ queue-same c d t e l = rw e l
 
 pub queue-snoc : (c d : Model) (t : List Said) (x : Said) → QueueListed c t → QueueMoves c x d → QueueListed d (t ++ (x ∷ []))
 queue-snoc c d t x l m =
-    rw (accepted-snoc t x, sent-snoc t x, map-append holds (queueAccepted t) (queuedIn x), map-append holds (queueSent t) (queueSentIn x),
-    append-assoc (map holds (queueSent t)) (map holds (queueSentIn x)) (heldQueue d))
+    rw (
+      accepted-snoc t x,
+      sent-snoc t x,
+      map-append holds (queueAccepted t) (queuedIn x),
+      map-append holds (queueSent t) (queueSentIn x),
+      append-assoc (map holds (queueSent t)) (map holds (queueSentIn x)) (heldQueue d),
+    )
     (Perm·trans (Perm·append-right (map holds (queuedIn x)) l)
     (rw (append-assoc (map holds (queueSent t)) (heldQueue c) (map holds (queuedIn x))) (Perm·append-left (map holds (queueSent t)) m)))
 

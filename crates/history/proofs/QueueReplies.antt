@@ -1,23 +1,23 @@
 -- What the queue's registers and CiCON say outside Configuration, what a control word written back does to the queue, and where its pushes
 -- go next.
 -- Assumes nothing.
-use Prim.Native.Nat.{ℕ, _+_, _%_, _^_, _≤_, _<_}
+use Prim.Native.Nat.{ℕ, _+_, _%_, _^_, _≤_}
 use mathlib.Core.Path.{_≡_, refl, sym, ap, _∙_, ap₂}
 use mathlib.Core.Bool.{Bool, true, false, not, _&&_}
-use mathlib.Core.List.{List, [], _∷_}
+use mathlib.Core.List.{[], _∷_}
 use native.Mathlib.Nat.{mod-lt, mod-eq-of-lt}
 use native.Mathlib.Omega.{arith}
 use borrow.Author.Tests.{le-ltb, ne-eqb}
 use lib.Dec.{ltb, eqb}
 use lib.ListN.{getD}
 use Rattle.laws.specs.If.{if_then_else_}
-use Rattle.field.specs.Field.{read, flag, write, digit, mark}
+use Rattle.field.specs.Field.{read, flag, digit, mark}
 use Rattle.field.specs.Settings.{_:=_, settings}
 use Rattle.field.proofs.Laws.{read-write, write-other, digit-lt, digit-back}
 use Rattle.field.proofs.Sets.{own}
 use Rattle.words.specs.Words.{leBytes}
 use Rattle.configuration.specs.CanControl.{TXQEN, OPMOD, REQOP}
-use Rattle.fifo.specs.Control.{UINC, TXREQ, FRESET, PLSIZE, payloads, payloadOf}
+use Rattle.fifo.specs.Control.{UINC, FRESET, PLSIZE, payloads, payloadOf}
 use Rattle.fifo.specs.Status.{TFNRFNIF, TFERFFIF}
 use Rattle.spi.specs.declared.refusal.Refusal.{Refusal}
 use Rattle.spi.specs.declared.ask.Answer.{Answer}
@@ -25,24 +25,23 @@ use Rattle.place.specs.declared.Register.{Register}
 use Rattle.tx_fifo.specs.PushAt.{PushAt}
 use Rattle.tx_fifo.specs.Step.{afterEnabled, afterControl, afterStatus, afterAddress, nextAt}
 use Rattle.ring.specs.declared.queue.Queue.{Queue}
-use Rattle.ring.specs.Ring.{depth, fresh}
-use Rattle.ring.specs.Registers.{frozenFields, control}
+use Rattle.ring.specs.Ring.{fresh}
+use Rattle.ring.specs.Registers.{control}
 use Rattle.ring.specs.Layout.{size}
 use Rattle.ring.specs.Queue as queue
-use Rattle.ring.specs.Queue.{isHeld, full, status}
+use Rattle.ring.specs.Queue.{full, status}
 use Rattle.ring.proofs.Laws.{frozen-kept}
 use Rattle.ring.proofs.QueueControl.{queue-off}
-use Rattle.state.specs.declared.Setup.{Setup}
 use Rattle.state.specs.declared.Model.{Model}
 use Rattle.state.specs.Model.{frozenAt, withSetup, withQueue}
 use Rattle.bank.specs.declared.writing.Written.{Written}
 use Rattle.bank.specs.Registers.{modeOf, queueShown, wordOf, conSet, conWritten, queueWritten, registerWritten, granted, settled, denied, turnedAll}
 use Rattle.bank.proofs.Laws.{mode-fits}
 use Rattle.bank.proofs.QueueLaws.{txqen-reads}
-use Rattle.bus.specs.Queue.{queueDepth, queueSlot}
+use Rattle.bus.specs.Queue.{queueSlot}
 use Rattle.history.proofs.Sound.{Sound}
 use Rattle.history.proofs.Asks.{range-in}
-use Rattle.history.proofs.Replies.{Gentle, sent-field, word-said, mark-small}
+use Rattle.history.proofs.Replies.{Gentle, sent-field, word-said}
 use Rattle.history.proofs.Harmless.{Staying}
 use Rattle.history.proofs.QueueSlots.{queue-inside}
 use lib.Pow.{pow-pos}

@@ -1,11 +1,11 @@
 -- Each exchange of a checked push to the queue keeps what is true of the world.
 -- Assumes nothing.
-use Prim.Native.Nat.{ℕ, _+_, _-_, _%_, _^_, _≤_, _<_}
+use Prim.Native.Nat.{ℕ, _+_, _-_, _≤_}
 use native.Mathlib.Omega.{arith}
 use borrow.Author.Tests.{ltb-false}
-use mathlib.Core.Path.{_≡_, refl, sym, ap, _∙_, subst, ap₂}
-use mathlib.Core.Bool.{Bool, true, false}
-use mathlib.Core.List.{List, [], _∷_, _++_, append-nil, Perm, Perm·trans, Perm·symm, perm-append-singleton}
+use mathlib.Core.Path.{_≡_, refl, ap, _∙_, subst, ap₂}
+use mathlib.Core.Bool.{true, false}
+use mathlib.Core.List.{List, [], _∷_, _++_, Perm, Perm·trans, Perm·symm, perm-append-singleton}
 use lib.Dec.{ltb, eqb}
 use lib.ListN.{length, getD}
 use Rattle.laws.proofs.Choice.{by-if}
@@ -20,7 +20,6 @@ use Rattle.header.specs.declared.Header.{Header}
 use Rattle.message.specs.Structs.{encodedAs}
 use Rattle.message.specs.declared.object.Stamp.{Stamp}
 use Rattle.message.specs.Message.{Message, Encoding, encoding, Decoding, holds, decoding}
-use Rattle.message.specs.Laws.{Suits}
 use Rattle.message.proofs.Round.{lengths-hold, round-trip}
 use Rattle.place.specs.declared.Register.{Register}
 use Rattle.call.specs.declared.Outcome.{Outcome}
@@ -33,14 +32,14 @@ use Rattle.driver.specs.CallAt.{CallAt}
 use Rattle.driver.specs.Call.{Call}
 use Rattle.ring.specs.declared.queue.Queue.{Queue}
 use Rattle.ring.specs.Ring.{depth}
-use Rattle.ring.specs.Layout.{size, stamped}
+use Rattle.ring.specs.Layout.{size}
 use Rattle.ring.specs.Queue as queue
 use Rattle.ring.specs.Queue.{gather, isHeld, full}
 use Rattle.ring.proofs.Queues.{claimed-held}
 use Rattle.state.specs.declared.Model.{Model}
 use Rattle.state.specs.Model.{frozenAt, withQueue}
 use Rattle.bank.specs.Registers.{queueShown, wordOf}
-use Rattle.bus.specs.Queue.{queueDepth, queueSlot, queueItem, heldQueue}
+use Rattle.bus.specs.Queue.{queueSlot, queueItem}
 use Rattle.reach.proofs.Queue.{held-on}
 use Rattle.history.specs.Command.{Command, QueuePush, started}
 use Rattle.history.specs.History.{Said, called, idle, hears, heard, settled, goesOn}
@@ -53,7 +52,7 @@ use Rattle.history.proofs.Asks.{hear-enabled, hear-queue, hear-queue-st
 use Rattle.history.proofs.Replies.{mark-small}
 use Rattle.history.proofs.Pushing.{pushing, turned, failed, still-alone, refused-alone, done-alone}
 use Rattle.history.proofs.PushSteps.{NotRefused, encoding-fine, body-whole, body-long, body-words}
-use Rattle.history.proofs.Mid.{QueueTx, QueueMid}
+use Rattle.history.proofs.Mid.{QueueMid}
 use Rattle.history.proofs.QueueSlots.{queueFilled, queue-held, queue-filled-held, queue-filled-queue, queue-filled-item}
 use Rattle.history.proofs.QueueReplies.{queue-gentle, shown-inside, next-enabled, next-queue-control, next-queue-status, next-queue-address, queue-uinc}
 use Rattle.history.proofs.QueueLists.{QueueMoves, queue-called}
@@ -109,7 +108,7 @@ module _ (c : Model) (o : Sound c) (header : Header) (seq : ℕ) (payload bs : L
       let more : Perm (gather (isHeld (queue.claimed z v)) (queueItem c) 0 (depth z)) (queueItem c (v .shown) ∷ gather (isHeld v) (queueItem c) 0 (depth z))
       = claimed-held z v (queueItem c) vacant (rw vs (o .valid .queue .shown)) (rw (vh, vs) (o .valid .queue .vacant (g .1))) (ap length vh ∙ o .valid .queue .held) in
       rw (held-on c on, held-on (withQueue c (queue.claimed z v)) on)
-      (Perm·trans (perm-append-singleton (holds sent) (gather (isHeld (c .queue)) (queueItem c) 0 (depth z))) 
+      (Perm·trans (perm-append-singleton (holds sent) (gather (isHeld (c .queue)) (queueItem c) 0 (depth z)))
       (subst (λ (x : List Decoding). Perm x (gather (isHeld (queue.claimed z v)) (queueItem c) 0 (depth z)))
       (ap₂ (λ (x : Decoding) (y : List ℕ). x ∷ gather (λ j. eqb (getD y j 0) 1) (queueItem c) 0 (depth z)) item vh) (Perm·symm more)))
 

@@ -19,13 +19,11 @@ use Rattle.plan.specs.Change.{modified}
 use Rattle.plan.specs.Step.{filled, arrivedAt, refusedPlan, stepOf, askAt, askOf, outcomeAt, outcomeOf}
 use Rattle.plan.proofs.Changes.{change-sets}
 use Rattle.transmit.specs.Transmit.{requestChange, requestStart, queueRequestStart}
-use Rattle.place.specs.declared.Register.{Register}
 use Rattle.state.specs.declared.Model.{Model}
-use Rattle.bank.specs.Registers.{wordOf}
 use Rattle.history.specs.History.{Heard, waits, isOver}
 use Rattle.history.specs.Demand.{Ordinary}
 use Rattle.history.proofs.Line.{spoken}
-use Rattle.history.proofs.Asks.{hear-control, tell-control, hear-any, tell-any}
+use Rattle.history.proofs.Asks.{hear-any, tell-any}
 use Rattle.history.proofs.Replies.{le-said}
 use Rattle.history.proofs.Slots.{fifo-told}
 

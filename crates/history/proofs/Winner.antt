@@ -1,7 +1,7 @@
 -- Every message that the queue sends was the winner among those then held.
 -- Assumes nothing.
 use Prim.Native.Nat.{ℕ, _≤_, _<_}
-use mathlib.Core.Path.{_≡_, refl, sym, ap, _∙_}
+use mathlib.Core.Path.{_≡_, refl, ap}
 use mathlib.Core.Bool.{Bool, true, false}
 use native.Mathlib.Omega.{arith}
 use Rattle.laws.specs.If.{if_then_else_}
@@ -10,10 +10,10 @@ use Rattle.message.specs.Message.{Message, Decoding, holds, noFrame, short}
 use Rattle.ring.specs.QueueLaws.{Before}
 use Rattle.ring.proofs.Ranks.{ordered}
 use Rattle.state.specs.declared.Model.{Model}
-use Rattle.bus.specs.Bus.{Output, frame, nothing, outputOf}
+use Rattle.bus.specs.Bus.{frame, nothing, outputOf}
 use Rattle.bus.specs.Queue.{queueItem, queueRank, winner, queueSends, queueOutput}
 use Rattle.bus.proofs.QueueLaws.{queue-winner, header-told, first, second}
-use Rattle.history.specs.Queue.{QueueTogether, Holds, Wins, WinnerSent}
+use Rattle.history.specs.Queue.{QueueTogether, Wins, WinnerSent}
 use Rattle.history.proofs.Theorem.{holds-checked}
 
 -- a frame that goes out is what its slot decodes to
@@ -42,12 +42,14 @@ module _ (c : Model) (x : Message) where
       go : (b : Bool) → queueSends c ≡ b → (if b then outputOf (queueItem c (winner c)) else nothing) ≡ frame x → (k : ℕ) × Wins c k x
       go true s o =
           let b = queue-winner c s in
-          let i = out-is (queueItem c (winner c)) x o in
-          (winner c, record {
-            holding = (b .lt, b .is, i);
-            first = λ j y (l, h, f). before-is (winner c) j y i f (b .least j l h);
-            lowest = λ j y (l, h, f) less. not-before (winner c) j y i f (b .tie j less h);
-          })
+          let i = out-is (queueItem c (winner c)) x o in (
+            winner c,
+            record {
+              holding = (b .lt, b .is, i);
+              first = λ j y (l, h, f). before-is (winner c) j y i f (b .least j l h);
+              lowest = λ j y (l, h, f) less. not-before (winner c) j y i f (b .tie j less h);
+            },
+          )
       go false s o = let z : _≡_ {A = ℕ} 0 1 = cc in absurd (omega arith)
 
 pub queue-together : QueueTogether

@@ -4,7 +4,7 @@ use Rattle.history.specs.Demand.{Lists, PushExactly, PushedIff, GetExact
 use Rattle.history.specs.Demand.{HasNextExactly, PushFails, TransmitFails, RequestExactly, TransmitRefused, TransmitDone}
 use Rattle.history.specs.Demand.{RequestFails, OldestGoes, RequestSends, TransmitSends, NeverCaused, AnsweredWhole}
 use Rattle.history.specs.Door.{StartsAtDoor}
-use Rattle.history.specs.Queue.{QueueTogether, WinnerSent, QueuePushExactly, QueuePushedIff, QueuePushFails, QueueRequestExactly}
+use Rattle.history.specs.Queue.{QueueTogether, WinnerSent, QueuePushExactly, QueuePushedIff, QueuePushFails, QueueRequestExactly, QueueEnabled, QueueSetUp}
 use Rattle.history.specs.Scrub.{FlipReported, RewriteLeaves}
 use Rattle.history.specs.Counts.{NeverMismatches, NoneMismatched}
 use Rattle.history.specs.Example.{Begins, Sends, SendsNot}
@@ -37,6 +37,8 @@ pub record Demand3 : Type 0 where
   pub queuePushedIff : QueuePushedIff
   pub queuePushFails : QueuePushFails
   pub queueRequestExactly : QueueRequestExactly
+  pub queueEnabled : QueueEnabled
+  pub queueSetUp : QueueSetUp
   pub flipReported : FlipReported
   pub rewriteLeaves : RewriteLeaves
   pub neverMismatches : NeverMismatches

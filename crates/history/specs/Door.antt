@@ -1,6 +1,5 @@
 -- The calls of a history are those that the front door starts.
 -- Assumes nothing.
-use Prim.Native.Nat.{ℕ}
 use mathlib.Core.Path.{_≡_}
 use lib.ListN.{length}
 use Rattle.driver.specs.Calls.{Start, Plans, fifoNumber, started as doorStarted}

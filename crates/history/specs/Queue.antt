@@ -5,28 +5,32 @@ use mathlib.Core.Path.{_≡_}
 use mathlib.Core.Bool.{Bool, true, false, not}
 use mathlib.Core.Logic.{_↔_}
 use mathlib.Core.List.{List, [], _∷_, _++_, map, Perm}
-use lib.ListN.{length, take}
-use lib.Dec.{ltb, eqb}
+use lib.ListN.{length, take, replicate}
+use lib.Dec.{ltb}
 use Rattle.laws.specs.If.{if_then_else_}
-use Rattle.field.specs.Field.{read, flag}
-use Rattle.configuration.specs.CanControl.{REQOP}
+use Rattle.field.specs.Field.{read, flag, digit}
+use Rattle.configuration.specs.CanControl.{TXQEN, REQOP}
 use Rattle.fifo.specs.Control.{FSIZE, PLSIZE, payloadOf, storedSize}
+use Rattle.place.specs.declared.Register.{Register}
 use Rattle.header.specs.declared.Header.{Header}
 use Rattle.message.specs.Message.{Message, Encoding, encoding, holds}
 use Rattle.call.specs.declared.Outcome.{Outcome}
+use Rattle.areas.specs.declared.settings.TxQueueConfiguration.{TxQueueConfiguration}
+use Rattle.areas.specs.declared.settings.TxQueueSetting.{TxQueueSetting}
+use Rattle.areas.specs.Areas.{settingFits}
 use Rattle.tx_fifo.specs.Step.{toSend}
-use Rattle.ring.specs.Ring.{depth}
 use Rattle.ring.specs.Layout.{size}
 use Rattle.ring.specs.Queue.{isHeld, full}
 use Rattle.ring.specs.QueueLaws.{Before}
 use Rattle.state.specs.declared.Model.{Model}
 use Rattle.state.specs.Model.{frozenAt}
-use Rattle.bank.specs.Registers.{queueShown}
+use Rattle.bank.specs.Registers.{queueShown, wordOf, conWritten}
 use Rattle.bus.specs.Bus.{frame}
 use Rattle.bus.specs.Queue.{queueDepth, queueItem, heldQueue, queueOutput}
 use Rattle.reach.specs.Bus.{Bus}
-use Rattle.history.specs.Command.{Command, Push, Transmit, QueuePush, QueueUnchecked, QueueRequest, Request, HasNext, Peek, Get, Reading, Configuring}
-use Rattle.history.specs.History.{Event, Begin, Said, Doing, idle, busy, World, after}
+use Rattle.reach.specs.Reach.{Reached}
+use Rattle.history.specs.Command.{Command, Push, Transmit, QueuePush, QueueUnchecked, QueueRequest, Request, HasNext, Peek, Get, Reading, Configuring, TxQueue}
+use Rattle.history.specs.History.{Event, Begin, Exchange, Said, called, Doing, idle, busy, World, after}
 use Rattle.history.specs.Lists.{queuedIn, queueAccepted, queueSent}
 use Rattle.history.specs.Demand.{Leaves, start, world, Through, Lasts, NextCall, buses, all, Answers, Ending, refusal, answer, Ends, ButFor, failing}
 
@@ -128,3 +132,37 @@ QueuePushFails =
 -- two exchanges; with TXQEN at 0 too
 abbrev pub QueueRequestExactly : Type 0
 QueueRequestExactly = NextCall (λ v. (bs : List (List Bus)) → length bs ≡ 2 → Ends v QueueRequest bs (answer Outcome.Done []))
+
+-- ---- 6. configure_tx_queue in Configuration
+
+abbrev pub isOn : TxQueueSetting → Bool
+isOn TxQueueSetting.Off = false
+isOn (TxQueueSetting.On x) = true
+
+-- the call, from the chip c on, with so many exchanges answered
+abbrev pub settingUp : Model → TxQueueSetting → ℕ → World
+settingUp c q n = after (Begin (Configuring (TxQueue q)) ∷ replicate n Exchange) (record { chip = c; doing = idle; said = [] })
+
+-- its first write is CiCON's, with TXQEN and with REQOP as it was: where that asks to leave, this write is the leaving
+pub record Enables (c : Model) (q : TxQueueSetting) : Type 0 where
+  pub word : ℕ
+  pub reqop : read REQOP word ≡ read REQOP (c .setup .con)
+  pub txqen : flag TXQEN word ≡ isOn q
+  pub written : settingUp c q 2 .chip ≡ conWritten c word .model
+
+abbrev pub QueueEnabled : Type 0
+QueueEnabled = (c : Model) (q : TxQueueSetting) → settingFits q ≡ true → Enables c q
+
+-- where REQOP is 4 the call is done, TXQEN, FSIZE and PLSIZE are as set, and the mode is as it was
+pub record Sets (q : TxQueueSetting) (v : World) : Type 0 where
+  pub said : v .said ≡ called (Configuring (TxQueue q)) Outcome.Done [] ∷ []
+  pub inside : v .chip .fixed .configuring ≡ true
+  pub txqen : read TXQEN (wordOf (v .chip) Register.Con) ≡ digit (isOn q)
+  pub control :
+      (x : TxQueueConfiguration) → q ≡ TxQueueSetting.On x
+      → (read FSIZE (wordOf (v .chip) Register.QueueControl) ≡ storedSize (x .size)) × (read PLSIZE (wordOf (v .chip) Register.QueueControl) ≡ x .plsize)
+
+abbrev pub QueueSetUp : Type 0
+QueueSetUp =
+    (c : Model) → Reached c → c .fixed .configuring ≡ true → read REQOP (c .setup .con) ≡ 4 → (q : TxQueueSetting) → settingFits q ≡ true
+    → Sets q (settingUp c q 4)

@@ -1,11 +1,11 @@
 -- Document 01's sentences about the modelled chip.
 -- Assumes nothing.
-use Prim.Native.Nat.{ℕ, _+_, _*_, _%_, _^_, _<_}
+use Prim.Native.Nat.{ℕ, _+_, _*_, _^_, _<_}
 use mathlib.Core.Path.{_≡_, refl, sym, ap, ap₂, subst, _∙_}
-use mathlib.Core.Bool.{Bool, true, false, _&&_, not}
+use mathlib.Core.Bool.{Bool, true, false, _&&_}
 use mathlib.Core.List.{List, [], _∷_, _++_}
 use native.Mathlib.Omega.{arith}
-use borrow.Author.Tests.{ltb-true, lt-ltb, ltb-false, leb-false, eqb-true, eqb-false, eq-eqb}
+use borrow.Author.Tests.{ltb-true, lt-ltb, ltb-false, leb-false, eqb-true, eq-eqb}
 use lib.Dec.{ltb, leb, eqb}
 use lib.ListN.{length}
 use lib.Seq.{getD-set-same}
@@ -22,7 +22,6 @@ use Rattle.spi.specs.declared.refusal.Done.{Done}
 use Rattle.message.specs.Message.{arrivalCheck, arriving, Decoding, holds}
 use Rattle.place.specs.declared.Register.{Register}
 use Rattle.operation.specs.declared.operation.Operation.{Operation}
-use Rattle.operation.specs.Operation.{asked}
 use Rattle.ring.specs.declared.ring.Fifo.{Fifo}
 use Rattle.ring.specs.Ring.{sending, depth, fresh, claimed, overflowed, sent, turned}
 use Rattle.ring.specs.Registers.{control, status}
@@ -33,7 +32,7 @@ use Rattle.ring.proofs.Laws.{frozen-kept, control-off, send-txreq, entering-emp
 use Rattle.state.specs.declared.Model.{Model}
 use Rattle.state.specs.Model.{areas, blank, reset, fifoAt, frozenAt, withFifo}
 use Rattle.bank.specs.declared.writing.Written.{Written}
-use Rattle.bank.specs.Registers.{modeOf, wordOf, granted, conSet, settled, turnedAll, conWritten, controlWritten, statusWritten, registerWritten}
+use Rattle.bank.specs.Registers.{modeOf, wordOf, conSet, settled, turnedAll, conWritten, registerWritten}
 use Rattle.bank.proofs.Laws.{opmod-is}
 use Rattle.model.specs.Exchange.{performed, exchange}
 use Rattle.bus.specs.declared.arrival.Delivery.{Delivery}
@@ -43,11 +42,10 @@ use Rattle.filters.specs.Filters.{filterCount}
 use Rattle.bus.specs.Sort.{filterFor, targetFor}
 use Rattle.bus.specs.Bus.{nothing, outputOf, sends, sendOutput, sendModel, stampFor, incoming, give}
 use Rattle.bus.proofs.Laws.{oldest-sent, held-length}
-use Rattle.bus.proofs.Arriving.{by-deliver, by-give, receives-is, clash}
+use Rattle.bus.proofs.Arriving.{by-deliver, by-give, receives-is}
 use Rattle.bus.proofs.Fitting.{object-fits}
 use Rattle.bus.proofs.Sorts.{by-sort}
-use Rattle.reach.specs.Bus.{Bus, Send, Deliver, Sort, stepped}
-use Rattle.reach.specs.Reach.{Happening, Exchange, On, happens, lived, Reached, Valid}
+use Rattle.reach.specs.Reach.{Reached, Valid}
 use Rattle.reach.specs.Chip.{Requested, SendTakes, SendKeeps, SendInside, DeliverAppends, FullOverflows, SortAppends, SortOverflows, Entered, Entering, Resetting, InsideEmpty, QueueInsideEmpty, OpmodExactly}
 use Rattle.reach.specs.Chip.{StatusReads}
 use Rattle.reach.proofs.Kept.{at-replicate, turned-at, always-valid}

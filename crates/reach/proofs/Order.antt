@@ -1,19 +1,17 @@
 -- What happens to one FIFO leaves it in order.
 -- Assumes nothing.
 use Prim.Native.Nat.{ℕ, _<_}
-use mathlib.Core.Path.{_≡_, refl, sym, _∙_}
+use mathlib.Core.Path.{refl, _∙_}
 use mathlib.Core.Bool.{Bool, true, false, false≢true}
-use mathlib.Core.List.{List, [], _∷_}
 use native.Mathlib.Omega.{arith}
 use borrow.Author.Tests.{ltb-true}
 use lib.Dec.{ltb, eqb}
 use Rattle.laws.specs.If.{if_then_else_}
 use Rattle.laws.proofs.Choice.{by-if}
-use Rattle.field.specs.Field.{read, flag, write}
-use Rattle.field.specs.Settings.{Setting, _:=_, settings, AllFit}
+use Rattle.field.specs.Field.{flag}
+use Rattle.field.specs.Settings.{settings}
 use Rattle.field.proofs.Laws.{read-write, write-other}
-use Rattle.field.proofs.Sets.{own}
-use Rattle.fifo.specs.Control.{UINC, TXREQ, FRESET}
+use Rattle.fifo.specs.Control.{UINC, FRESET}
 use Rattle.ring.specs.declared.ring.Fifo.{Fifo}
 use Rattle.ring.specs.Ring.{sending, depth, fresh, claimed, taken, increased, controlled, overflowed, emptied, sent, configured, commanded, turned}
 use Rattle.ring.proofs.Laws.{place-lt}

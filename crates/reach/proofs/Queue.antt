@@ -1,13 +1,13 @@
 -- The transmit queue of a chip in order: what is held, and what a send takes.
 -- Assumes nothing.
 use Prim.Native.Nat.{ℕ, _+_, _*_, _<_}
-use mathlib.Core.Path.{_≡_, refl, sym, ap, ap₂, subst, _∙_}
+use mathlib.Core.Path.{_≡_, refl, sym, ap, ap₂, _∙_}
 use mathlib.Core.Bool.{Bool, true, false, _&&_, not, false≢true}
 use mathlib.Core.List.{List, [], _∷_}
 use native.Mathlib.Nat.{zero-add}
 use native.Mathlib.Omega.{arith}
 use borrow.Author.Tests.{lt-ltb, ltb-false, le-ltb, leb-false, eqb-true, eq-eqb, ne-eqb}
-use lib.Dec.{ltb, leb, eqb}
+use lib.Dec.{ltb, eqb}
 use lib.ListN.{length, getD}
 use Rattle.laws.specs.If.{if_then_else_}
 use Rattle.laws.proofs.Choice.{by-if}
@@ -32,10 +32,10 @@ use Rattle.state.specs.declared.Model.{Model}
 use Rattle.state.specs.Model.{frozenAt, withQueue}
 use Rattle.bank.specs.Registers.{wordOf}
 use Rattle.bank.proofs.QueueLaws.{txqen-reads}
-use Rattle.bus.specs.Bus.{nothing, outputOf}
+use Rattle.bus.specs.Bus.{nothing}
 use Rattle.bus.specs.Queue.{queueDepth, queueSlot, queueItem, heldQueue, queueRank, winner, queueSends, queueOutput, queueModel}
 use Rattle.bus.proofs.QueueLaws.{queue-winner}
-use Rattle.reach.specs.Chip.{QueueRequested, QueueTakes, QueueSendTakes, QueueSendKeeps, QueueStatusReads}
+use Rattle.reach.specs.Chip.{QueueRequested, QueueSendTakes, QueueSendKeeps, QueueStatusReads}
 use Rattle.reach.proofs.Kept.{always-valid}
 
 -- ---- none is held

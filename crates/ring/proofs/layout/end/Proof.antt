@@ -1,7 +1,7 @@
 -- `ring::layout::end` meets its contract. The loop has summed the FIFOs up to i.
 -- Assumes nothing.
 use Prim.Native.Nat.{_+_, _≤_, _-_, _*_}
-use mathlib.Core.Path.{_≡_, refl}
+use mathlib.Core.Path.{_≡_}
 use native.Mathlib.Omega.{arith}
 use borrow.Author.Needs.{needs}
 use Rattle.ring.specs.Layout.{end}
