@@ -40,6 +40,7 @@ fn perform(call: &str, talk: &RefCell<Talk>) -> Option<String> {
     // each of them gives `None` for a name that isn't its own
     let result = chip_call(name, a, &mut can, &mut delay)
         .or_else(|| fifo_call(name, a, &mut can))
+        .or_else(|| queue_call(name, a, &mut can))
         .or_else(|| memory_call(name, a, &mut can))?;
     args.word().is_none().then_some(result)
 }
@@ -110,6 +111,25 @@ fn fifo_call(name: &str, a: &mut Args, can: &mut Can) -> Option<String> {
             let number = a.small()?;
             result(|| can.rx_fifo_get_next(number))
         }
+        _ => return None,
+    })
+}
+
+fn queue_call(name: &str, a: &mut Args, can: &mut Can) -> Option<String> {
+    Some(match name {
+        "configure_tx_queue" => {
+            let config = a.queue()?;
+            result(|| can.configure_tx_queue(config))
+        }
+        "queue_push" => {
+            let message = a.message()?;
+            result(|| can.tx_queue_push_message(&message))
+        }
+        "queue_push_unchecked" => {
+            let message = a.message()?;
+            result(|| can.tx_queue_push_message_unchecked(&message))
+        }
+        "queue_request" => result(|| can.tx_queue_request_transmission()),
         _ => return None,
     })
 }
@@ -236,7 +256,8 @@ impl Refusal for Error {
             Error::FifoFull => "8".into(),
             Error::FifoNotRx => "9".into(),
             Error::CrcMismatch => "10".into(),
-            Error::TxQueueDisabled | Error::Other => unreachable!("no call made here gives it"),
+            Error::TxQueueDisabled => "34".into(),
+            Error::Other => unreachable!("no call made here gives it"),
         }
     }
 }
@@ -370,17 +391,21 @@ impl<'a> Args<'a> {
     fn tx_fifo(&mut self) -> Option<TxFifoConfiguration> {
         Some(TxFifoConfiguration {
             priority: self.number()?,
-            retransmission_attempts: match self.number()? {
-                0 => RetransmissionAttempts::Disabled,
-                1 => RetransmissionAttempts::ThreeRetries,
-                2 => RetransmissionAttempts::UnlimitedRetries,
-                _ => return None,
-            },
+            retransmission_attempts: self.attempts()?,
             enable_auto_rtr: self.flag()?,
             enable_transmit_attempts_exhausted_interrupt: self.flag()?,
             enable_fifo_empty_interrupt: self.flag()?,
             enable_fifo_half_empty_interrupt: self.flag()?,
             enable_fifo_not_full_interrupt: self.flag()?,
+        })
+    }
+
+    fn attempts(&mut self) -> Option<RetransmissionAttempts> {
+        Some(match self.number()? {
+            0 => RetransmissionAttempts::Disabled,
+            1 => RetransmissionAttempts::ThreeRetries,
+            2 => RetransmissionAttempts::UnlimitedRetries,
+            _ => return None,
         })
     }
 
@@ -392,6 +417,23 @@ impl<'a> Args<'a> {
             enable_fifo_half_full_interrupt: self.flag()?,
             enable_fifo_not_empty_interrupt: self.flag()?,
         })
+    }
+
+    /// The inner `None` switches the queue off.
+    fn queue(&mut self) -> Option<Option<TxQueueConfiguration>> {
+        let size = self.word()?;
+        if size == "off" {
+            return Some(None);
+        }
+        Some(Some(TxQueueConfiguration {
+            fifo_size: size.parse().ok()?,
+            payload_size: self.small()?,
+            message_priority: self.number()?,
+            retransmission_attempts: self.attempts()?,
+            enable_transmit_attempts_exhausted_interrupt: self.flag()?,
+            enable_queue_empty_interrupt: self.flag()?,
+            enable_queue_not_full_interrupt: self.flag()?,
+        }))
     }
 
     /// The inner `None` switches the filter off.

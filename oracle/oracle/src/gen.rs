@@ -9,7 +9,7 @@ use crate::wire::{hex, Answers};
 /// A call's name and the number of exchanges that the longest of its kind makes.
 pub type Kind = (&'static str, u64);
 
-pub const KINDS: [Kind; 23] = [
+pub const KINDS: [Kind; 27] = [
     ("reset", 1),
     ("get_op_mode", 1),
     ("set_op_mode", 7),
@@ -33,6 +33,10 @@ pub const KINDS: [Kind; 23] = [
     ("write_register", 1),
     ("modify_register", 2),
     ("checked_read", 3),
+    ("configure_tx_queue", 4),
+    ("queue_push", 6),
+    ("queue_push_unchecked", 4),
+    ("queue_request", 2),
 ];
 
 /// One random case of the kind, as a transcript.
@@ -59,7 +63,9 @@ fn call(rng: &mut Rng, kind: &str) -> String {
         }
         "configure_fifo" => configure_fifo(rng),
         "configure_filter" => configure_filter(rng),
+        "configure_tx_queue" => configure_tx_queue(rng),
         "push" | "transmit" => format!("{} {}", fifo(rng), message(rng)),
+        "queue_push" | "queue_push_unchecked" => message(rng),
         "request" | "has_next" | "peek" | "get" => fifo(rng).to_string(),
         "read_ram" => {
             let (address, length) = ram_part(rng);
@@ -96,16 +102,39 @@ fn bit_timing(rng: &mut Rng) -> String {
     fields.join(" ")
 }
 
-fn configure_fifo(rng: &mut Rng) -> String {
+fn size(rng: &mut Rng) -> u64 {
     let usual = rng.within(1, 32);
     let large = rng.within(33, 255);
-    let size = if rng.one_in(32) { 0 } else { rng.pick(&[usual, usual, 1, 32, 33, 255, large]) };
+    if rng.one_in(32) {
+        0
+    } else {
+        rng.pick(&[usual, usual, 1, 32, 33, 255, large])
+    }
+}
+
+fn priority(rng: &mut Rng) -> u64 {
+    if rng.one_in(32) {
+        rng.within(32, 255)
+    } else {
+        rng.below(32)
+    }
+}
+
+fn configure_fifo(rng: &mut Rng) -> String {
+    let size = size(rng);
     let start = format!("{} {size} {}", fifo(rng), rng.below(8));
     if rng.one_in(2) {
         return format!("{start} rx {}", rng.flags(5));
     }
-    let priority = if rng.one_in(32) { rng.within(32, 255) } else { rng.below(32) };
-    format!("{start} tx {priority} {} {}", rng.below(3), rng.flags(5))
+    format!("{start} tx {} {} {}", priority(rng), rng.below(3), rng.flags(5))
+}
+
+fn configure_tx_queue(rng: &mut Rng) -> String {
+    if rng.one_in(8) {
+        return "off".into();
+    }
+    let start = format!("{} {}", size(rng), rng.below(8));
+    format!("{start} {} {} {}", priority(rng), rng.below(3), rng.flags(3))
 }
 
 fn configure_filter(rng: &mut Rng) -> String {
@@ -219,7 +248,8 @@ impl<'a> Chip<'a> {
             mode_polls_to_wait: if rng.one_in(2) { 0 } else { rng.below(6) },
             pll_polls_to_wait: if rng.one_in(2) { 0 } else { rng.below(4) },
             mismatches: if rng.one_in(2) { 0 } else { rng.below(4) },
-            sends: matches!(kind.0, "push" | "transmit") != rng.one_in(12),
+            sends: ["push", "transmit", "queue_push", "queue_push_unchecked"].contains(&kind.0)
+                != rng.one_in(12),
             rng,
         }
     }
