@@ -3,6 +3,7 @@
 use Rattle.reach.specs.Laws.{Laws}
 use Rattle.reach.proofs.Kept.{always-valid}
 use Rattle.reach.proofs.Told.{uinc-reads-0, freset-reads-0, queue-reads-0}
+use Rattle.reach.proofs.Txen.{queue-txen-reads}
 use Rattle.reach.proofs.Queue.{queue-send-takes, queue-send-keeps, queue-status-reads}
 use Rattle.reach.proofs.Chip.{send-takes, send-keeps, send-inside, deliver-appends, full-overflows, sort-appends, sort-overflows, entering, resetting, inside-empty, queue-inside-empty, opmod-exactly, status-reads}
 use Rattle.reach.proofs.Twins.{mode-asked, modes-alike, rtren-written, rtren-idle}
@@ -16,6 +17,7 @@ laws = record {
   sendTakes = send-takes;
   sendKeeps = send-keeps;
   sendInside = send-inside;
+  queueTxenReads = queue-txen-reads;
   queueSendTakes = queue-send-takes;
   queueSendKeeps = queue-send-keeps;
   deliverAppends = deliver-appends;

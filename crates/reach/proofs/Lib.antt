@@ -2,6 +2,7 @@ pub mod Order
 pub mod Kept
 pub mod Told
 pub mod Queue
+pub mod Txen
 pub mod Bytes
 pub mod Sound
 pub mod Slots

@@ -59,6 +59,10 @@ SendInside =
 
 -- ---- send from the queue
 
+-- TXEN of its control word reads 1, whatever was written
+abbrev pub QueueTxenReads : Type 0
+QueueTxenReads = (m : Model) → Reached m → read TXEN (wordOf m Register.QueueControl) ≡ 1
+
 -- TXQEN and the queue's TXREQ read 1
 abbrev pub QueueRequested : Model → Type 0
 QueueRequested m = (read TXQEN (wordOf m Register.Con) ≡ 1) × (read TXREQ (wordOf m Register.QueueControl) ≡ 1)

@@ -1,7 +1,7 @@
 -- Everything that is proved of the chips that are reached.
 -- Assumes nothing.
 use Rattle.reach.specs.Reach.{AlwaysValid, UincReads0, FresetReads0, QueueReads0}
-use Rattle.reach.specs.Chip.{SendTakes, SendKeeps, SendInside, QueueSendTakes, QueueSendKeeps, DeliverAppends, FullOverflows, SortAppends, SortOverflows, Entering, Resetting, InsideEmpty, QueueInsideEmpty, OpmodExactly, StatusReads, QueueStatusReads}
+use Rattle.reach.specs.Chip.{SendTakes, SendKeeps, SendInside, QueueTxenReads, QueueSendTakes, QueueSendKeeps, DeliverAppends, FullOverflows, SortAppends, SortOverflows, Entering, Resetting, InsideEmpty, QueueInsideEmpty, OpmodExactly, StatusReads, QueueStatusReads}
 use Rattle.reach.specs.Twins.{ModeAsked, ModesAlike, RtrenWritten, RtrenIdle}
 
 pub record Laws : Type 0 where
@@ -12,6 +12,7 @@ pub record Laws : Type 0 where
   pub sendTakes : SendTakes
   pub sendKeeps : SendKeeps
   pub sendInside : SendInside
+  pub queueTxenReads : QueueTxenReads
   pub queueSendTakes : QueueSendTakes
   pub queueSendKeeps : QueueSendKeeps
   pub deliverAppends : DeliverAppends
