@@ -407,6 +407,7 @@ def c_peek(n):
     ident, fl, _, dlc = parse_header((yield from part(a, 8)))
     ln = received_len(dlc, 'f' in fl)
     con = yield from rd(conaddr(n))
+    if ln > PL[bits(con, 31, 29)]: raise Refused(35)
     a += 8; t = '-'
     if bits(con, 5, 5):
         t = '%08x' % word((yield from part(a, 4))); a += 4
