@@ -1,18 +1,14 @@
 -- The object of a frame fits a slot of its FIFO, if its payload does.
 -- Assumes nothing.
-use Prim.Native.Nat.{ℕ, _%_, _≤_}
+use Prim.Native.Nat.{ℕ, _≤_}
 use mathlib.Core.Path.{_≡_, refl}
 use mathlib.Core.Bool.{Bool, true, false}
 use mathlib.Core.List.{List}
 use native.Mathlib.Omega.{arith}
-use lib.ListN.{length, getD}
-use lib.Dec.{eqb}
-use borrow.Author.Tests.{eqb-true}
+use lib.ListN.{length}
 use Rattle.laws.specs.If.{if_then_else_}
-use Rattle.laws.proofs.Table.{at}
-use Rattle.field.specs.Field.{read}
-use Rattle.field.proofs.Laws.{field-lt}
-use Rattle.fifo.specs.Control.{PLSIZE, payloads, payloadOf}
+use Rattle.fifo.specs.Control.{payloadOf}
+use Rattle.fifo.proofs.Sizes.{payload-whole}
 use Rattle.words.proofs.Laws.{le-length}
 use Rattle.header.specs.declared.Header.{Header}
 use Rattle.header.specs.Header.{word0, received1}
@@ -24,11 +20,6 @@ use Rattle.ring.specs.Layout.{stamped, size}
 use Rattle.state.specs.declared.Model.{Model}
 use Rattle.state.specs.Model.{frozenAt}
 use Rattle.bus.specs.Bus.{stampFor}
-
--- every payload size is whole words
-pub payload-whole : (w : ℕ) → payloadOf w % 4 ≡ 0
-unfolding payloadOf
-payload-whole w = eqb-true _ _ (at (λ n. eqb (getD payloads n 0 % 4) 0) 8 refl (read PLSIZE w) (field-lt w 29 3))
 
 stamp-length : (b : Bool) (time : ℕ) → length (stampBytes (if b then Stamp.At time else Stamp.None)) ≡ (if b then 4 else 0)
 stamp-length true time = le-length time

@@ -45,7 +45,6 @@ use Rattle.bus.proofs.Fitting.{object-fits}
 use Rattle.bus.proofs.Sorts.{by-sort}
 use Rattle.reach.specs.Bus.{Bus, Send, SendQueue, Deliver, Sort, stepped}
 use Rattle.reach.proofs.Arrivals.{coming-back}
-pub use Rattle.bus.proofs.Fitting.{payload-whole}
 use Rattle.history.specs.History.{Said, left, leftQueue, arrived, says}
 use Rattle.history.specs.Lists.{accepted, acceptedIn, handedOut, handedOutIn, only}
 use Rattle.history.proofs.Sound.{Sound}

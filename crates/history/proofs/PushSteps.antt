@@ -13,6 +13,7 @@ use lib.Seq.{take-append-seam}
 use Rattle.laws.proofs.Choice.{by-if}
 use Rattle.field.specs.Field.{read, mark}
 use Rattle.fifo.specs.Control.{CiFIFOCON, UINC, TXREQ, payloadOf, isFifo}
+use Rattle.fifo.proofs.Sizes.{payload-whole}
 use Rattle.parts.specs.Parts.{zeroed}
 use Rattle.words.specs.Words.{leBytes, roundUp}
 use Rattle.spi.specs.declared.refusal.Refusal.{Refusal}
@@ -49,7 +50,7 @@ use Rattle.history.specs.Command.{Command, Push, started}
 use Rattle.history.specs.History.{Said, called, idle, hears, heard, settled, goesOn}
 use Rattle.history.specs.Demand.{NotCaused}
 use Rattle.history.proofs.Sound.{Sound, Asked}
-use Rattle.history.proofs.Bus.{Listed, Moves, payload-whole, map-only}
+use Rattle.history.proofs.Bus.{Listed, Moves, map-only}
 use Rattle.history.proofs.Line.{spoken}
 use Rattle.history.proofs.Kept.{spoken-sound}
 use Rattle.history.proofs.Slots.{slot-inside, filled, filled-held, filled-item, filled-sound, next-asked, more-held}

@@ -11,6 +11,7 @@ use lib.ListN.{length, getD}
 use Rattle.laws.proofs.Choice.{by-if}
 use Rattle.field.specs.Field.{mark}
 use Rattle.fifo.specs.Control.{CiFIFOCON, UINC, payloadOf}
+use Rattle.fifo.proofs.Sizes.{payload-whole}
 use Rattle.parts.specs.Parts.{zeroed}
 use Rattle.words.specs.Words.{leBytes, roundUp}
 use Rattle.spi.specs.declared.refusal.Refusal.{Refusal}
@@ -45,7 +46,7 @@ use Rattle.history.specs.Command.{Command, QueuePush, started}
 use Rattle.history.specs.History.{Said, called, idle, hears, heard, settled, goesOn}
 use Rattle.history.specs.Demand.{NotCaused}
 use Rattle.history.proofs.Sound.{Sound, Asked}
-use Rattle.history.proofs.Bus.{Listed, payload-whole, quiet}
+use Rattle.history.proofs.Bus.{Listed, quiet}
 use Rattle.history.proofs.Line.{spoken}
 use Rattle.history.proofs.Kept.{spoken-sound}
 use Rattle.history.proofs.Asks.{hear-enabled, hear-queue, hear-queue-status, hear-queue-address, tell-queue, tell-ram}
