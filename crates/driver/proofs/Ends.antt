@@ -227,8 +227,9 @@ module _ (want : Want) (a : Answer) (rx : List ℕ) where
   fetch-falls (FetchAt.Header m) = by-pair (Fetches 6) (λ r. omega arith) (pairReply Refusal.SpiRead a rx) (λ c d. omega arith)
   fetch-falls (FetchAt.Again m f) =
       of-word 5 _
-      (λ w. by-if (Fetches 5) (flag RXTSEN w) (λ e. by-if (Fetches 5) (inRange (m + 8) 4) (λ d. omega arith) (λ d. omega arith))
-      (λ e. body-falls 5 (m + 8) f (omega arith)))
+      (λ w. by-if (Fetches 5) (ltb (payloadOf w) (f .len)) (λ e. omega arith)
+      (λ e. by-if (Fetches 5) (flag RXTSEN w) (λ e. by-if (Fetches 5) (inRange (m + 8) 4) (λ d. omega arith) (λ d. omega arith))
+      (λ e. body-falls 5 (m + 8) f (omega arith))))
   fetch-falls (FetchAt.Time x f) = of-word 4 _ (λ t. body-falls 4 (x + 4) (fetched.stamped f t) (omega arith))
   fetch-falls (FetchAt.Body x f) = of-done 3 (roundUp (f .len)) _ (last-falls want f)
   fetch-falls (FetchAt.Next f) = of-word 2 _ (λ w. omega arith)

@@ -33,6 +33,7 @@ use Rattle.spi.specs.Ram.{inRange, accessOf}
 use Rattle.spi.specs.Reply.{doneReply, crcReply}
 use Rattle.spi.specs.Talk.{Talk, done, refused, onDone, asks, answered, run, readWord, writeWord, writeBody, pause}
 use Rattle.spi.proofs.Talks.{by-done, by-checked}
+use Rattle.spi.proofs.Always.{Always, choice, reads, pairs, checks, waits, gets, puts, after, then-always}
 use Rattle.call.specs.declared.Found.{Found}
 use Rattle.call.specs.declared.Outcome.{Outcome}
 use Rattle.register.specs.Talk.{readCall, writeCall, checkedCall, checkedTalk, atAddress}
@@ -71,7 +72,6 @@ use Rattle.driver.specs.Calls.{Plans, Modify, Verify, SetOpMode, Osc, Io
 use Rattle.driver.specs.Demand1.{Narrow, Below, AddressesBelow, Fits, most, ExchangesFit, isRam, RoomEnough}
 use Rattle.driver.proofs.Runs.{follows, run-talk}
 use Rattle.driver.proofs.Starts.{starts-as-talk}
-use Rattle.driver.proofs.Always.{Always, choice, reads, pairs, checks, waits, gets, puts, after, then-always}
 
 -- ---- addresses
 
@@ -337,10 +337,11 @@ module _ (P : Ask → Type 0) (may-read : MayRead P) where
       again-always : (o : ℕ) (d : Found) → d .len ≤ 64 → Always P (fetch-talks.againTalk want n o d)
       again-always o d l =
           reads P Refusal.SpiRead (CiFIFOCON .address n) _ (may-read _ (control-below n f))
-          (λ w. choice P (flag RXTSEN w) _ _
+          (λ w. choice P (ltb (payloadOf w) (d .len)) _ _ (λ e. tt)
+          (λ e. choice P (flag RXTSEN w) _ _
           (λ e. choice P (inRange (o + 8) 4) _ _
           (λ i. reads P Refusal.SpiRead (o + 8) _ (may-read _ (ram-below (o + 8) 4 i)) (λ t. body-always (o + 8 + 4) (stamped d t) l)) (λ i. tt))
-          (λ e. body-always (o + 8) d l))
+          (λ e. body-always (o + 8) d l)))
 
       header-always : (o : ℕ) → Narrow o → Always P (fetch-talks.headerTalk want n o)
       header-always o l =

@@ -6,7 +6,7 @@ use Rattle.spi.specs.declared.refusal.Refusal.{Refusal}
 use Rattle.call.specs.declared.Found.{Found}
 
 -- the exchange that it asks for, with what was read before, or how it ended; a number is the RAM address that is read next (in Again, while
--- control is read for RXTSEN, the object's), but in Commit the control word that is written with UINC
+-- control is read for PLSIZE and RXTSEN, the object's), but in Commit the control word that is written with UINC
 pub data FetchAt : Type 0 where
   Control Status Address : FetchAt
   Header : ℕ → FetchAt

@@ -7,7 +7,7 @@ use lib.ListN.{length}
 use lib.Dec.{ltb}
 use Rattle.laws.specs.If.{if_then_else_}
 use Rattle.field.specs.Field.{read, flag}
-use Rattle.fifo.specs.Control.{TXEN, RXTSEN}
+use Rattle.fifo.specs.Control.{TXEN, RXTSEN, payloadOf}
 use Rattle.fifo.specs.Status.{TFNRFNIF}
 use Rattle.words.specs.Words.{roundUp}
 use Rattle.header.specs.Dlc.{receivedLength}
@@ -66,9 +66,13 @@ toTime x f = if inRange x 4 then FetchAt.Time x f else FetchAt.Refused (Refusal.
 unfoldable pub toBody : ℕ → Found → FetchAt
 toBody x f = if inRange x (roundUp (f .len)) then FetchAt.Body x f else FetchAt.Refused (Refusal.InvalidRamAddress x)
 
--- by the second control word, the object being at m
+-- timestamp or payload, the object being at m
+abbrev pub toRest : ℕ → Found → Bool → FetchAt
+toRest m f stamped = if stamped then toTime (m + 8) f else toBody (m + 8) f
+
+-- by the second control word: 35 for a payload longer than its PLSIZE means
 unfoldable pub afterAgain : ℕ → Found → ℕ → FetchAt
-afterAgain m f w = if flag RXTSEN w then toTime (m + 8) f else toBody (m + 8) f
+afterAgain m f w = if ltb (payloadOf w) (f .len) then FetchAt.Refused Refusal.LengthBeyondSlot else toRest m f (flag RXTSEN w)
 
 abbrev pub stamped : Found → ℕ → Found
 stamped f t = record { header = f .header; dlc = f .dlc; stamp = Stamp.At t; len = f .len }

@@ -6,7 +6,7 @@ ghost use Rattle.spi.specs.Talk.{onWord, onPair, onDone};
 ghost use Rattle.spi.specs.declared.refusal.Refusal.{Refusal};
 ghost use Rattle.fetch.specs.FetchAt.{FetchAt};
 ghost use Rattle.fetch.specs.declared.FetchStage.{FetchStage};
-ghost use Rattle.fetch.specs.Step.{afterControl, toAddress, afterStatus, afterAddress, afterHeader, toTime, toBody, afterAgain, stamped, afterTime, afterBody, nextAt};
+ghost use Rattle.fetch.specs.Step.{afterControl, toAddress, afterStatus, afterAddress, afterHeader, toTime, toBody, toRest, afterAgain, stamped, afterTime, afterBody, nextAt};
 ghost use Rattle.fetch.specs.Numbers.{foundIn, fetchAt, standing, started, movedTo};
 use call::Found;
 use fifo::FifoControl;
@@ -29,7 +29,7 @@ pub enum FetchStage {
     Status,
     Address,
     Header,
-    // Control again, for RXTSEN.
+    // Control again, for PLSIZE and RXTSEN.
     Again,
     Time,
     Body,
@@ -237,19 +237,32 @@ fn to_body(c: FetchNumbers, x: u32) -> FetchNumbers
     }
 }
 
-// RXTSEN is that of the second control word.
+fn to_rest(c: FetchNumbers, stamped: bool) -> FetchNumbers
+    ensures { λ r. ⌜ standing r ≡ (c .fifo, c .want, toRest (c .m) (foundIn c) stamped) ⌝ }
+{
+    let x = (c.m as u32) + 8;
+    if stamped {
+        to_time(c, x)
+    } else {
+        to_body(c, x)
+    }
+}
+
+// PLSIZE and RXTSEN are those of the second control word: nothing behind the slot is read.
+fn within_slot(c: FetchNumbers, w: u32) -> FetchNumbers
+    ensures { λ r. ⌜ standing r ≡ (c .fifo, c .want, afterAgain (c .m) (foundIn c) w) ⌝ }
+{
+    if FifoControl(w).payload_size() < c.len as usize {
+        return refused(c, Refusal::LengthBeyondSlot);
+    }
+    to_rest(c, FifoControl(w).rxtsen())
+}
+
 fn after_again(c: FetchNumbers, reply: OneWord) -> FetchNumbers
     ensures { λ r. ⌜ standing r ≡ (c .fifo, c .want, onWord FetchAt.Refused reply (afterAgain (c .m) (foundIn c))) ⌝ }
 {
     match reply {
-        OneWord::Word(w) => {
-            let x = (c.m as u32) + 8;
-            if FifoControl(w).rxtsen() {
-                to_time(c, x)
-            } else {
-                to_body(c, x)
-            }
-        }
+        OneWord::Word(w) => within_slot(c, w),
         OneWord::Bad(r) => refused(c, r),
     }
 }

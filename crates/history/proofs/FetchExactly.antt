@@ -46,7 +46,7 @@ use Rattle.history.specs.Demand.{buses, calm, atStatus, calls, Answers, 
 use Rattle.history.proofs.Few.{two, five}
 use Rattle.history.proofs.Line.{world, spoken}
 use Rattle.history.proofs.Asks.{hear-control, hear-status, hear-address, hear-ram, hear-behind, tell-control}
-use Rattle.history.proofs.Replies.{control-stamp, mark-small, fetch-control, fetch-status, fetch-address, fetch-next, fetch-commit}
+use Rattle.history.proofs.Replies.{control-stamp, control-payload, mark-small, fetch-control, fetch-status, fetch-address, fetch-next, fetch-commit}
 use Rattle.history.proofs.Slots.{ram-long, slot-inside}
 use Rattle.history.proofs.Bus.{oldest}
 use Rattle.history.proofs.Fetching.{plain}
@@ -296,7 +296,7 @@ module _ (want : Want) (n : ℕ) (buf : List ℕ) (p : Plan) (u : Pushes) where
           (λ d t ok s.
           let w : ℕ = wordOf d (Register.Control n) in
           then-to l held a d t given (leBytes w) d _ (hear-control [] d n i)
-          (reading.next-again (d .ram) x fr m (ram d t ok s) (room d t ok s) (decoded d t ok s) want w (rw (s .frozen) at (control-stamp d n (s .oldest .rx))))
+          (reading.next-again (d .ram) x fr m (ram d t ok s) (room d t ok s) (decoded d t ok s) want w (rw (s .frozen) at (control-stamp d n (s .oldest .rx))) (rw (s .frozen) at (control-payload d n)))
           (by-if (λ (to : FetchAt). To l held to (leBytes w) d t given) (stamped fr)
           (λ y. runs l held (FetchAt.Time (x + 0x400 + 8) (plain m)) (leBytes w) d t given refl (times b′ b″ r more held y d t ok s))
           (λ y. runs l held (FetchAt.Body (x + 0x400 + 8) (found.foundOf m)) (leBytes w) d t given refl

@@ -46,7 +46,7 @@ use Rattle.history.proofs.Line.{spoken}
 use Rattle.history.proofs.Bus.{Listed, Moves, oldest, map-only, quiet}
 use Rattle.history.proofs.Slots.{ram-long, slot-inside, next-asked, less-held}
 use Rattle.history.proofs.Asks.{hear-control, hear-status, hear-address, hear-ram, hear-behind, tell-control}
-use Rattle.history.proofs.Replies.{Gentle, control-gentle, control-asked, mark-small, fetch-control, fetch-status, fetch-address, fetch-next, fetch-commit, control-stamp, uinc-written}
+use Rattle.history.proofs.Replies.{Gentle, control-gentle, control-asked, mark-small, fetch-control, fetch-status, fetch-address, fetch-next, fetch-commit, control-stamp, control-payload, uinc-written}
 use Rattle.history.proofs.Fetching.{plain}
 use Rattle.history.proofs.Fetching as reading
 use Rattle.history.proofs.Fetchings.{fetched, fetching, turned, failed, still, over}
@@ -210,7 +210,7 @@ module _ (X : ℕ → Type 0) {U : Type 0} (c : Model) (o : Sound c) (q : Asked 
         reads-again =
             let rx : List ℕ = leBytes (wordOf c (Register.Control n)) in
             rw (turned want n held (FetchAt.Again (slot + 0x400) (plain m)) p u t k c _ _ _ (hear-control [] c n i)
-            (reading.next-again (c .ram) slot fr m (ram-long c o) room decoded want (wordOf c (Register.Control n)) (control-stamp c n (old .rx))))
+            (reading.next-again (c .ram) slot fr m (ram-long c o) room decoded want (wordOf c (Register.Control n)) (control-stamp c n (old .rx)) (control-payload c n)))
             (by-if (After c held rx) (stamped fr)
             (λ x. stays held h rx (FetchAt.Time (slot + 0x400 + 8) (plain m)) refl (m, record { oldest = old; place = refl }, refl, x) tt)
             (λ x. stays held h rx (FetchAt.Body (slot + 0x400 + 8) (found.foundOf m)) refl (m, record { oldest = old; place = rw x }, refl) tt))

@@ -8,11 +8,12 @@ use mathlib.Core.Bool.{Bool, true, false}
 use mathlib.Core.List.{List, [], _∷_, _++_}
 use lib.ListN.{length, getD, take, drop, length-append, length-take, length-drop}
 use lib.Seq.{take-take, take-append-le, take-append-seam, drop-drop, getD-take, getD-drop}
-use borrow.Author.Tests.{eq-eqb, le-leb}
+use borrow.Author.Tests.{eq-eqb, le-leb, le-ltb}
 use Rattle.laws.specs.If.{if_then_else_}
 use Rattle.laws.proofs.Table.{at}
 use Rattle.field.specs.Field.{read, flag}
 use Rattle.fifo.specs.Control.{RXTSEN, payloadOf}
+use Rattle.fifo.proofs.Sizes.{payload-whole}
 use Rattle.words.specs.Words.{leBytes, leAt, roundUp}
 use Rattle.words.proofs.Laws.{up-le}
 use Rattle.parts.specs.Parts.{part, put}
@@ -37,12 +38,11 @@ use Rattle.state.specs.Model.{frozenAt}
 use Rattle.bus.specs.Held.{slotOf, itemAt}
 use Rattle.fetch.specs.declared.Want.{Want}
 use Rattle.fetch.specs.FetchAt.{FetchAt}
-use Rattle.fetch.specs.Step.{afterHeader, toTime, toBody, afterAgain, afterTime, afterBody, nextAt}
+use Rattle.fetch.specs.Step.{afterHeader, toTime, toBody, toRest, afterAgain, afterTime, afterBody, nextAt}
 use Rattle.rx_fifo.specs.Step.{heldOf}
 use Rattle.rx_fifo.specs.Outcome.{messageOf, foundOf, filled}
 use Rattle.rx_fifo.proofs.Objects.{range-is}
 use Rattle.history.proofs.Bytes.{length-part}
-use Rattle.history.proofs.Bus.{payload-whole}
 use Rattle.history.proofs.Replies.{word-said}
 
 -- a choice, each way of which is known by its test
@@ -253,13 +253,19 @@ module _ (l : List ℕ) (x fr : ℕ) (m : Message) (long : length l ≡ 2048) (r
   unfolding toTime
   to-time t = rw (range-is (x + 0x400 + 8) 4 (omega arith) (omega (arith, time-in t)))
 
+  -- the payload is no longer than PLSIZE means
+  payload-fits : length (m .payload) ≤ payloadOf fr
+  payload-fits = omega (arith, inside, body-size fr)
+
   -- by the control word read again
-  pub next-again : (want : Want) (v : ℕ) → flag RXTSEN (v % 2 ^ 32) ≡ stamped fr
+  pub next-again : (want : Want) (v : ℕ) → flag RXTSEN (v % 2 ^ 32) ≡ stamped fr → payloadOf (v % 2 ^ 32) ≡ payloadOf fr
       → nextAt want (FetchAt.Again (x + 0x400) (plain m)) Answer.Exchanged (leBytes v)
       ≡ (if stamped fr then FetchAt.Time (x + 0x400 + 8) (plain m) else FetchAt.Body (x + 0x400 + 8) (foundOf m))
   unfolding afterAgain
-  next-again want v e =
+  next-again want v e g =
       ap (λ (r : OneWord). onWord FetchAt.Refused r (afterAgain (x + 0x400) (plain m))) (word-said Refusal.SpiRead v)
+      ∙ ap (λ (t : Bool). if t then FetchAt.Refused Refusal.LengthBeyondSlot else toRest (x + 0x400) (plain m) (flag RXTSEN (v % 2 ^ 32)))
+      (le-ltb (payloadOf (v % 2 ^ 32)) (length (m .payload)) (omega (arith, g, payload-fits)))
       ∙ ap (λ (t : Bool). if t then toTime (x + 0x400 + 8) (plain m) else toBody (x + 0x400 + 8) (plain m)) e
       ∙ if-both (stamped fr) to-time (λ t. to-body 8 Stamp.None (ap bodyAt t) (stamp-none t))
 

@@ -8,7 +8,7 @@ use lib.ListN.{length, replicate}
 use lib.Dec.{ltb}
 use Rattle.laws.proofs.Choice.{by-if}
 use Rattle.field.specs.Field.{flag}
-use Rattle.fifo.specs.Control.{TXEN, RXTSEN, CiFIFOCON, isFifo}
+use Rattle.fifo.specs.Control.{TXEN, RXTSEN, CiFIFOCON, payloadOf, isFifo}
 use Rattle.fifo.specs.Status.{CiFIFOSTA, TFNRFNIF}
 use Rattle.fifo.specs.UserAddress.{CiFIFOUA}
 use Rattle.words.specs.Words.{roundUp}
@@ -85,7 +85,8 @@ next-looks FetchAt.Address l word pair r k =
     by-word afterAddress (λ w. by-if Looks (ltb 0xFBFF w) (λ e. tt) (λ e. by-if Looks (inRange _ 8) (λ g. tt) (λ g. tt))) word
 next-looks (FetchAt.Header x) l word pair r k = by-pair (afterHeader x) (λ v w. tt) pair
 next-looks (FetchAt.Again x f) l word pair r k =
-    by-word (afterAgain x f) (λ w. by-if Looks (flag RXTSEN w) (λ e. by-if Looks (inRange _ 4) (λ g. tt) (λ g. tt)) (λ e. body-looks _ f)) word
+    by-word (afterAgain x f) (λ w. by-if Looks (ltb (payloadOf w) (f .len)) (λ e. tt)
+    (λ e. by-if Looks (flag RXTSEN w) (λ e. by-if Looks (inRange _ 4) (λ g. tt) (λ g. tt)) (λ e. body-looks _ f))) word
 next-looks (FetchAt.Time x f) l word pair r k = by-word (afterTime x f) (λ w. body-looks _ (stamped f w)) word
 next-looks (FetchAt.Body x f) l word pair r k = by-done (FetchAt.Done f) tt (doneReply Refusal.SpiRead r k (roundUp (f .len)))
 next-looks (FetchAt.Next f) l word pair r k = absurd l

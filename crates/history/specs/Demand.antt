@@ -374,10 +374,10 @@ TransmitSends =
     → (bs : List (List Bus)) → length bs ≡ 7
     → Takes (atStatus v bs) n payload → GoesOut (after (Begin (Transmit n header seq payload) ∷ calm bs) v) n)
 
--- ---- 7. no push, request, transmit, has-next, peek or get answers 3, 25 or 26, nor does a push or a request of the queue
+-- ---- 7. no push, request, transmit, has-next, peek or get answers 3, 25, 26 or 35, nor does a push or a request of the queue
 
 abbrev pub NotCaused : Refusal → Type 0
-NotCaused r = among (3 ∷ 25 ∷ 26 ∷ []) (getD (numbered r) 0 0) ≡ false
+NotCaused r = among (3 ∷ 25 ∷ 26 ∷ 35 ∷ []) (getD (numbered r) 0 0) ≡ false
 
 abbrev pub Ordinary : Outcome → Type 0
 Ordinary Outcome.Running = ⊥

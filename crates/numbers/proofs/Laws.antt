@@ -36,6 +36,7 @@ other Refusal.DeviceNet = refl
 other Refusal.EmptyList = refl
 other Refusal.NotCarried = refl
 other Refusal.TxQueueDisabled = refl
+other Refusal.LengthBeyondSlot = refl
 
 never-23 : Never23
 never-23 r e = absurd (false≢true (sym (other r) ∙ ap (λ (n : ℕ). eqb n 23) e))

@@ -34,5 +34,6 @@ pub fn number(refusal: Refusal) -> u32
         Refusal::EmptyList => 32,
         Refusal::NotCarried => 33,
         Refusal::TxQueueDisabled => 34,
+        Refusal::LengthBeyondSlot => 35,
     }
 }

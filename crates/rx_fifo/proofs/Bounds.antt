@@ -8,7 +8,7 @@ use lib.ListN.{length}
 use lib.Dec.{ltb}
 use Rattle.laws.specs.If.{if_then_else_}
 use Rattle.field.specs.Field.{flag}
-use Rattle.fifo.specs.Control.{TXEN, RXTSEN, isFifo}
+use Rattle.fifo.specs.Control.{TXEN, RXTSEN, payloadOf, isFifo}
 use Rattle.fifo.specs.Status.{TFNRFNIF}
 use Rattle.words.specs.Words.{roundUp}
 use Rattle.message.specs.Message.{Message}
@@ -23,7 +23,7 @@ use Rattle.call.specs.declared.Found.{Found}
 use Rattle.fetch.specs.declared.Want.{Want}
 use Rattle.fetch.specs.Step.{foundBy, stamped}
 use Rattle.rx_fifo.specs.Outcome.{messageOf}
-use Rattle.rx_fifo.specs.Talk.{message, empty, commitTalk, nextTalk, lastTalk, bodyTalk, toBodyTalk, timeTalk, toTimeTalk, againTalk, headerTalk, toHeaderTalk, addressTalk, heldTalk, statusTalk, controlTalk, hasNextTalk, lentTalk, peekTalk, getTalk}
+use Rattle.rx_fifo.specs.Talk.{message, empty, commitTalk, nextTalk, lastTalk, bodyTalk, toBodyTalk, timeTalk, toTimeTalk, restTalk, againTalk, headerTalk, toHeaderTalk, addressTalk, heldTalk, statusTalk, controlTalk, hasNextTalk, lentTalk, peekTalk, getTalk}
 
 abbrev word : Answer → List ℕ → OneWord
 word = wordReply Refusal.SpiRead
@@ -51,12 +51,17 @@ module _ (want : Want) (fifo n : ℕ) (last : (m : Message) → Within n (lastTa
   to-time-within x f =
       if-within (suc (suc n)) (inRange x 4) (timeTalk want fifo x f) (refused (Refusal.InvalidRamAddress x)) (time-within x f) tt
 
+  rest-within : (m : ℕ) (f : Found) (stamped : Bool) → Within (suc (suc n)) (restTalk want fifo m f stamped)
+  rest-within m f stamped =
+      if-within (suc (suc n)) stamped (toTimeTalk want fifo (m + 8) f) (toBodyTalk want fifo (m + 8) f) (to-time-within (m + 8) f)
+      (more (suc n) (suc (suc n)) (toBodyTalk want fifo (m + 8) f) (omega arith) (to-body-within (m + 8) f))
+
   pub again-within : (m : ℕ) (f : Found) → Within (suc (suc (suc n))) (againTalk want fifo m f)
   again-within m f = λ a rx.
-      word-within (suc (suc n)) (word a rx) (λ w. if flag RXTSEN w then toTimeTalk want fifo (m + 8) f else toBodyTalk want fifo (m + 8) f)
+      word-within (suc (suc n)) (word a rx) (λ w. if ltb (payloadOf w) (f .len) then refused Refusal.LengthBeyondSlot else restTalk want fifo m f (flag RXTSEN w))
       (λ w.
-      if-within (suc (suc n)) (flag RXTSEN w) (toTimeTalk want fifo (m + 8) f) (toBodyTalk want fifo (m + 8) f) (to-time-within (m + 8) f)
-      (more (suc n) (suc (suc n)) (toBodyTalk want fifo (m + 8) f) (omega arith) (to-body-within (m + 8) f)))
+      if-within (suc (suc n)) (ltb (payloadOf w) (f .len)) (refused Refusal.LengthBeyondSlot) (restTalk want fifo m f (flag RXTSEN w)) tt
+      (rest-within m f (flag RXTSEN w)))
 
   pub header-within : (m : ℕ) → Within (suc (suc (suc (suc n)))) (headerTalk want fifo m)
   header-within m = λ a rx.

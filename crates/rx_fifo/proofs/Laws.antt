@@ -1,7 +1,15 @@
--- What is proved of what a peek and a get hand out, in one.
+-- What is proved of what a peek and a get read and hand out, in one.
 -- Assumes nothing.
 use Rattle.rx_fifo.specs.Laws.{Laws}
-use Rattle.rx_fifo.proofs.Objects.{peek-reads, get-reads}
+use Rattle.rx_fifo.proofs.Objects.{peek-reads, get-reads, peek-beyond, get-beyond}
+use Rattle.rx_fifo.proofs.Slot.{reads-its-slot, has-next-never-35}
 
 pub laws : Laws
-laws = record { peekReads = peek-reads; getReads = get-reads }
+laws = record {
+  peekReads = peek-reads;
+  getReads = get-reads;
+  peekBeyond = peek-beyond;
+  getBeyond = get-beyond;
+  readsItsSlot = reads-its-slot;
+  hasNextNever35 = has-next-never-35;
+}

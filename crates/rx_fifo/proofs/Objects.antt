@@ -9,10 +9,10 @@ use mathlib.Core.List.{List, [], _∷_, append-nil}
 use lib.ListN.{length, take, drop, length-drop}
 use lib.Seq.{length-take-le, take-take, getD-take}
 use lib.Dec.{ltb}
-use borrow.Author.Tests.{eq-eqb, le-ltb, le-leb}
+use borrow.Author.Tests.{eq-eqb, lt-ltb, le-ltb, le-leb}
 use Rattle.laws.specs.If.{if_then_else_}
 use Rattle.field.specs.Field.{read, flag}
-use Rattle.fifo.specs.Control.{CiFIFOCON, TXEN, RXTSEN, isFifo}
+use Rattle.fifo.specs.Control.{CiFIFOCON, TXEN, RXTSEN, payloadOf, isFifo}
 use Rattle.fifo.specs.Status.{CiFIFOSTA, TFNRFNIF}
 use Rattle.fifo.specs.UserAddress.{CiFIFOUA}
 use Rattle.words.specs.Words.{leBytes, leAt, roundUp}
@@ -38,8 +38,8 @@ use Rattle.call.specs.declared.Found.{Found}
 use Rattle.fetch.specs.declared.Want.{Want}
 use Rattle.fetch.specs.Step.{foundBy, stamped}
 use Rattle.rx_fifo.specs.Outcome.{messageOf}
-use Rattle.rx_fifo.specs.Talk.{Fetched, lastTalk, bodyTalk, toBodyTalk, timeTalk, toTimeTalk, againTalk, headerTalk, toHeaderTalk, addressTalk, heldTalk, statusTalk, controlTalk, lentTalk}
-use Rattle.rx_fifo.specs.Laws.{says, gives, parts, answers, Shows, PeekReads, GetReads}
+use Rattle.rx_fifo.specs.Talk.{Fetched, lastTalk, bodyTalk, toBodyTalk, timeTalk, toTimeTalk, restTalk, againTalk, headerTalk, toHeaderTalk, addressTalk, heldTalk, statusTalk, controlTalk, lentTalk}
+use Rattle.rx_fifo.specs.Laws.{says, gives, parts, answers, Waits, Shows, PeekReads, GetReads, TooLong, PeekBeyond, GetBeyond}
 
 -- ---- what the answers say
 
@@ -93,7 +93,7 @@ pub range-is : (a n : ℕ) → 0x400 ≤ a → a + n ≤ 0xC00 → inRange a n �
 unfolding inRange
 range-is a n h l = rw (le-leb 0x400 a h, le-leb (a + n) 0xC00 l)
 
-eight : (stamped : Bool) → 8 ≤ bodyAt stamped
+pub eight : (stamped : Bool) → 8 ≤ bodyAt stamped
 eight true = omega arith
 eight false = omega arith
 
@@ -109,6 +109,24 @@ message-is stamped n b h =
     let p : take (min n 64) (take (roundUp n) (drop (bodyAt stamped) b)) ≡ take n (drop (bodyAt stamped) b) = rw (min-eq-left h) (take-take n (roundUp n) (drop (bodyAt stamped) b) (up-le n)) in
     λ i. record { header = headerOf (leAt b 0) (leAt b 4); dlc = read DLC (leAt b 4); seq = 0; stamp = if stamped then Stamp.At (leAt b 8) else Stamp.None; payload = p i }
 
+-- by the second control word w
+abbrev slotTalk : Want → (fifo m : ℕ) → Found → (w : ℕ) → Talk Fetched
+slotTalk want fifo m f w = if ltb (payloadOf w) (f .len) then refused Refusal.LengthBeyondSlot else restTalk want fifo m f (flag RXTSEN w)
+
+-- user address, header and control again
+again-reads : (want : Want) (fifo u w : ℕ) (b : List ℕ) (xs : List (Answer × List ℕ)) → w < 2 ^ 32 → inRange (u + 0x400) 8 ≡ true → 8 ≤ length b
+    → run answered (addressTalk want fifo) (says u ∷ gives b 0 8 ∷ says w ∷ xs) ≡ run answered (slotTalk want fifo (u + 0x400) (foundBy (leAt b 0) (leAt b 4)) w) xs
+again-reads want fifo u w b xs hw in-ram whole =
+    let m : ℕ = u + 0x400 in
+    let (l, r) = range-told m 8 in-ram in
+    let rest : List (Answer × List ℕ) = says w ∷ xs in
+    word-said (CiFIFOUA .address fifo) (gives b 0 8 ∷ rest) (toHeaderTalk want fifo) u (omega arith)
+    ∙ ap (λ (t : Bool). run answered (if t then refused Refusal.BadUserAddress else if inRange m 8 then headerTalk want fifo m else refused (Refusal.InvalidRamAddress m)) (gives b 0 8 ∷ rest))
+    (le-ltb 0xFBFF u (omega arith))
+    ∙ ap (λ (t : Bool). run answered (if t then headerTalk want fifo m else refused (Refusal.InvalidRamAddress m)) (gives b 0 8 ∷ rest)) in-ram
+    ∙ pair-given m rest (λ a d. againTalk want fifo m (foundBy a d)) b whole
+    ∙ word-said (CiFIFOCON .address fifo) xs (slotTalk want fifo m (foundBy (leAt b 0) (leAt b 4))) w hw
+
 module _ (want : Want) (fifo n : ℕ) (b : List ℕ) (short : n ≤ 64) where
   -- the payload
   body-reads : (stamped : Bool) (x : ℕ) → 0x400 ≤ x → x + roundUp n ≤ 0xC00 → bodyAt stamped + roundUp n ≤ length b
@@ -122,8 +140,7 @@ module _ (want : Want) (fifo n : ℕ) (b : List ℕ) (short : n ≤ 64) where
 
   -- the timestamp, if there is one, and the payload
   parts-read : (stamped : Bool) (m : ℕ) → 0x400 ≤ m → m + (bodyAt stamped + roundUp n) ≤ 0xC00 → bodyAt stamped + roundUp n ≤ length b
-      → run answered (if stamped then toTimeTalk want fifo (m + 8) (foundIn false n b) else toBodyTalk want fifo (m + 8) (foundIn false n b)) (parts stamped n b)
-      ≡ lastTalk want fifo (messageIn false stamped n b)
+      → run answered (restTalk want fifo m (foundIn false n b) stamped) (parts stamped n b) ≡ lastTalk want fifo (messageIn false stamped n b)
   parts-read true m l r h =
       let f : Found = foundIn false n b in
       let x : ℕ = m + 8 in
@@ -134,45 +151,31 @@ module _ (want : Want) (fifo n : ℕ) (b : List ℕ) (short : n ≤ 64) where
 
   module _ (u w : ℕ) (hw : w < 2 ^ 32) (whole : bodyAt (flag RXTSEN w) + roundUp n ≤ length b)
       (in-ram : inRange (u + 0x400) (bodyAt (flag RXTSEN w) + roundUp n) ≡ true)
-      (len : receivedLength (flag FDF (leAt b 4)) (read DLC (leAt b 4)) ≡ n) where
-    abbrev rest : List (Answer × List ℕ)
-    rest = says w ∷ parts (flag RXTSEN w) n b
-
-    header-reads : run answered (headerTalk want fifo (u + 0x400)) (gives b 0 8 ∷ rest) ≡ lastTalk want fifo (messageIn false (flag RXTSEN w) n b)
-    header-reads =
-        let m : ℕ = u + 0x400 in
-        let (l, r) = range-told m (bodyAt (flag RXTSEN w) + roundUp n) in-ram in
-        pair-given m rest (λ a d. againTalk want fifo m (foundBy a d)) b (omega (arith, eight (flag RXTSEN w)))
-        ∙ ap (λ (k : ℕ). run answered (againTalk want fifo m (foundIn false k b)) rest) len
-        ∙ word-said (CiFIFOCON .address fifo) (parts (flag RXTSEN w) n b)
-        (λ v. if flag RXTSEN v then toTimeTalk want fifo (m + 8) (foundIn false n b) else toBodyTalk want fifo (m + 8) (foundIn false n b)) w hw
-        ∙ parts-read (flag RXTSEN w) m l r whole
-
-    pub object-reads : run answered (addressTalk want fifo) (says u ∷ gives b 0 8 ∷ rest) ≡ lastTalk want fifo (messageIn false (flag RXTSEN w) n b)
+      (len : receivedLength (flag FDF (leAt b 4)) (read DLC (leAt b 4)) ≡ n) (slot : n ≤ payloadOf w) where
+    pub object-reads : run answered (addressTalk want fifo) (says u ∷ gives b 0 8 ∷ says w ∷ parts (flag RXTSEN w) n b) ≡ lastTalk want fifo (messageIn false (flag RXTSEN w) n b)
     object-reads =
         let m : ℕ = u + 0x400 in
         let (l, r) = range-told m (bodyAt (flag RXTSEN w) + roundUp n) in-ram in
         let e = eight (flag RXTSEN w) in
-        word-said (CiFIFOUA .address fifo) (gives b 0 8 ∷ rest) (toHeaderTalk want fifo) u (omega arith)
-        ∙ ap (λ (t : Bool). run answered (if t then refused Refusal.BadUserAddress else if inRange m 8 then headerTalk want fifo m else refused (Refusal.InvalidRamAddress m)) (gives b 0 8 ∷ rest))
-        (le-ltb 0xFBFF u (omega arith))
-        ∙ ap (λ (t : Bool). run answered (if t then headerTalk want fifo m else refused (Refusal.InvalidRamAddress m)) (gives b 0 8 ∷ rest)) (range-is m 8 l (omega arith))
-        ∙ header-reads
+        let xs : List (Answer × List ℕ) = parts (flag RXTSEN w) n b in
+        again-reads want fifo u w b xs hw (range-is m 8 l (omega arith)) (omega arith)
+        ∙ ap (λ (k : ℕ). run answered (slotTalk want fifo m (foundIn false k b) w) xs) len
+        ∙ ap (λ (t : Bool). run answered (if t then refused Refusal.LengthBeyondSlot else restTalk want fifo m (foundIn false n b) (flag RXTSEN w)) xs) (le-ltb (payloadOf w) n slot)
+        ∙ parts-read (flag RXTSEN w) m l r whole
 
 -- ---- the whole call
 
 -- where more than the status is read
-module _ (want : Want) (fifo room c v : ℕ) (xs : List (Answer × List ℕ)) (hf : isFifo fifo ≡ true) (hr : 64 ≤ room) (hc : c < 2 ^ 32)
-    (receiving : flag TXEN c ≡ false) (hv : v < 2 ^ 32) (next : flag TFNRFNIF v ≡ true) where
+module _ (want : Want) (fifo room c v w : ℕ) (xs : List (Answer × List ℕ)) (hf : isFifo fifo ≡ true) (hr : 64 ≤ room) (s : Waits c v w) where
   pub status-reads : run answered (lentTalk want fifo room) (says c ∷ says v ∷ xs) ≡ run answered (heldTalk want fifo true) xs
   unfolding lentTalk
   status-reads =
       ap (λ (t : Bool). run answered (if t then if ltb room 64 then refused Refusal.BufferTooSmall else controlTalk want fifo else refused Refusal.BadNumber) (says c ∷ says v ∷ xs)) hf
       ∙ ap (λ (t : Bool). run answered (if t then refused Refusal.BufferTooSmall else controlTalk want fifo) (says c ∷ says v ∷ xs)) (le-ltb room 64 hr)
-      ∙ word-said (CiFIFOCON .address fifo) (says v ∷ xs) (λ w. if flag TXEN w then refused Refusal.FifoNotRx else statusTalk want fifo) c hc
-      ∙ ap (λ (t : Bool). run answered (if t then refused Refusal.FifoNotRx else statusTalk want fifo) (says v ∷ xs)) receiving
-      ∙ word-said (CiFIFOSTA .address fifo) xs (λ w. heldTalk want fifo (flag TFNRFNIF w)) v hv
-      ∙ ap (λ (t : Bool). run answered (heldTalk want fifo t) xs) next
+      ∙ word-said (CiFIFOCON .address fifo) (says v ∷ xs) (λ x. if flag TXEN x then refused Refusal.FifoNotRx else statusTalk want fifo) c (s .control)
+      ∙ ap (λ (t : Bool). run answered (if t then refused Refusal.FifoNotRx else statusTalk want fifo) (says v ∷ xs)) (s .receiving)
+      ∙ word-said (CiFIFOSTA .address fifo) xs (λ x. heldTalk want fifo (flag TFNRFNIF x)) v (s .status)
+      ∙ ap (λ (t : Bool). run answered (heldTalk want fifo t) xs) (s .next)
 
 -- a payload that is whole has its length
 payload-length : (stamped : Bool) (n : ℕ) (b : List ℕ) → bodyAt stamped + n ≤ length b → length (messageIn false stamped n b .payload) ≡ n
@@ -191,9 +194,9 @@ reads want fifo room c v u w b m goes hf hr s =
     let i : Length.Is (receivedLength (flag FDF d) (read DLC d)) ≡ Length.Is n = h .length-is ∙ ap Length.Is e in
     let len : receivedLength (flag FDF d) (read DLC d) ≡ n = cc in
     let xs : List (Answer × List ℕ) = says u ∷ gives b 0 8 ∷ says w ∷ parts stamped n b in
-    status-reads want fifo room c v xs hf hr (s .control) (s .receiving) (s .status) (s .next)
+    status-reads want fifo room c v w xs hf hr (s .waits)
     ∙ ap (λ (t : Talk Fetched). run answered t xs) goes
-    ∙ object-reads want fifo n b (rw (← len) (received-le (flag FDF d) (read DLC d))) u w (s .again) (s .whole) (s .in-ram) len
+    ∙ object-reads want fifo n b (rw (← len) (received-le (flag FDF d) (read DLC d))) u w (s .waits .again) (s .whole) (s .in-ram) len (s .slot)
     ∙ ap (lastTalk want fifo) (ap (λ (k : ℕ). messageIn false stamped k b) (sym e) ∙ h .message)
 
 pub peek-reads : PeekReads
@@ -201,3 +204,21 @@ peek-reads fifo room c v u w b m = reads Want.Peek fifo room c v u w b m refl
 
 pub get-reads : GetReads
 get-reads fifo room c v u w b m = reads Want.Get fifo room c v u w b m refl
+
+-- ---- a payload longer than the slot
+
+beyond : (want : Want) (fifo room c v u w : ℕ) (b : List ℕ) → heldTalk want fifo true ≡ addressTalk want fifo → isFifo fifo ≡ true → 64 ≤ room
+    → TooLong c v u w b → run answered (lentTalk want fifo room) (says c ∷ says v ∷ says u ∷ gives b 0 8 ∷ says w ∷ []) ≡ refused Refusal.LengthBeyondSlot
+unfolding run
+beyond want fifo room c v u w b goes hf hr s =
+    let xs : List (Answer × List ℕ) = says u ∷ gives b 0 8 ∷ says w ∷ [] in
+    status-reads want fifo room c v w xs hf hr (s .waits)
+    ∙ ap (λ (t : Talk Fetched). run answered t xs) goes
+    ∙ again-reads want fifo u w b [] (s .waits .again) (s .in-ram) (s .whole)
+    ∙ ap (λ (t : Bool). if t then refused Refusal.LengthBeyondSlot else restTalk want fifo (u + 0x400) (foundBy (leAt b 0) (leAt b 4)) (flag RXTSEN w)) (lt-ltb _ _ (s .beyond))
+
+pub peek-beyond : PeekBeyond
+peek-beyond fifo room c v u w b = beyond Want.Peek fifo room c v u w b refl
+
+pub get-beyond : GetBeyond
+get-beyond fifo room c v u w b = beyond Want.Get fifo room c v u w b refl

@@ -10,7 +10,7 @@ use borrow.Author.Tests.{eqb-true}
 use Rattle.laws.specs.If.{if_then_else_}
 use Rattle.laws.proofs.Choice.{by-if}
 use Rattle.field.specs.Field.{flag}
-use Rattle.fifo.specs.Control.{TXEN, RXTSEN, isFifo}
+use Rattle.fifo.specs.Control.{TXEN, RXTSEN, payloadOf, isFifo}
 use Rattle.fifo.specs.Status.{TFNRFNIF}
 use Rattle.words.specs.Words.{roundUp}
 use Rattle.parts.specs.Parts.{put}
@@ -88,7 +88,7 @@ module _ (want : Want) (fifo : ℕ) (held : List ℕ) where
       on-pair to FetchAt.Refused refused (λ r. refl) (pairReply Refusal.SpiRead a rx) (afterHeader m) _ (λ a b. refl)
   step-talk (FetchAt.Again m f) a rx =
       on-word to FetchAt.Refused refused (λ r. refl) (wordReply Refusal.SpiRead a rx) (afterAgain m f) _
-      (λ w. on-if to (flag RXTSEN w) _ _ _ _ (time-talk (m + 8) f) (body-talk (m + 8) f))
+      (λ w. on-if to (ltb (payloadOf w) (f .len)) _ _ _ _ refl (on-if to (flag RXTSEN w) _ _ _ _ (time-talk (m + 8) f) (body-talk (m + 8) f)))
   step-talk (FetchAt.Time x f) a rx =
       on-word to FetchAt.Refused refused (λ r. refl) (wordReply Refusal.SpiRead a rx) (afterTime x f) _ (λ t. body-talk (x + 4) (stamped f t))
   step-talk (FetchAt.Body x f) a rx = held-talk f a rx

@@ -4,18 +4,23 @@ use Prim.Native.Nat.{ℕ, _+_, _^_, _≤_, _<_}
 use mathlib.Core.Path.{_≡_}
 use mathlib.Core.Bool.{Bool, true, false}
 use mathlib.Core.List.{List, [], _∷_}
-use lib.ListN.{length}
+use lib.ListN.{length, take}
 use Rattle.laws.specs.If.{if_then_else_}
-use Rattle.field.specs.Field.{flag}
-use Rattle.fifo.specs.Control.{TXEN, RXTSEN, isFifo}
+use Rattle.field.specs.Field.{read, flag}
+use Rattle.fifo.specs.Control.{TXEN, RXTSEN, payloadOf, isFifo}
 use Rattle.fifo.specs.Status.{TFNRFNIF}
-use Rattle.words.specs.Words.{leBytes, roundUp}
+use Rattle.words.specs.Words.{leBytes, leAt, roundUp}
 use Rattle.parts.specs.Parts.{part}
+use Rattle.header.specs.Dlc.{receivedLength}
+use Rattle.header.specs.Header.{DLC, FDF}
 use Rattle.message.specs.Message.{Message, bodyAt, holds, decoding}
+use Rattle.spi.specs.declared.refusal.Refusal.{Refusal}
+use Rattle.spi.specs.declared.ask.Ask.{Ask}
 use Rattle.spi.specs.declared.ask.Answer.{Answer}
 use Rattle.spi.specs.Ram.{inRange}
-use Rattle.spi.specs.Talk.{done, answered, run}
-use Rattle.rx_fifo.specs.Talk.{message, nextTalk, peekTalk, getTalk}
+use Rattle.spi.specs.Talk.{done, refused, asks, answered, run}
+use Rattle.fetch.specs.declared.Want.{Want}
+use Rattle.rx_fifo.specs.Talk.{message, nextTalk, hasNextTalk, lentTalk, peekTalk, getTalk}
 
 -- a word, and the n bytes of b from place x on, as answers
 abbrev pub says : ℕ → Answer × List ℕ
@@ -32,15 +37,20 @@ parts stamped n b = if stamped then gives b 8 4 ∷ gives b 12 (roundUp n) ∷ [
 abbrev pub answers : (c v u w n : ℕ) → List ℕ → List (Answer × List ℕ)
 answers c v u w n b = says c ∷ says v ∷ says u ∷ gives b 0 8 ∷ says w ∷ parts (flag RXTSEN w) n b
 
--- a receive FIFO that holds a message; the bytes b of its object are those of m, and all in RAM
-pub record Shows (c v u w : ℕ) (b : List ℕ) (m : Message) : Type 0 where
+-- a receive FIFO that holds a message, by control, status and control again
+pub record Waits (c v w : ℕ) : Type 0 where
   pub control : c < 2 ^ 32
   pub receiving : flag TXEN c ≡ false
   pub status : v < 2 ^ 32
   pub next : flag TFNRFNIF v ≡ true
   pub again : w < 2 ^ 32
+
+-- the bytes b of its object are those of m, whose payload is no longer than PLSIZE of control again means, and all in RAM
+pub record Shows (c v u w : ℕ) (b : List ℕ) (m : Message) : Type 0 where
+  pub waits : Waits c v w
   pub decoded : decoding false (flag RXTSEN w) b ≡ holds m
   pub whole : bodyAt (flag RXTSEN w) + roundUp (length (m .payload)) ≤ length b
+  pub slot : length (m .payload) ≤ payloadOf w
   pub in-ram : inRange (u + 0x400) (bodyAt (flag RXTSEN w) + roundUp (length (m .payload))) ≡ true
 
 -- a peek is done with the message
@@ -55,7 +65,61 @@ GetReads =
     (fifo room c v u w : ℕ) (b : List ℕ) (m : Message) → isFifo fifo ≡ true → 64 ≤ room → Shows c v u w b m
     → run answered (getTalk fifo room) (answers c v u w (length (m .payload)) b) ≡ nextTalk fifo m
 
--- both
+-- ---- document 02, request 7: do not read the neighbour's slot
+
+-- the header of its object is in RAM, and means a longer payload than PLSIZE of control again
+pub record TooLong (c v u w : ℕ) (b : List ℕ) : Type 0 where
+  pub waits : Waits c v w
+  pub whole : 8 ≤ length b
+  pub in-ram : inRange (u + 0x400) 8 ≡ true
+  pub beyond : payloadOf w < receivedLength (flag FDF (leAt b 4)) (read DLC (leAt b 4))
+
+-- a peek is refused 35, wherever timestamp and payload lie
+abbrev pub PeekBeyond : Type 0
+PeekBeyond =
+    (fifo room c v u w : ℕ) (b : List ℕ) → isFifo fifo ≡ true → 64 ≤ room → TooLong c v u w b
+    → run answered (peekTalk fifo room) (says c ∷ says v ∷ says u ∷ gives b 0 8 ∷ says w ∷ []) ≡ refused Refusal.LengthBeyondSlot
+
+-- so is a get
+abbrev pub GetBeyond : Type 0
+GetBeyond =
+    (fifo room c v u w : ℕ) (b : List ℕ) → isFifo fifo ≡ true → 64 ≤ room → TooLong c v u w b
+    → run answered (getTalk fifo room) (says c ∷ says v ∷ says u ∷ gives b 0 8 ∷ says w ∷ []) ≡ refused Refusal.LengthBeyondSlot
+
+-- the size of a slot by its control word: 8, 4 with a timestamp, what PLSIZE means
+abbrev pub slotSize : ℕ → ℕ
+slotSize w = bodyAt (flag RXTSEN w) + payloadOf w
+
+-- what is read of RAM, which begins at 0x400, lies in the n bytes at a
+abbrev pub ReadsIn : (a n : ℕ) → Ask → Type 0
+ReadsIn a n (Ask.Read x k) = 0x400 < x + k → (a ≤ x) × (x + k ≤ a + n)
+ReadsIn a n (Ask.Checked x) = ⊥
+ReadsIn a n (Ask.Word x w) = Unit {0}
+ReadsIn a n (Ask.Body x k) = Unit {0}
+ReadsIn a n Ask.Reset = Unit {0}
+ReadsIn a n Ask.Wait = Unit {0}
+ReadsIn a n Ask.Nothing = Unit {0}
+
+-- the word that an answer brings
+abbrev pub wordIn : Answer × List ℕ → ℕ
+wordIn x = leAt (x .1) 0
+
+-- whatever is answered, after any k of the answers: by the third, the user address, and the fifth, control again, no byte behind the slot
+abbrev pub ReadsItsSlot : Type 0
+ReadsItsSlot =
+    (want : Want) (fifo room : ℕ) (control status user header again : Answer × List ℕ) (xs : List (Answer × List ℕ)) (k : ℕ)
+    → ReadsIn (wordIn user + 0x400) (slotSize (wordIn again))
+    (asks (run answered (lentTalk want fifo room) (take k (control ∷ status ∷ user ∷ header ∷ again ∷ xs))))
+
+-- has-next is never refused 35
+abbrev pub HasNextNever35 : Type 0
+HasNextNever35 = (fifo : ℕ) (xs : List (Answer × List ℕ)) → run answered (hasNextTalk fifo) xs ≡ refused Refusal.LengthBeyondSlot → ⊥
+
+-- all of these
 pub record Laws : Type 0 where
   pub peekReads : PeekReads
   pub getReads : GetReads
+  pub peekBeyond : PeekBeyond
+  pub getBeyond : GetBeyond
+  pub readsItsSlot : ReadsItsSlot
+  pub hasNextNever35 : HasNextNever35

@@ -7,7 +7,7 @@ use lib.ListN.{length}
 use lib.Dec.{ltb, leb}
 use Rattle.laws.specs.If.{if_then_else_}
 use Rattle.field.specs.Field.{flag, mark}
-use Rattle.fifo.specs.Control.{CiFIFOCON, TXEN, RXTSEN, UINC, isFifo}
+use Rattle.fifo.specs.Control.{CiFIFOCON, TXEN, RXTSEN, UINC, payloadOf, isFifo}
 use Rattle.fifo.specs.Status.{CiFIFOSTA, TFNRFNIF}
 use Rattle.fifo.specs.UserAddress.{CiFIFOUA}
 use Rattle.words.specs.Words.{roundUp}
@@ -62,11 +62,15 @@ timeTalk want fifo x f = readWord Refusal.SpiRead x (λ t. toBodyTalk want fifo 
 abbrev pub toTimeTalk : Want → (fifo x : ℕ) → Found → Talk Fetched
 toTimeTalk want fifo x f = if inRange x 4 then timeTalk want fifo x f else refused (Refusal.InvalidRamAddress x)
 
--- control again, timestamp if RXTSEN
+-- timestamp if RXTSEN, payload: behind the header, the object being at m
+abbrev pub restTalk : Want → (fifo m : ℕ) → Found → (stamped : Bool) → Talk Fetched
+restTalk want fifo m f stamped = if stamped then toTimeTalk want fifo (m + 8) f else toBodyTalk want fifo (m + 8) f
+
+-- control again: 35 for a payload longer than its PLSIZE means
 abbrev pub againTalk : Want → (fifo m : ℕ) → Found → Talk Fetched
 againTalk want fifo m f =
     readWord Refusal.SpiRead (CiFIFOCON .address fifo)
-    (λ w. if flag RXTSEN w then toTimeTalk want fifo (m + 8) f else toBodyTalk want fifo (m + 8) f)
+    (λ w. if ltb (payloadOf w) (f .len) then refused Refusal.LengthBeyondSlot else restTalk want fifo m f (flag RXTSEN w))
 
 -- 8 header bytes, at m
 abbrev pub headerTalk : Want → (fifo m : ℕ) → Talk Fetched
@@ -93,7 +97,7 @@ heldTalk Want.Get fifo next = if next then addressTalk Want.Get fifo else done e
 abbrev pub statusTalk : Want → ℕ → Talk Fetched
 statusTalk want fifo = readWord Refusal.SpiRead (CiFIFOSTA .address fifo) (λ v. heldTalk want fifo (flag TFNRFNIF v))
 
--- control (9), status; user address, 8 header bytes, control again, timestamp if RXTSEN, payload; control, control with UINC
+-- control (9), status; user address, 8 header bytes, control again (35), timestamp if RXTSEN, payload; control, control with UINC
 abbrev pub controlTalk : Want → ℕ → Talk Fetched
 controlTalk want fifo =
     readWord Refusal.SpiRead (CiFIFOCON .address fifo) (λ w. if flag TXEN w then refused Refusal.FifoNotRx else statusTalk want fifo)

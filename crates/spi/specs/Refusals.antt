@@ -33,6 +33,7 @@ numbered Refusal.DeviceNet = 31 ∷ []
 numbered Refusal.EmptyList = 32 ∷ []
 numbered Refusal.NotCarried = 33 ∷ []
 numbered Refusal.TxQueueDisabled = 34 ∷ []
+numbered Refusal.LengthBeyondSlot = 35 ∷ []
 
 -- nothing where all is well
 abbrev pub doneNumbers : Done → List ℕ

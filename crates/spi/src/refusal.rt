@@ -27,6 +27,7 @@ pub enum Refusal {
     EmptyList,
     NotCarried,
     TxQueueDisabled,
+    LengthBeyondSlot,
 }
 
 // An answer that says only whether all is well.

@@ -9,7 +9,7 @@ number-spec =
     tie.close
     (tie.spec (search needs) (search needs) (search needs) (search needs) (search needs) (search needs) (search needs) (search needs) (search needs)
     (search needs) (search needs) (search needs) (search needs) (search needs) (search needs) (search needs) (search needs) (search needs) (search needs)
-    (search needs) (search needs) (search needs) (search needs) (search needs) (search needs) (search needs) (search needs)
+    (search needs) (search needs) (search needs) (search needs) (search needs) (search needs) (search needs) (search needs) (search needs)
     (λ c. simp (c .enum-told .given .1))
     (λ c. simp (c .enum-told2 .given .1))
     (λ c. simp (c .enum-told3 .given .1))
@@ -36,4 +36,5 @@ number-spec =
     (λ c. simp (c .enum-told24 .given .1))
     (λ c. simp (c .enum-told25 .given .1))
     (λ c. simp (c .enum-told26 .given .1))
-    (λ c. simp (c .enum-told27 .given .1)))
+    (λ c. simp (c .enum-told27 .given .1))
+    (λ c. simp (c .enum-told28 .given .1)))
