@@ -3,10 +3,15 @@
 use Prim.Native.Nat.{ℕ, _+_, _/_, _%_}
 use mathlib.Core.Bool.{Bool, not, _&&_}
 use lib.Dec.{ltb, leb, eqb}
+use Rattle.fifo.specs.Control.{payloadOf}
 
 -- 25: a user address word above 0xFBFF
 unfoldable pub isHigh : ℕ → Bool
 isHigh u = ltb 0xFBFF u
+
+-- 35: a payload of n bytes is longer than PLSIZE of the control word w means
+unfoldable pub isLong : (n w : ℕ) → Bool
+isLong n w = ltb (payloadOf w) n
 
 -- D1: a part of n bytes at a, in RAM, that ends with it
 unfoldable pub isLast : ℕ → ℕ → Bool

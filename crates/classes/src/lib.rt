@@ -9,6 +9,7 @@ pub use tests::is_beyond;
 pub use tests::is_cut;
 pub use tests::is_high;
 pub use tests::is_last;
+pub use tests::is_long;
 
 // The classes, in the order in which they are told; 0 is a case that is compared.
 pub const COMPARED: u8 = 0;
@@ -17,21 +18,25 @@ pub const BAD_SETTING: u8 = 1;
 
 pub const BAD_USER_ADDRESS: u8 = 2;
 
+// The Rust reads a payload that is longer than the slot.
+pub const BEYOND_SLOT: u8 = 3;
+
 // The Rust refuses a part that ends with the RAM.
-pub const LAST_BYTE: u8 = 3;
+pub const LAST_BYTE: u8 = 4;
 
 // The Rust leaves out TDCO's top bit.
-pub const TDCO: u8 = 4;
+pub const TDCO: u8 = 5;
 
 // The Rust cuts a length to 32 bits.
-pub const LENGTH: u8 = 5;
+pub const LENGTH: u8 = 6;
 
 // A header field that document 01 does not carry.
-pub const ABSENT: u8 = 6;
+pub const ABSENT: u8 = 7;
 
 // What was seen of a case so far. `row` is the call's in `spoken`. Of the calls on RAM `address` and `size` are the arguments, of the
 // pushes and transmit `size` is the payload's, of the two calls on bit timing it is TDCO. `asked` counts the exchanges; the others are of
-// their answers: whether CiTDC's word makes a difference, the user address word, a header's second word, whether a timestamp follows.
+// their answers: whether CiTDC's word makes a difference, the user address word, a header's second word; of the control word behind it
+// whether it means fewer bytes than the header, and whether a timestamp follows.
 pub struct Seen {
     pub row: usize,
     pub wide: bool,
@@ -42,6 +47,7 @@ pub struct Seen {
     pub cut: bool,
     pub user: u32,
     pub second: u32,
+    pub long: bool,
     pub stamped: bool,
 }
 
@@ -98,6 +104,7 @@ pub fn called(row: usize, a: &[u64]) -> Seen {
         cut: false,
         user: 0,
         second: 0,
+        long: false,
         stamped: false,
     }
 }
@@ -156,7 +163,9 @@ pub fn answered(s: Seen, rx: &[u8]) -> Seen {
         t.second = word_at(rx, 4);
     }
     if s.asked == 5 {
-        t.stamped = field::bit(word_at(rx, 0), 5);
+        let w = word_at(rx, 0);
+        t.long = is_long(header::received_length_of(s.second), w);
+        t.stamped = field::bit(w, 5);
     }
     t
 }
@@ -277,6 +286,9 @@ fn refused(s: Seen) -> u8 {
     }
     if (is_push(s.row) || is_fetch(s.row)) && is_high(s.user) {
         return BAD_USER_ADDRESS;
+    }
+    if is_fetch(s.row) && s.long {
+        return BEYOND_SLOT;
     }
     if is_timing(s.row) && s.cut {
         return TDCO;

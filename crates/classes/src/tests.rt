@@ -1,12 +1,19 @@
 // Tests on the numbers of a transcript.
 ghost use mathlib.Core.Path.{_≡_};
 ghost use Prim.Native.Nat.{_<_};
-ghost use Rattle.classes.specs.Classes.{isHigh, isLast, isCut, isBeyond};
+ghost use Rattle.classes.specs.Classes.{isHigh, isLong, isLast, isCut, isBeyond};
+use fifo::FifoControl;
 
 pub fn is_high(user: u32) -> bool
     ensures { λ r. ⌜ r ≡ isHigh user ⌝ }
 {
     0xFBFF < user
+}
+
+pub fn is_long(n: usize, w: u32) -> bool
+    ensures { λ r. ⌜ r ≡ isLong n w ⌝ }
+{
+    FifoControl(w).payload_size() < n
 }
 
 pub fn is_last(address: u32, n: u64) -> bool

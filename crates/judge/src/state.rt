@@ -21,10 +21,10 @@ const OVER: u8 = 3;
 // the next case, and it counts as differing.
 const LOST: u8 = 4;
 
-// Where cases are counted: those that agree, the six classes of those outside, and those that differ.
+// Where cases are counted: those that agree, the seven classes of those outside, and those that differ.
 const AGREE: usize = 0;
 
-const DIFFER: usize = 7;
+const DIFFER: usize = 8;
 
 // The line that was read last and the one that the case began with, counted from 1; the line where the port first did otherwise, and
 // how long the text is that is held of it; the case's class; how many bytes the call's line has, and how many came last.
@@ -267,7 +267,7 @@ fn sum(a: u64, b: u64) -> u64 {
 fn told_class(k: usize, n: u64) {
     if 0 < n {
         write(b"outside ");
-        write(text::word(b"- 24 25 D1 D2 D3 absent", k));
+        write(text::word(b"- 24 25 35 D1 D2 D3 absent", k));
         write(b": ");
         number(n);
         write(b"\n");
@@ -278,7 +278,7 @@ fn told_class(k: usize, n: u64) {
 fn told_outside(counts: &[u64]) -> u64 {
     let mut all: u64 = 0;
     let mut k: usize = 1;
-    while k < 7 {
+    while k < DIFFER {
         told_class(k, at(counts, k));
         all = sum(all, at(counts, k));
         k += 1;

@@ -21,7 +21,7 @@ fn run(
     out: &mut [u8; 8192],
     note: &mut [u8; 16400],
     numbers: &mut [u64; 24],
-    counts: &mut [u64; 8],
+    counts: &mut [u64; 9],
 ) {
     let mut r = reading::begin();
     let mut s = judge::begin();
@@ -53,7 +53,7 @@ fn run(
     }
 }
 
-fn told(counts: [u64; 8]) {
+fn told(counts: [u64; 9]) {
     judge::told(&counts);
 }
 
@@ -65,7 +65,7 @@ fn main() {
     let mut out = [0u8; 8192];
     let mut note = [0u8; 16400];
     let mut numbers = [0u64; 24];
-    let mut counts = [0u64; 8];
+    let mut counts = [0u64; 9];
     run(
         &mut piece,
         &mut buf,
