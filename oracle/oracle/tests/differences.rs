@@ -12,5 +12,5 @@ fn differences() {
         .output()
         .unwrap();
     let wrote = String::from_utf8(oracle.stdout).unwrap();
-    assert_eq!(wrote, "36 agree, 0 differ, 0 are no call of the Rust driver\n");
+    assert_eq!(wrote, "43 agree, 0 differ, 0 are no call of the Rust driver\n");
 }
