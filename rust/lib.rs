@@ -81,7 +81,7 @@ pub use proved::driver::Report;
 pub use proved::driver::Rewrite;
 /// The number of a refusal in documents 01 and 02.
 pub use proved::driver::number;
-/// Why a call was refused, by document 01's table; 30 to 34 are document 02's. 3 carries the address, 4 and 5 the length.
+/// Why a call was refused, by document 01's table; 30 to 35 are document 02's. 3 carries the address, 4 and 5 the length.
 ///
 /// | number | | given exactly when |
 /// |---|---|---|
@@ -112,6 +112,7 @@ pub use proved::driver::number;
 /// | 32 | `EmptyList` | scrub: the list has no entry |
 /// | 33 | `NotCarried` | scrub: an entry's address is no register's that [`Watch`] names |
 /// | 34 | `TxQueueDisabled` | queue_push: the transmit queue is off |
+/// | 35 | `LengthBeyondSlot` | peek or get: the header says more bytes than a slot of the FIFO has |
 pub use proved::driver::Refusal;
 
 /// The calls themselves, for a loop of your own, with interrupts or DMA perhaps. No function here has a precondition.

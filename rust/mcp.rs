@@ -335,7 +335,8 @@ impl<L: Line> Mcp<L> {
     }
 
     /// The oldest message of a receive FIFO, which stays there, or `None` where it holds none. The payload goes to the front of `buf`,
-    /// which needs 64 bytes, also for shorter ones; every other byte stays. Refused: 20, 28; then 9, 25, 3, and 1.
+    /// which needs 64 bytes, also for shorter ones; every other byte stays. Refused: 20, 28; then 9, 25, 3 (of the header), 35 (the header
+    /// says more bytes than PLSIZE, as it is read behind the header: nothing of them is read), 3 (of timestamp or payload), and 1.
     pub fn peek(&mut self, fifo: u32, buf: &mut [u8]) -> Result<Option<Received>, Refusal> {
         self.message(calls::peek(fifo, buf.len()), buf)
     }

@@ -789,6 +789,43 @@ static void classic_dlcs(void)
     }
 }
 
+/* Document 02, request 7: 35 where the header means more bytes than PLSIZE, bits 31..29 of control as exchange 5 reads it again: in an FD frame
+ * DLC 9 to 15 mean what PLSIZE 1 to 7 do. Nothing more is asked for then, the message stays, and nothing is written to. */
+static void beyond_slot(void)
+{
+    prepare();
+    const mcp_chip ready = chip;
+    for (uint32_t low = 0; low < 0x200; low++) { /* DLC, IDE, RTR, BRS, FDF and ESI of FIFO 2's oldest, behind 4 x 16 bytes */
+        const uint8_t second[4] = { (uint8_t)low, (uint8_t)(low >> 8), 0, 0 };
+        for (uint32_t k = 0; k < 32; k++) {
+            const uint32_t plsize = k / 4, rest = k % 2 ? 0x1FFFFFFF : 0x20;
+            const int get = k / 2 % 2;
+            chip = ready;
+            IS(mcp_write_ram(&line, 0x400 + 64 + 4, second, 4) == 0);
+            const view kept = looked_at();
+            fresh();
+            twist_at = 5, twist = plsize << 29 | rest;
+            int r = (get ? mcp_get : mcp_peek)(&line, 2, out.buf, 72, &out.message);
+            if (low & 0x80 && low % 16 > 8 + plsize) {
+                IS(r == MCP_LENGTH_BEYOND_SLOT && exchanges == 5 && untouched() && is_same(kept));
+                continue;
+            }
+            IS(r == 0 && out.message.found == 1 && out.message.dlc == low % 16 && is_meant(low % 16, low & 0x80, out.message.len));
+            IS(exchanges == (get ? 9u : 7u) && held(2) == !get);
+        }
+    }
+    /* Before 3 of what follows the header, which ends with the RAM: 12 bytes, then 8, in FIFO 3's slots for 8; has-next does not look. */
+    for (uint8_t dlc = 9; dlc >= 8; dlc--) {
+        const uint8_t object[8] = { 0x23, 1, 0, 0, (uint8_t)(0x80 | dlc), 0, 0, 0 };
+        prepare();
+        IS(mcp_write_ram(&line, 0xBF8, object, 8) == 0 && mcp_has_next(&line, 3, &out.next) == 0 && out.next == 1);
+        fresh();
+        twist_at = 3, twist = 0x7F8;
+        IS(mcp_get(&line, 3, out.buf, 72, &out.message) == (dlc == 9 ? 35 : 3) && exchanges == 5 && held(3) == 1);
+        IS(out.value == (dlc == 9 ? before.value : 0xC00));
+    }
+}
+
 /* A push to the queue of two bytes, the second of them SEQ. */
 static int queued(uint32_t id, uint8_t extended, uint32_t seq)
 {
@@ -1173,6 +1210,7 @@ int main(void)
     sorting();
     every_dlc();
     classic_dlcs();
+    beyond_slot();
     overtaking();
     queue_refusals();
     queue_on_and_off();

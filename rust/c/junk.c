@@ -17,6 +17,7 @@ static uint64_t seed = 0x9E3779B97F4A7C15u;
 static unsigned asked;      /* exchanges of this call */
 static unsigned mismatched; /* of these, with another CRC than their bytes have */
 static int failed;          /* one of them was not carried out */
+static unsigned plsize;     /* PLSIZE of the word that the fifth received: of a peek or a get control, read again */
 static unsigned rough;      /* one exchange in so many fails, another is answered by some junk, a third by ones; none where it is 0 */
 
 static uint64_t next(void)
@@ -87,6 +88,7 @@ static int transfer(void *context, const uint8_t *tx, size_t tx_len, uint8_t *rx
     default: r = mcp_chip_transfer(context, tx, tx_len, rx, rx_len);
     }
     failed = r != 0;
+    if (asked == 5 && rx_len == 4) plsize = rx[3] >> 5;
     mismatched += !failed && is_mismatch(tx, rx);
     return r;
 }
@@ -112,7 +114,7 @@ static int is_answer(int call, int r)
         [FIFO] = { { 1 }, { 20, 24 } }, [FILTER] = { { 1 }, { 20, 21, 24 } }, [DISABLE] = { { 1 }, { 20 } },
         [PUSH] = { { 1, 2 }, { 20, 21, 24, 22, 6, 7, 8, 25, 3 } }, [REQUEST] = { { 1 }, { 20 } },
         [TRANSMIT] = { { 1, 2 }, { 20, 21, 24, 22, 6, 7, 8, 25, 3 } }, [HAS_NEXT] = { { 1 }, { 20, 9 } },
-        [PEEK] = { { 1 }, { 20, 28, 9, 25, 3 } }, [GET] = { { 1 }, { 20, 28, 9, 25, 3 } }, [SCRUB] = { { 1 }, { 32, 33, 10 } },
+        [PEEK] = { { 1 }, { 20, 28, 9, 25, 3, 35 } }, [GET] = { { 1 }, { 20, 28, 9, 25, 3, 35 } }, [SCRUB] = { { 1 }, { 32, 33, 10 } },
         [QUEUE] = { { 11 }, { 24 } }, [QUEUE_OFF] = { { 11 }, { 0 } }, [QUEUE_PUSH] = { { 1, 2 }, { 21, 24, 22, 34, 7, 8, 25, 3 } },
         [QUEUE_BARE] = { { 1, 2 }, { 21, 24, 22, 25, 3 } }, [QUEUE_REQUEST] = { { 1 }, { 0 } },
         [SEND] = { { 0 }, { 20 } }, [DELIVER] = { { 0 }, { 20, 21, 22 } }, [SORT] = { { 0 }, { 21, 22, 31, 30 } },
@@ -134,6 +136,9 @@ static int is_first(int call, int r)
 
 /* What DLC 0 to 15 mean in an FD frame; a classic one has 8 bytes at most. */
 static const uint8_t lengths[16] = { 0, 1, 2, 3, 4, 5, 6, 7, 8, 12, 16, 20, 24, 32, 48, 64 };
+
+/* What PLSIZE 0 to 7 mean. */
+static const uint8_t slots[8] = { 8, 12, 16, 20, 24, 32, 48, 64 };
 
 static uint8_t meant(uint8_t dlc, uint8_t fdf)
 {
@@ -205,7 +210,7 @@ static int is_visit(const mcp_watch *list, size_t n, size_t place, int rewrite, 
 
 int main(int argc, char **argv)
 {
-    unsigned long calls = argc > 1 ? strtoul(argv[1], NULL, 0) : 100000, counts[36] = { 0 }, coded = 0, seen[3] = { 0 };
+    unsigned long calls = argc > 1 ? strtoul(argv[1], NULL, 0) : 100000, counts[37] = { 0 }, coded = 0, seen[3] = { 0 };
     unsigned long checked[3] = { 0 }, queued[3] = { 0 };
     size_t place = 0;
     static uint8_t from[4096];
@@ -363,7 +368,7 @@ int main(int argc, char **argv)
             if (call == PEEK || call == GET) {
                 IS(len >= 64 && out.message.found <= 1 && out.message.stamped <= out.message.found);
                 IS(out.message.found || !out.message.dlc);
-                IS(out.message.len == meant(out.message.dlc, out.message.header.fdf));
+                IS(out.message.len == meant(out.message.dlc, out.message.header.fdf) && out.message.len <= slots[plsize]);
                 coded += !out.message.header.fdf && out.message.dlc > 8;
                 filled = out.message.len;
             }
@@ -382,7 +387,7 @@ int main(int argc, char **argv)
         }
         counts[told + 1]++;
     }
-    for (int r = 0; r < 36; r++)
+    for (int r = 0; r < 37; r++)
         if (counts[r]) printf("%d: %lu\n", r - 1, counts[r]);
     printf("classic, DLC above 8: %lu\n", coded);
     printf("entries that agreed, differed, were not read: %lu %lu %lu\n", seen[0], seen[1], seen[2]);

@@ -52,6 +52,7 @@ enum {
     MCP_EMPTY_LIST = 32,                 /* mcp_scrub: the list has no entry */
     MCP_NOT_CARRIED = 33,                /* mcp_scrub: an entry's address is no register's that mcp_watch names */
     MCP_TX_QUEUE_DISABLED = 34,          /* mcp_queue_push: the transmit queue is off */
+    MCP_LENGTH_BEYOND_SLOT = 35,         /* peek or get: the header says more bytes than a slot of the FIFO has; none of them is read */
     /* A pointer is NULL that must not be, one of the line's functions too, or more than PTRDIFF_MAX bytes are lent, as no object has.
      * Nothing was done. This is told before any refusal. NULL with a length of 0 is an empty buffer, or an empty list. */
     MCP_NULL = -1
@@ -216,7 +217,7 @@ int mcp_queue_request(const mcp_line *line);
 int mcp_has_next(const mcp_line *line, uint32_t fifo, uint8_t *next);                                   /* 20; 9 */
 /* The oldest message, which stays in the FIFO, or is taken from it. buf has 64 bytes, also for shorter messages. Where a get is refused the
  * FIFO still holds the message. */
-int mcp_peek(const mcp_line *line, uint32_t fifo, uint8_t *buf, size_t room, mcp_message *message);     /* 20, 28; 9, 25, 3 */
+int mcp_peek(const mcp_line *line, uint32_t fifo, uint8_t *buf, size_t room, mcp_message *message);     /* 20, 28; 9, 25, 3, 35, 3 */
 int mcp_get(const mcp_line *line, uint32_t fifo, uint8_t *buf, size_t room, mcp_message *message);      /* as peek */
 
 /* One step of a scrubber over a list of n entries: reads the register of the entry that is due, its CRC tested in at most three tries, and

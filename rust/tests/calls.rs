@@ -783,6 +783,66 @@ fn the_queue_by_document_02() {
     }
 }
 
+/// How a peek or a get ends, and after how many exchanges, where one is held: control is read, and read again, with `first` and `again`, the
+/// user address is `user`, the header's second word `second`, and all else 0.
+fn fetched(start: Call, [first, user, second, again]: [u32; 4]) -> (u32, u32) {
+    let (mut call, mut exchanges) = (start, 0);
+    while let Next::Transfer { want, .. } = next(call, &[], &mut [0; 74]) {
+        exchanges += 1;
+        let word = match exchanges {
+            1 => first,
+            2 => 1,
+            3 => user,
+            4 => second,
+            5 => again,
+            _ => 0,
+        };
+        let mut rx = [0; 64];
+        rx[want.max(4) - 4..][..4].copy_from_slice(&word.to_le_bytes());
+        call = answer(call, Answer::Exchanged, &rx[..want]);
+    }
+    (ended(finish(call, &[], &mut [0; 64])), exchanges)
+}
+
+/// Document 02, request 7: 35 where the header means more bytes than PLSIZE, bits 31..29 of control as it is read again; nothing more is
+/// asked for then. What fits is read, timestamp and payload.
+#[test]
+fn beyond_slot() {
+    for (plsize, most) in (0..).zip([8, 12, 16, 20, 24, 32, 48, 64]) {
+        // DLC, IDE, RTR, BRS, FDF and ESI, with all other bits 0 and 1
+        for second in (0..0x200u32).chain((0..0x200).map(|w| !0x1FF | w)) {
+            let is_long = meant(second % 16, second & 0x80 != 0).unwrap() > most;
+            for (first, rest) in [(0, 0), (7 << 29, 0x20), (!0x80, 0x1FFF_FFDF), (0, 0x1FFF_FFFF)] {
+                let (words, stamp) = ([first, 0x100, second, plsize << 29 | rest], rest >> 5 & 1);
+                assert_eq!(fetched(peek(2, 64), words), if is_long { (35, 5) } else { (0, 6 + stamp) }, "{words:08x?}");
+                assert_eq!(fetched(get(2, 64), words), if is_long { (35, 5) } else { (0, 8 + stamp) }, "{words:08x?}");
+            }
+        }
+    }
+    // behind 20, 28, 9, 25 and 3 of the header, before 3 of timestamp or payload: FD, DLC 9 and 8, in a slot for 8 bytes
+    let [long, short] = [0x89, 0x88];
+    assert_eq!((fetched(get(0, 63), [0, 0, long, 0]), fetched(get(2, 63), [0, 0, long, 0])), ((20, 0), (28, 0)));
+    assert_eq!(fetched(get(2, 64), [0x80, 0, long, 0]), (9, 1));
+    for (user, n) in [(!0, 25), (0xFC00, 25), (0xFBFF, 3), (0x7F9, 3)] {
+        assert_eq!(fetched(get(2, 64), [0, user, long, 0]), (n, 3), "{user:#X}");
+    }
+    for (user, again, without) in [(0x7F8, 0, (3, 5)), (0x7F8, 0x20, (3, 5)), (0x7F4, 0x20, (3, 6)), (0x7F0, 0, (0, 8)), (0x7EC, 0x20, (0, 9))] {
+        assert_eq!(fetched(get(2, 64), [0, user, long, again]), (35, 5), "{user:#X}");
+        assert_eq!(fetched(get(2, 64), [0, user, short, again]), without, "{user:#X}");
+    }
+    // a bit of FIFO 3's oldest is flipped, FDF, where its DLC is 13; back as it was it is got
+    let (mut m, mut buf) = (prepared(), [0x5A; 72]);
+    let second = 0x400 + 64 + 152 + 4;
+    m.write_ram(second, &[0x8D, 0, 0, 0]).unwrap();
+    let before = m.line.chip.model;
+    let refused = Err(Refusal::LengthBeyondSlot);
+    assert_eq!((m.has_next(3), m.peek(3, &mut buf), m.get(3, &mut buf)), (Ok(true), refused, refused));
+    assert!(m.line.chip.model == before && buf == [0x5A; 72]);
+    m.write_ram(second, &[0x0D, 0, 0, 0]).unwrap();
+    assert_eq!(m.get(3, &mut buf), Ok(Some(Received { header: HEADER, dlc: 13, time: None, len: 8 })));
+    assert_eq!((number(Refusal::LengthBeyondSlot), Refusal::LengthBeyondSlot.to_string()), (35, "refused 35: LengthBeyondSlot".into()));
+}
+
 /// What a call sends, and how it ends, where each read is answered by the next of these words, as long as there are some.
 fn talk(start: Call, words: &[u32]) -> (Vec<Vec<u8>>, Outcome) {
     let (mut call, mut sent, mut tx, mut words) = (start, vec![], [0; 74], words.iter());

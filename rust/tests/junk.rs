@@ -14,13 +14,15 @@ struct Junk {
     asked: u32,
     mismatched: u32,
     failed: bool,
+    /// The word that its fifth exchange received: of a peek or a get control, read again.
+    fifth: u32,
     /// One exchange in so many fails, another is answered by some junk, a third by ones; none where it is 0.
     rough: u64,
 }
 
 impl Junk {
     fn new(seed: u64) -> Junk {
-        Junk { chip: Chip::new(), seed, asked: 0, mismatched: 0, failed: false, rough: 16 }
+        Junk { chip: Chip::new(), seed, asked: 0, fifth: 0, mismatched: 0, failed: false, rough: 16 }
     }
 
     fn next(&mut self) -> u64 {
@@ -88,6 +90,9 @@ impl Line for Junk {
             _ => self.chip.transfer(tx, rx),
         };
         self.failed = answer.is_err();
+        if self.asked == 5 && rx.len() == 4 {
+            self.fifth = u32::from_le_bytes([rx[0], rx[1], rx[2], rx[3]]);
+        }
         self.mismatched += u32::from(!self.failed && is_mismatch(tx, rx));
         answer
     }
@@ -123,8 +128,8 @@ const ROWS: [Row; 29] = [
     ("request", 2, &[1], &[20]),
     ("transmit", 7, &[1, 2], &[20, 21, 24, 22, 6, 7, 8, 25, 3]),
     ("has_next", 2, &[1], &[20, 9]),
-    ("peek", 7, &[1], &[20, 28, 9, 25, 3]),
-    ("get", 9, &[1], &[20, 28, 9, 25, 3]),
+    ("peek", 7, &[1], &[20, 28, 9, 25, 3, 35]),
+    ("get", 9, &[1], &[20, 28, 9, 25, 3, 35]),
     ("scrub", 7, &[1], &[32, 33, 10]),
     ("configure_tx_queue", 4, &[11], &[24]),
     ("queue_push", 6, &[1, 2], &[21, 24, 22, 34, 7, 8, 25, 3]),
@@ -145,6 +150,9 @@ fn judge(call: usize, answer: Result<(), Refusal>, line: &Junk) {
     assert!(asked <= most, "{name} asked for {asked}");
     assert!(!is_first(call, n) || asked == 0, "{name} answered {n} after {asked} exchanges");
 }
+
+/// What PLSIZE 0 to 7 mean.
+const SLOTS: [usize; 8] = [8, 12, 16, 20, 24, 32, 48, 64];
 
 /// What DLC 0 to 15 mean in an FD frame.
 const LENGTHS: [usize; 16] = [0, 1, 2, 3, 4, 5, 6, 7, 8, 12, 16, 20, 24, 32, 48, 64];
@@ -308,7 +316,7 @@ fn a_hundred_thousand() {
     let mut mcp = Mcp::new(Junk::new(0x9E37_79B9_7F4A_7C15));
     let bytes: Vec<u8> = (0..4096).map(|i| i as u8).collect();
     let (mut buf, before) = (vec![0x5Au8; 4096], vec![0x5Au8; 4096]);
-    let (mut counts, mut sorted, mut coded) = ([0u32; 35], [0u32; 37], [0u32; 16]);
+    let (mut counts, mut sorted, mut coded) = ([0u32; 36], [0u32; 37], [0u32; 16]);
     let (mut scrubber, mut seen, mut mismatched, mut queued) = (Scrubber { place: 0 }, [0u32; 4], [0u32; 3], [0u32; 3]);
     for i in 0..100_000 {
         if i % 64 == 0 {
@@ -372,6 +380,7 @@ fn a_hundred_thousand() {
                 let found = if call == 22 { mcp.peek(g.fifo, lent) } else { mcp.get(g.fifo, lent) };
                 if let Ok(Some(r)) = found {
                     assert!(is_meant(r.dlc, r.header.fdf, r.len), "{found:?}");
+                    assert!(r.len <= SLOTS[(mcp.line.fifth >> 29) as usize], "{found:?}, control {:08x}", mcp.line.fifth);
                     coded[r.dlc as usize] += u32::from(!r.header.fdf);
                 }
                 found.map(|r| filled = r.map_or(0, |r| r.len))
