@@ -3,7 +3,8 @@
 A scenario sets up some FIFOs and filters, leaves Configuration, and then calls, delivers, sorts, sends, fails and looks, with good
 arguments and bad ones. Filters and the frames that are sorted go by the same few identifiers, so that masks and kinds decide; filters are
 set by calls and by raw words (targets may be 0, unused bits may be 1), single bits of them change on the way, and DNCNT is now and then above 0.
-Frames arrive with any DLC, with one that does not fit their length, with one above 15, or without; header words are now and then overwritten.
+Frames arrive with any DLC, with one that does not fit their length, with one above 15, or without; header words are now and then overwritten, also
+by lengths near the slot's, which are then looked at and taken, some with another PLSIZE read behind the header.
 A scrubber steps over lists of 0 to 6 entries, often the same as before, one longer or shorter, with words that are there, near them, or any;
 a bit of a filter's register is flipped, frames are sorted, and a list that cares for it is stepped over. One in three checked reads and scrub
 steps has a bad harness: none to three answers mismatch, often in one bit, in a visit and in its read-back each for itself; behind them is the
@@ -65,6 +66,16 @@ def slots(n): # where FIFO n's slots lie, or the queue's, 0, by the words that t
 def header_word(fifos): # word 1 of a slot: any DLC, mostly classic, any bits above
     at = r.choice(slots(r.choice(fifos))) + 4
     return raw_write(0x400 + at, r.randrange(1 << 32) & (0xffffffff if rare(4) else 0xffffff7f)) if at < 0x800 else 'held 1'
+def beyond(fifos): # a header word whose length is near its slot's, mostly FD; peek and get of it, some with another PLSIZE read behind the header
+    n = r.choice(fifos)
+    at = r.choice(slots(n)) + 4
+    if at >= 0x800: return
+    out.append('deliver %d %s %s' % (n, known(), arriving()))
+    dlc = min(15, 8 + (words[n] >> 29) + r.choice([-1, 0, 0, 1, 1, 2]))
+    out.append(raw_write(0x400 + at, r.choice([0x80, 0x80, 0x80, 0]) | dlc | r.choice([0, 0x10, 0x60, 0x100, r.randrange(1 << 23) << 9])))
+    for _ in range(1 + r.randrange(3)):
+        at_lines(fifos, '%s %d' % (r.choice(['peek', 'get']), n), r.choice([0, 0, 1]), 9)
+        if rare(3): out.append('@5 answer ' + le(r.randrange(8) << 29 | r.choice([0, 0x20, 0x1fffffdf, 0x1fffffff])))
 def filter_call(fifos):
     i, m = (known(), r.choice(['s7ff', 's0', 'x1fffffff', known()])) if r.randrange(3) else (ident(), ident())
     return 'configure_filter %d %s' % (r.choice(near), 'off' if rare(8) else '%d %s %s %s' % (number(fifos), r.choice(['std', 'ext', 'both']), i, m))
@@ -235,7 +246,7 @@ def queue_action(fifos):
 
 def action(fifos):
     if r.randrange(6) < queue: return queue_action(fifos)
-    k = r.randrange(34)
+    k = r.randrange(35)
     if k < 7: out.append(step(fifos))
     elif k < 12: out.append('held %d' % number(fifos))
     elif k < 14: out.append('raw 3%03x 4' % (0x5C + 4 * r.randrange(93)))
@@ -243,6 +254,7 @@ def action(fifos):
     elif k == 15: filter_words(fifos)
     elif k == 16: out.append(header_word(fifos))
     elif k == 17: flipped(fifos)
+    elif k == 18: beyond(fifos)
     else: at_lines(fifos, call(fifos), r.choice([0, 0, 0, 1, 1, 2, 3]), 9)
 
 RESETS = {0: 0x04980760, 4: 0x003E0F0F, 8: 0x000E0303, 0xC: 0x00021000, 0x50: 0x00600480, 0xE00: 0x460, 0xE04: 0x03000003}

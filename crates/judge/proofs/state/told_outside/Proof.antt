@@ -6,10 +6,10 @@ use Rattle.judge.proofs.state.told_outside.Statement.{statement}
 use Rattle.judge.proofs.state.told_outside.Tie as tie
 
 abbrev Inv-loop : tie.InvT-loop
-Inv-loop counts all₀ k₀ all k = (k ≤ 7)
+Inv-loop counts all₀ k₀ all k = (k ≤ 8)
 
 abbrev μ-loop : tie.MeasureT-loop
-μ-loop counts all₀ k₀ all k = 7 - k
+μ-loop counts all₀ k₀ all k = 8 - k
 
 pub told-outside-spec : {M : Type 1} → statement M
 told-outside-spec =
