@@ -39,7 +39,7 @@ use Rattle.fetch.specs.declared.Want.{Want}
 use Rattle.fetch.specs.Step.{foundBy, stamped}
 use Rattle.rx_fifo.specs.Outcome.{messageOf}
 use Rattle.rx_fifo.specs.Talk.{Fetched, lastTalk, bodyTalk, toBodyTalk, timeTalk, toTimeTalk, restTalk, againTalk, headerTalk, toHeaderTalk, addressTalk, heldTalk, statusTalk, controlTalk, lentTalk}
-use Rattle.rx_fifo.specs.Laws.{says, gives, parts, answers, Waits, Shows, PeekReads, GetReads, TooLong, PeekBeyond, GetBeyond}
+use Rattle.rx_fifo.specs.Laws.{says, gives, parts, answers, Waits, upToAgain, Shows, PeekReads, GetReads, TooLong, LongRefused}
 
 -- ---- what the answers say
 
@@ -208,7 +208,7 @@ get-reads fifo room c v u w b m = reads Want.Get fifo room c v u w b m refl
 -- ---- a payload longer than the slot
 
 beyond : (want : Want) (fifo room c v u w : ℕ) (b : List ℕ) → heldTalk want fifo true ≡ addressTalk want fifo → isFifo fifo ≡ true → 64 ≤ room
-    → TooLong c v u w b → run answered (lentTalk want fifo room) (says c ∷ says v ∷ says u ∷ gives b 0 8 ∷ says w ∷ []) ≡ refused Refusal.LengthBeyondSlot
+    → TooLong c v u w b → run answered (lentTalk want fifo room) (upToAgain c v u w b) ≡ refused Refusal.LengthBeyondSlot
 unfolding run
 beyond want fifo room c v u w b goes hf hr s =
     let xs : List (Answer × List ℕ) = says u ∷ gives b 0 8 ∷ says w ∷ [] in
@@ -217,8 +217,6 @@ beyond want fifo room c v u w b goes hf hr s =
     ∙ again-reads want fifo u w b [] (s .waits .again) (s .in-ram) (s .whole)
     ∙ ap (λ (t : Bool). if t then refused Refusal.LengthBeyondSlot else restTalk want fifo (u + 0x400) (foundBy (leAt b 0) (leAt b 4)) (flag RXTSEN w)) (lt-ltb _ _ (s .beyond))
 
-pub peek-beyond : PeekBeyond
-peek-beyond fifo room c v u w b = beyond Want.Peek fifo room c v u w b refl
-
-pub get-beyond : GetBeyond
-get-beyond fifo room c v u w b = beyond Want.Get fifo room c v u w b refl
+pub long-refused : LongRefused
+long-refused fifo room c v u w b hf hr s =
+    (beyond Want.Peek fifo room c v u w b refl hf hr s, beyond Want.Get fifo room c v u w b refl hf hr s)

@@ -3,7 +3,7 @@
 use Prim.Native.Nat.{ℕ, _+_, _^_, _≤_, _<_}
 use mathlib.Core.Path.{_≡_}
 use mathlib.Core.Bool.{Bool, true, false}
-use mathlib.Core.List.{List, [], _∷_}
+use mathlib.Core.List.{List, [], _∷_, _++_}
 use lib.ListN.{length, take}
 use Rattle.laws.specs.If.{if_then_else_}
 use Rattle.field.specs.Field.{read, flag}
@@ -33,9 +33,13 @@ gives b x n = (Answer.Exchanged, part b x n)
 abbrev pub parts : Bool → ℕ → List ℕ → List (Answer × List ℕ)
 parts stamped n b = if stamped then gives b 8 4 ∷ gives b 12 (roundUp n) ∷ [] else gives b 8 (roundUp n) ∷ []
 
--- control c, status v, user address u, the header, control again w, timestamp and payload
+-- control c, status v, user address u, the header, control again w
+abbrev pub upToAgain : (c v u w : ℕ) → List ℕ → List (Answer × List ℕ)
+upToAgain c v u w b = says c ∷ says v ∷ says u ∷ gives b 0 8 ∷ says w ∷ []
+
+-- these, timestamp and payload
 abbrev pub answers : (c v u w n : ℕ) → List ℕ → List (Answer × List ℕ)
-answers c v u w n b = says c ∷ says v ∷ says u ∷ gives b 0 8 ∷ says w ∷ parts (flag RXTSEN w) n b
+answers c v u w n b = upToAgain c v u w b ++ parts (flag RXTSEN w) n b
 
 -- a receive FIFO that holds a message, by control, status and control again
 pub record Waits (c v w : ℕ) : Type 0 where
@@ -74,23 +78,18 @@ pub record TooLong (c v u w : ℕ) (b : List ℕ) : Type 0 where
   pub in-ram : inRange (u + 0x400) 8 ≡ true
   pub beyond : payloadOf w < receivedLength (flag FDF (leAt b 4)) (read DLC (leAt b 4))
 
--- a peek is refused 35, wherever timestamp and payload lie
-abbrev pub PeekBeyond : Type 0
-PeekBeyond =
+-- a peek and a get are refused 35, wherever timestamp and payload lie
+abbrev pub LongRefused : Type 0
+LongRefused =
     (fifo room c v u w : ℕ) (b : List ℕ) → isFifo fifo ≡ true → 64 ≤ room → TooLong c v u w b
-    → run answered (peekTalk fifo room) (says c ∷ says v ∷ says u ∷ gives b 0 8 ∷ says w ∷ []) ≡ refused Refusal.LengthBeyondSlot
-
--- so is a get
-abbrev pub GetBeyond : Type 0
-GetBeyond =
-    (fifo room c v u w : ℕ) (b : List ℕ) → isFifo fifo ≡ true → 64 ≤ room → TooLong c v u w b
-    → run answered (getTalk fifo room) (says c ∷ says v ∷ says u ∷ gives b 0 8 ∷ says w ∷ []) ≡ refused Refusal.LengthBeyondSlot
+    → (run answered (peekTalk fifo room) (upToAgain c v u w b) ≡ refused Refusal.LengthBeyondSlot)
+    × (run answered (getTalk fifo room) (upToAgain c v u w b) ≡ refused Refusal.LengthBeyondSlot)
 
 -- the size of a slot by its control word: 8, 4 with a timestamp, what PLSIZE means
 abbrev pub slotSize : ℕ → ℕ
 slotSize w = bodyAt (flag RXTSEN w) + payloadOf w
 
--- what is read of RAM, which begins at 0x400, lies in the n bytes at a
+-- what is read of RAM, which begins at 0x400, lies in the n bytes at a; no checked read is asked for
 abbrev pub ReadsIn : (a n : ℕ) → Ask → Type 0
 ReadsIn a n (Ask.Read x k) = 0x400 < x + k → (a ≤ x) × (x + k ≤ a + n)
 ReadsIn a n (Ask.Checked x) = ⊥
@@ -104,7 +103,8 @@ ReadsIn a n Ask.Nothing = Unit {0}
 abbrev pub wordIn : Answer × List ℕ → ℕ
 wordIn x = leAt (x .1) 0
 
--- whatever is answered, after any k of the answers: by the third, the user address, and the fifth, control again, no byte behind the slot
+-- of peek and get, whatever is answered: what they ask for, after any k of the answers, reads no byte of RAM but the slot's, which is at the user
+-- address, the third answer, and has the size that control again, the fifth, means
 abbrev pub ReadsItsSlot : Type 0
 ReadsItsSlot =
     (want : Want) (fifo room : ℕ) (control status user header again : Answer × List ℕ) (xs : List (Answer × List ℕ)) (k : ℕ)
@@ -119,7 +119,6 @@ HasNextNever35 = (fifo : ℕ) (xs : List (Answer × List ℕ)) → run answered 
 pub record Laws : Type 0 where
   pub peekReads : PeekReads
   pub getReads : GetReads
-  pub peekBeyond : PeekBeyond
-  pub getBeyond : GetBeyond
+  pub longRefused : LongRefused
   pub readsItsSlot : ReadsItsSlot
   pub hasNextNever35 : HasNextNever35
