@@ -23,7 +23,7 @@ use Rattle.call.specs.declared.Found.{Found}
 use Rattle.fetch.specs.declared.Want.{Want}
 use Rattle.fetch.specs.Step.{foundBy, stamped}
 use Rattle.rx_fifo.specs.Outcome.{messageOf}
-use Rattle.rx_fifo.specs.Talk.{message, empty, commitTalk, nextTalk, lastTalk, bodyTalk, toBodyTalk, timeTalk, toTimeTalk, restTalk, againTalk, headerTalk, toHeaderTalk, addressTalk, heldTalk, statusTalk, controlTalk, hasNextTalk, lentTalk, peekTalk, getTalk}
+use Rattle.rx_fifo.specs.Talk.{message, empty, commitTalk, nextTalk, lastTalk, bodyTalk, toBodyTalk, timeTalk, toTimeTalk, restTalk, slotTalk, againTalk, headerTalk, toHeaderTalk, addressTalk, heldTalk, statusTalk, controlTalk, hasNextTalk, lentTalk, peekTalk, getTalk}
 
 abbrev word : Answer → List ℕ → OneWord
 word = wordReply Refusal.SpiRead
@@ -58,7 +58,7 @@ module _ (want : Want) (fifo n : ℕ) (last : (m : Message) → Within n (lastTa
 
   pub again-within : (m : ℕ) (f : Found) → Within (suc (suc (suc n))) (againTalk want fifo m f)
   again-within m f = λ a rx.
-      word-within (suc (suc n)) (word a rx) (λ w. if ltb (payloadOf w) (f .len) then refused Refusal.LengthBeyondSlot else restTalk want fifo m f (flag RXTSEN w))
+      word-within (suc (suc n)) (word a rx) (slotTalk want fifo m f)
       (λ w.
       if-within (suc (suc n)) (ltb (payloadOf w) (f .len)) (refused Refusal.LengthBeyondSlot) (restTalk want fifo m f (flag RXTSEN w)) tt
       (rest-within m f (flag RXTSEN w)))

@@ -38,7 +38,7 @@ use Rattle.call.specs.declared.Found.{Found}
 use Rattle.fetch.specs.declared.Want.{Want}
 use Rattle.fetch.specs.Step.{foundBy, stamped}
 use Rattle.rx_fifo.specs.Outcome.{messageOf}
-use Rattle.rx_fifo.specs.Talk.{Fetched, lastTalk, bodyTalk, toBodyTalk, timeTalk, toTimeTalk, restTalk, againTalk, headerTalk, toHeaderTalk, addressTalk, heldTalk, statusTalk, controlTalk, lentTalk}
+use Rattle.rx_fifo.specs.Talk.{Fetched, lastTalk, bodyTalk, toBodyTalk, timeTalk, toTimeTalk, restTalk, slotTalk, againTalk, headerTalk, toHeaderTalk, addressTalk, heldTalk, statusTalk, controlTalk, lentTalk}
 use Rattle.rx_fifo.specs.Laws.{says, gives, parts, answers, Waits, upToAgain, Shows, PeekReads, GetReads, TooLong, LongRefused}
 
 -- ---- what the answers say
@@ -108,10 +108,6 @@ unfolding messageOf messageIn part
 message-is stamped n b h =
     let p : take (min n 64) (take (roundUp n) (drop (bodyAt stamped) b)) ≡ take n (drop (bodyAt stamped) b) = rw (min-eq-left h) (take-take n (roundUp n) (drop (bodyAt stamped) b) (up-le n)) in
     λ i. record { header = headerOf (leAt b 0) (leAt b 4); dlc = read DLC (leAt b 4); seq = 0; stamp = if stamped then Stamp.At (leAt b 8) else Stamp.None; payload = p i }
-
--- by the second control word w
-abbrev slotTalk : Want → (fifo m : ℕ) → Found → (w : ℕ) → Talk Fetched
-slotTalk want fifo m f w = if ltb (payloadOf w) (f .len) then refused Refusal.LengthBeyondSlot else restTalk want fifo m f (flag RXTSEN w)
 
 -- user address, header and control again
 again-reads : (want : Want) (fifo u w : ℕ) (b : List ℕ) (xs : List (Answer × List ℕ)) → w < 2 ^ 32 → inRange (u + 0x400) 8 ≡ true → 8 ≤ length b

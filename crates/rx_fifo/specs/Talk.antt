@@ -66,11 +66,13 @@ toTimeTalk want fifo x f = if inRange x 4 then timeTalk want fifo x f else refus
 abbrev pub restTalk : Want → (fifo m : ℕ) → Found → (stamped : Bool) → Talk Fetched
 restTalk want fifo m f stamped = if stamped then toTimeTalk want fifo (m + 8) f else toBodyTalk want fifo (m + 8) f
 
--- control again: 35 for a payload longer than its PLSIZE means
+-- by the second control word w: 35 for a payload longer than its PLSIZE means
+abbrev pub slotTalk : Want → (fifo m : ℕ) → Found → (w : ℕ) → Talk Fetched
+slotTalk want fifo m f w = if ltb (payloadOf w) (f .len) then refused Refusal.LengthBeyondSlot else restTalk want fifo m f (flag RXTSEN w)
+
+-- control again
 abbrev pub againTalk : Want → (fifo m : ℕ) → Found → Talk Fetched
-againTalk want fifo m f =
-    readWord Refusal.SpiRead (CiFIFOCON .address fifo)
-    (λ w. if ltb (payloadOf w) (f .len) then refused Refusal.LengthBeyondSlot else restTalk want fifo m f (flag RXTSEN w))
+againTalk want fifo m f = readWord Refusal.SpiRead (CiFIFOCON .address fifo) (slotTalk want fifo m f)
 
 -- 8 header bytes, at m
 abbrev pub headerTalk : Want → (fifo m : ℕ) → Talk Fetched
