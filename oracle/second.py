@@ -48,7 +48,7 @@ def parse_header(b):
     ext = bits(w1, 4, 4)
     ident = ('ext %x' % (bits(w0, 10, 0) << 18 | bits(w0, 28, 11))) if ext else 'std %x' % bits(w0, 10, 0)
     fl = ''.join(c for c, k in (('f', 7), ('b', 6), ('e', 8), ('r', 5)) if bits(w1, k, k)) or '-'
-    return ident, fl, bits(w1, 31, 9), bits(w1, 3, 0)
+    return ident, fl, bits(w1, 31, 9), bits(w1, 3, 0), bits(w1, 15, 11)
 
 # ---------------------------------------------------------------- chip
 RESETS = {0x000: 0x04980760, 0x004: 0x003E0F0F, 0x008: 0x000E0303, 0x00C: 0x00021000, 0x014: 0, 0x01C: 0,
@@ -164,14 +164,14 @@ class Chip:
         return a
     def decode(s, n, i):
         a = s.slot(n, i)
-        ident, fl, seq, dlc = parse_header(s.ram[a:a + 8])
+        ident, fl, seq, dlc, filhit = parse_header(s.ram[a:a + 8])
         ln = (sent_len if s.tx(n) else received_len)(dlc, 'f' in fl)
         if ln is None or ln > s.plsize(n): return 'no frame'
         p = a + 8
         if s.tx(n): return 'frame %s %s %d %s' % (ident, fl, seq, hx(s.ram[p:p + ln]))
         t = '-'
         if s.ts(n): t = '%08x' % word(s.ram[p:p + 4]); p += 4
-        return 'message %s %s %s %s %d' % (ident, fl, t, hx(s.ram[p:p + ln]), dlc)
+        return 'message %s %s %s %s %d %d' % (ident, fl, t, hx(s.ram[p:p + ln]), dlc, filhit)
     def send(s, n):
         if not 1 <= n <= 31: return 'refused 20'
         if s.conf or not s.tx(n) or not bits(s.con[n], 9, 9) or s.count[n] == 0: return 'nothing sent'
@@ -404,7 +404,7 @@ def part(a, n):
 def c_peek(n):
     if (yield from c_has_next(n)) == 'no': return 'none'
     a = yield from uaddr(n)
-    ident, fl, _, dlc = parse_header((yield from part(a, 8)))
+    ident, fl, _, dlc, filhit = parse_header((yield from part(a, 8)))
     ln = received_len(dlc, 'f' in fl)
     con = yield from rd(conaddr(n))
     if ln > PL[bits(con, 31, 29)]: raise Refused(35)
@@ -412,7 +412,7 @@ def c_peek(n):
     if bits(con, 5, 5):
         t = '%08x' % word((yield from part(a, 4))); a += 4
     p = (yield from part(a, up4(ln)))[:ln]
-    return 'message %s %s %s %s %d' % (ident, fl, t, hx(p), dlc)
+    return 'message %s %s %s %s %d %d' % (ident, fl, t, hx(p), dlc, filhit)
 def c_get(n):
     r = yield from c_peek(n)
     if r != 'none': yield from mod(conaddr(n), fields((8, 8, 1)))
