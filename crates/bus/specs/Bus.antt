@@ -64,9 +64,10 @@ sentAs (refused r) m = record { sending = Sending.Refused r; frame = frameOf bla
 abbrev pub stampFor : Model → (n time : ℕ) → Stamp
 stampFor m n time = if stamped (frozenAt m n) then Stamp.At time else Stamp.None
 
--- a frame as FIFO n receives it: with its DLC, and no SEQ
-unfoldable pub incoming : Model → ℕ → Header → (dlc time : ℕ) → List ℕ → Message
-incoming m n header dlc time payload = record { header = header; dlc = dlc; seq = 0; stamp = stampFor m n time; payload = payload }
+-- a frame that filter `hit` took, as FIFO n receives it: with its DLC and that filter, and no SEQ
+unfoldable pub incoming : Model → (n hit : ℕ) → Header → (dlc time : ℕ) → List ℕ → Message
+incoming m n hit header dlc time payload =
+    record { header = header; dlc = dlc; filter = hit; seq = 0; stamp = stampFor m n time; payload = payload }
 
 abbrev pub delivered : Delivery → Model → Delivered
 delivered answer m = record { delivery = answer; model = m }

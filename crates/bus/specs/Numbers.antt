@@ -11,9 +11,9 @@ use Rattle.bus.specs.declared.arrival.Delivery.{Delivery}
 use Rattle.bus.specs.declared.sorting.Sorted.{Sorted}
 use Rattle.bus.specs.Bus.{Output, frame, noFrame, nothing, refused}
 
--- a message: the length of its payload, header, DLC, SEQ, payload, timestamp
+-- a message: the length of its payload, header, DLC, filter, SEQ, payload, timestamp
 abbrev pub messageNumbers : Message → List ℕ
-messageNumbers m = length (m .payload) ∷ headerNumbers (m .header) ++ (m .dlc ∷ m .seq ∷ m .payload ++ stampNumbers (m .stamp))
+messageNumbers m = length (m .payload) ∷ headerNumbers (m .header) ++ (m .dlc ∷ m .filter ∷ m .seq ∷ m .payload ++ stampNumbers (m .stamp))
 
 -- a send: how many messages left the FIFO, and the frame
 abbrev pub outputNumbers : Output → List ℕ

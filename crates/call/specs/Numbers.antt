@@ -20,9 +20,9 @@ abbrev pub stampNumbers : Stamp → List ℕ
 stampNumbers Stamp.None = []
 stampNumbers (Stamp.At t) = t ∷ []
 
--- what is told of a message: the length of its payload, header, DLC, timestamp
+-- what is told of a message: the length of its payload, header, DLC, filter, timestamp
 abbrev pub foundNumbers : Found → List ℕ
-foundNumbers f = f .len ∷ headerNumbers (f .header) ++ (f .dlc ∷ stampNumbers (f .stamp))
+foundNumbers f = f .len ∷ headerNumbers (f .header) ++ (f .dlc ∷ f .filter ∷ stampNumbers (f .stamp))
 
 -- a rewrite that was told: 0, the word read back and its mismatches, or the number of what it was refused with
 abbrev pub rewriteNumbers : Rewrite → List ℕ

@@ -3,10 +3,12 @@ use header::Header;
 use message::Stamp;
 use spi::Refusal;
 
-// A message that was found in a receive FIFO, with the DLC that it was received with. Its payload of `len` bytes is in the lent buffer.
+// A message that was found in a receive FIFO, with the DLC that it was received with and the number of the filter that took it. Its payload of
+// `len` bytes is in the lent buffer.
 pub struct Found {
     pub header: Header,
     pub dlc: u8,
+    pub filter: u8,
     pub stamp: Stamp,
     pub len: u8,
 }

@@ -84,7 +84,7 @@ cases =
     ∷ ((storedSize 40 ∷ []) is (31 ∷ []))
     ∷ ((sevenOf (negsuc 0) ∷ sevenOf (negsuc 63) ∷ []) is (0x7F ∷ 0x40 ∷ []))
     ∷ ((word0 (classic true 0x18DA00F1) ∷ []) is (0x10078E36 ∷ []))
-    ∷ (written (record { header = classic false 0x123; dlc = 3; seq = 5; stamp = Stamp.None; payload = 1 ∷ 2 ∷ 3 ∷ [] })
+    ∷ (written (record { header = classic false 0x123; dlc = 3; filter = 0; seq = 5; stamp = Stamp.None; payload = 1 ∷ 2 ∷ 3 ∷ [] })
     is (0x23 ∷ 0x01 ∷ 0 ∷ 0 ∷ 0x03 ∷ 0x0A ∷ 0 ∷ 0 ∷ 0x01 ∷ 0x02 ∷ 0x03 ∷ 0 ∷ []))
     ∷ (leaving (chipWith 28 6) is (2048 ∷ 0 ∷ []))
     ∷ (leaving (chipWith 21 7) ++ leaving (chipWith 22 7) is (1992 ∷ 0 ∷ 2064 ∷ 27 ∷ 4 ∷ []))

@@ -4,7 +4,7 @@ use Prim.Native.Nat.{ℕ}
 use mathlib.Core.Bool.{true, false}
 use Rattle.laws.specs.If.{if_then_else_}
 use Rattle.field.specs.Field.{read}
-use Rattle.header.specs.Header.{DLC, headerOf}
+use Rattle.header.specs.Header.{DLC, FILHIT, headerOf}
 use Rattle.message.specs.declared.object.Stamp.{Stamp}
 use Rattle.spi.specs.declared.refusal.Refusal.{Refusal}
 use Rattle.call.specs.declared.Found.{Found}
@@ -18,7 +18,7 @@ stampIn c = if c .stamped then Stamp.At (c .t) else Stamp.None
 
 -- what the numbers say of the message
 abbrev pub foundIn : FetchNumbers → Found
-foundIn c = record { header = headerOf (c .a) (c .b); dlc = read DLC (c .b); stamp = stampIn c; len = c .len }
+foundIn c = record { header = headerOf (c .a) (c .b); dlc = read DLC (c .b); filter = read FILHIT (c .b); stamp = stampIn c; len = c .len }
 
 abbrev pub placeAt : FetchStage → FetchNumbers → FetchAt
 placeAt FetchStage.Control c = FetchAt.Control

@@ -11,7 +11,7 @@ use Rattle.fifo.specs.Control.{TXEN, RXTSEN, payloadOf}
 use Rattle.fifo.specs.Status.{TFNRFNIF}
 use Rattle.words.specs.Words.{roundUp}
 use Rattle.header.specs.Dlc.{receivedLength}
-use Rattle.header.specs.Header.{DLC, FDF, headerOf}
+use Rattle.header.specs.Header.{DLC, FDF, FILHIT, headerOf}
 use Rattle.message.specs.declared.object.Stamp.{Stamp}
 use Rattle.spi.specs.declared.refusal.Refusal.{Refusal}
 use Rattle.spi.specs.declared.ask.Answer.{Answer}
@@ -52,7 +52,7 @@ afterAddress u =
 
 -- what the header's words say of the message
 abbrev pub foundBy : (a b : ℕ) → Found
-foundBy a b = record { header = headerOf a b; dlc = read DLC b; stamp = Stamp.None; len = receivedLength (flag FDF b) (read DLC b) }
+foundBy a b = record { header = headerOf a b; dlc = read DLC b; filter = read FILHIT b; stamp = Stamp.None; len = receivedLength (flag FDF b) (read DLC b) }
 
 -- by the header's words
 unfoldable pub afterHeader : ℕ → ℕ → ℕ → FetchAt
@@ -75,7 +75,7 @@ unfoldable pub afterAgain : ℕ → Found → ℕ → FetchAt
 afterAgain m f w = if ltb (payloadOf w) (f .len) then FetchAt.Refused Refusal.LengthBeyondSlot else toRest m f (flag RXTSEN w)
 
 abbrev pub stamped : Found → ℕ → Found
-stamped f t = record { header = f .header; dlc = f .dlc; stamp = Stamp.At t; len = f .len }
+stamped f t = record { header = f .header; dlc = f .dlc; filter = f .filter; stamp = Stamp.At t; len = f .len }
 
 -- by the timestamp word at x
 unfoldable pub afterTime : ℕ → Found → ℕ → FetchAt

@@ -4,11 +4,12 @@ use mathlib.Core.Path.{_≡_, refl, sym, ap, ap₂, _∙_}
 use mathlib.Core.Bool.{Bool, true, false}
 use mathlib.Core.List.{List, [], _∷_, _++_}
 use Prim.Native.Nat.{ℕ, zero, suc, _+_, _*_, _/_, _%_, _^_, _≤_, _<_}
+use native.Mathlib.Nat.{mod-lt}
 use native.Mathlib.Omega.{arith}
 use lib.Dec.{eqb, lit<}
 use Rattle.laws.specs.If.{if_then_else_}
 use Rattle.laws.specs.All.{all}
-use Rattle.field.specs.Field.{Field, read, write, Fits, flag, digit, allApart, within}
+use Rattle.field.specs.Field.{Field, withField, read, write, Fits, flag, digit, allApart, within}
 use Rattle.field.specs.Settings.{Setting, _:=_, fieldsOf, settings, AllFit}
 use Rattle.field.proofs.Laws.{field-lt, write-read, digit-lt, digit-back}
 use Rattle.field.proofs.Sets.{fieldAt, valueAt, own, settings-lt, tiled}
@@ -181,8 +182,11 @@ pub word1-again : (a b : ℕ) → word1 (headerOf a b) (read SEQ b) (read DLC b)
 unfolding word1
 word1-again a b = ap (write SEQ (read SEQ b)) (same-flags a b) ∙ tiled b 9 32 (SEQ ∷ []) refl
 
-pub received1-again : (a b : ℕ) → received1 (headerOf a b) (read DLC b) 0 ≡ meaning1 false b
+-- FILHIT above the flags
+hit-above : (v w : ℕ) → w < 2 ^ 9 → write FILHIT v w ≡ v * 2 ^ 11 + w
+unfolding withField
+hit-above v w h = omega arith
+
+pub received1-again : (a b : ℕ) → received1 (headerOf a b) (read DLC b) (read FILHIT b) ≡ meaning1 false b
 unfolding received1
-received1-again a b =
-    let none : read FILHIT (b % 2 ^ 9) ≡ 0 = omega arith in
-    ap (write FILHIT 0) (same-flags a b) ∙ ap (λ (v : ℕ). write FILHIT v (b % 2 ^ 9)) (sym none) ∙ write-read FILHIT (b % 2 ^ 9)
+received1-again a b = ap (write FILHIT (read FILHIT b)) (same-flags a b) ∙ hit-above (read FILHIT b) (b % 2 ^ 9) (mod-lt b (omega arith))

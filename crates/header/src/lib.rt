@@ -108,6 +108,13 @@ pub fn dlc_of(b: u32) -> u8
     field::get(b, 0, 4) as u8
 }
 
+// The filter that the second word of an object received names.
+pub fn filter_of(b: u32) -> u8
+    ensures { λ r. ⌜ (r ≡ read FILHIT b) × (r < 32) ⌝ }
+{
+    field::get(b, 11, 5) as u8
+}
+
 // The payload length that the second word means, of an object to send.
 pub fn length_of(b: u32) -> Length
     ensures { λ r. ⌜ r ≡ lengthOf (flag FDF b) (read DLC b) ⌝ }

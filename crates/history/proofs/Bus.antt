@@ -62,15 +62,23 @@ Listed c t = (j : ℕ) → isFifo j ≡ true → map holds (accepted j t) ≡ ma
 abbrev pub Moves : Model → Said → Model → Type 0
 Moves c x d = (j : ℕ) → isFifo j ≡ true → held c j ++ map holds (acceptedIn j x) ≡ map holds (handedOutIn j x) ++ held d j
 
-pub accepted-snoc : (j : ℕ) (t : List Said) (x : Said) → accepted j (t ++ (x ∷ [])) ≡ accepted j t ++ acceptedIn j x
+pub accepted-append : (j : ℕ) (s t : List Said) → accepted j (s ++ t) ≡ accepted j s ++ accepted j t
 unfolding accepted
-accepted-snoc j [] x = append-nil (acceptedIn j x)
-accepted-snoc j (y ∷ t) x = rw (accepted-snoc j t x, append-assoc)
+accepted-append j [] t = refl
+accepted-append j (x ∷ s) t = rw (accepted-append j s t, append-assoc)
 
-pub handedOut-snoc : (j : ℕ) (t : List Said) (x : Said) → handedOut j (t ++ (x ∷ [])) ≡ handedOut j t ++ handedOutIn j x
+pub handedOut-append : (j : ℕ) (s t : List Said) → handedOut j (s ++ t) ≡ handedOut j s ++ handedOut j t
 unfolding handedOut
-handedOut-snoc j [] x = append-nil (handedOutIn j x)
-handedOut-snoc j (y ∷ t) x = rw (handedOut-snoc j t x, append-assoc)
+handedOut-append j [] t = refl
+handedOut-append j (x ∷ s) t = rw (handedOut-append j s t, append-assoc)
+
+accepted-snoc : (j : ℕ) (t : List Said) (x : Said) → accepted j (t ++ (x ∷ [])) ≡ accepted j t ++ acceptedIn j x
+unfolding accepted
+accepted-snoc j t x = accepted-append j t (x ∷ []) ∙ rw append-nil
+
+handedOut-snoc : (j : ℕ) (t : List Said) (x : Said) → handedOut j (t ++ (x ∷ [])) ≡ handedOut j t ++ handedOutIn j x
+unfolding handedOut
+handedOut-snoc j t x = handedOut-append j t (x ∷ []) ∙ rw append-nil
 
 pub lists-snoc : (c d : Model) (t : List Said) (x : Said) → Listed c t → Moves c x d → Listed d (t ++ (x ∷ []))
 lists-snoc c d t x l m j h =
@@ -280,32 +288,32 @@ module _ (c : Model) (s : Sound c) where
   send-step t l n true false h e = quiet-step c c _ (λ j. refl) (λ j. only-none j n) (λ j. refl) (later-same c)
   send-step t l n false b h e = quiet-step c c _ (λ j. refl) (λ j. only-none j n) (λ j. refl) (later-same c)
 
-  module _ (n : ℕ) (header : Header) (dlc time : ℕ) (payload : List ℕ) where
-    -- what an answer to a frame comes to
+  module _ (n hit : ℕ) (header : Header) (dlc time : ℕ) (payload : List ℕ) where
+    -- what an answer to a frame comes to, where filter `hit` took it
     abbrev pub Answered : Delivered → Type 0
-    Answered r = Step c (arrived n (incoming c n header dlc time payload) (r .delivery)) (r .model)
+    Answered r = Step c (arrived n (incoming c n hit header dlc time payload) (r .delivery)) (r .model)
 
     -- one that says that nothing changed
-    pub unmoved : (d : Delivery) → ((j : ℕ) → acceptedIn j (arrived n (incoming c n header dlc time payload) d) ≡ []) → Answered (delivered d c)
+    pub unmoved : (d : Delivery) → ((j : ℕ) → acceptedIn j (arrived n (incoming c n hit header dlc time payload) d) ≡ []) → Answered (delivered d c)
     unmoved d e = quiet-step c c _ e (λ j. refl) (λ j. refl) (later-same c)
 
     delivered-step : isFifo n ≡ true → sending (frozenAt c n) ≡ false → fifoAt c n .count < depth (frozenAt c n)
         → (bs : List ℕ) → length bs ≤ size (frozenAt c n)
-        → ((r : List ℕ) → decoding (sending (frozenAt c n)) (stamped (frozenAt c n)) (bs ++ r) ≡ holds (incoming c n header dlc time payload))
+        → ((r : List ℕ) → decoding (sending (frozenAt c n)) (stamped (frozenAt c n)) (bs ++ r) ≡ holds (incoming c n hit header dlc time payload))
         → Answered (delivered Delivery.Delivered (withFifo (written c (slotOf c n (fifoAt c n .count)) bs) n (claimed (fifoAt c n))))
     unfolding claimed
     delivered-step h r free bs fits back = record {
       later = later-delivered c s n h r free bs fits;
       moves = λ j k.
           rw map-only
-          (rw (filled-held c s n h free bs fits j, filled-item c s n h free bs fits (incoming c n header dlc time payload) back)
+          (rw (filled-held c s n h free bs fits j, filled-item c s n h free bs fits (incoming c n hit header dlc time payload) back)
           at (more-held (filled c n bs) (filled-sound c s n h free bs fits) n h (claimed (fifoAt c n)) refl refl j));
     }
 
     -- a frame that a filter took
-    pub give-step : time < 2 ^ 32 → (hit : ℕ) → hit < 32 → arrivalCheck header dlc (length payload) ≡ Done.Good → Answered (give c n hit dlc header time payload)
+    pub give-step : time < 2 ^ 32 → hit < 32 → arrivalCheck header dlc (length payload) ≡ Done.Good → Answered (give c n hit dlc header time payload)
     unfolding overflowed
-    give-step small hit l e =
+    give-step small l e =
         by-give c n header dlc time payload Answered hit
         (λ a. unmoved _ (λ j. only-none j n)) (λ a b. unmoved _ (λ j. only-none j n)) (λ a b x. unmoved _ (λ j. only-none j n))
         (λ a b x z.
@@ -314,24 +322,27 @@ module _ (c : Model) (s : Sound c) where
         (later-kept c s n h (overflowed true (fifoAt c n)) refl refl))
         (λ a b x z.
         let (h, r) = receives-is c n b in
-        delivered-step h r (leb-false _ _ z) _ (object-fits c n hit dlc header time payload (ltb-false _ _ x)) (coming-back c n header dlc time payload small r hit l e))
+        delivered-step h r (leb-false _ _ z) _ (object-fits c n hit dlc header time payload (ltb-false _ _ x)) (coming-back c n hit header dlc time payload small r l e))
 
-    -- one that names its FIFO
-    deliver-step : time < 2 ^ 32 → Answered (deliverOf c n header dlc time payload)
-    deliver-step small =
-        by-deliver c n header dlc time payload Answered
-        (λ i. unmoved _ (λ j. only-none j n)) (λ i t. unmoved _ (λ j. only-none j n)) (λ i t d. unmoved _ (λ j. only-none j n))
-        (λ i t e. give-step small 0 (omega arith))
+  -- one that names its FIFO
+  deliver-step : (n : ℕ) (header : Header) (dlc time : ℕ) (payload : List ℕ) → time < 2 ^ 32
+      → Answered n 0 header dlc time payload (deliverOf c n header dlc time payload)
+  deliver-step n header dlc time payload small =
+      let none : (d : Delivery) → ((j : ℕ) → acceptedIn j (arrived n (incoming c n 0 header dlc time payload) d) ≡ []) → Answered n 0 header dlc time payload (delivered d c)
+      = unmoved n 0 header dlc time payload in
+      by-deliver c n header dlc time payload (Answered n 0 header dlc time payload)
+      (λ i. none _ (λ j. only-none j n)) (λ i t. none _ (λ j. only-none j n)) (λ i t d. none _ (λ j. only-none j n))
+      (λ i t e. give-step n 0 header dlc time payload small (omega arith))
 
   -- one that the filters sort
   sort-step : (header : Header) (dlc time : ℕ) (payload : List ℕ) → time < 2 ^ 32
-      → let r = sortOf c header dlc time payload in Step c (arrived (r .fifo) (incoming c (r .fifo) header dlc time payload) (r .delivery)) (r .model)
+      → let r = sortOf c header dlc time payload in Step c (arrived (r .fifo) (incoming c (r .fifo) (r .filter) header dlc time payload) (r .delivery)) (r .model)
   sort-step header dlc time payload small =
       let n = targetFor c (filterFor c header) in
-      by-sort c header dlc time payload (λ r. Step c (arrived (r .fifo) (incoming c (r .fifo) header dlc time payload) (r .delivery)) (r .model))
-      (λ t. unmoved 0 header dlc time payload _ (λ j. only-none j 0)) (λ t e. unmoved 0 header dlc time payload _ (λ j. only-none j 0))
-      (λ t e z. unmoved 0 header dlc time payload _ (λ j. only-none j 0)) (λ t e z g. unmoved 0 header dlc time payload _ (λ j. only-none j 0))
-      (λ t e z g. give-step n header dlc time payload small (filterFor c header) (leb-false filterCount (filterFor c header) g))
+      by-sort c header dlc time payload (λ r. Step c (arrived (r .fifo) (incoming c (r .fifo) (r .filter) header dlc time payload) (r .delivery)) (r .model))
+      (λ t. unmoved 0 0 header dlc time payload _ (λ j. only-none j 0)) (λ t e. unmoved 0 0 header dlc time payload _ (λ j. only-none j 0))
+      (λ t e z. unmoved 0 0 header dlc time payload _ (λ j. only-none j 0)) (λ t e z g. unmoved 0 0 header dlc time payload _ (λ j. only-none j 0))
+      (λ t e z g. give-step n (filterFor c header) header dlc time payload small (leb-false filterCount (filterFor c header) g))
 
 -- a send from the queue: no FIFO changes, and where a slot is free the one shown stays
 queue-step : (c : Model) → Sound c → (b : Bool) → queueSends c ≡ b

@@ -19,6 +19,7 @@ use Rattle.history.proofs.QueueAsked.{queue-request-exactly}
 use Rattle.history.proofs.QueueSets.{queue-enabled, queue-set-up}
 use Rattle.history.proofs.Scrubs.{flip-reported, rewrite-leaves}
 use Rattle.history.proofs.Counts.{never-mismatches, none-mismatched}
+use Rattle.history.proofs.Sorted.{filter-told}
 use Rattle.history.proofs.Example as example
 
 pub demand3 : Demand3
@@ -56,6 +57,7 @@ demand3 = record {
   rewriteLeaves = rewrite-leaves;
   neverMismatches = never-mismatches;
   noneMismatched = none-mismatched;
+  filterTold = filter-told;
   begins = example.begins;
   sends = example.computed .0;
   sendsNot = example.computed .1;

@@ -19,7 +19,7 @@ use Rattle.words.proofs.Laws.{up-le}
 use Rattle.parts.specs.Parts.{part, put}
 use Rattle.header.specs.declared.dlc.Length.{Length}
 use Rattle.header.specs.Dlc.{receivedLength}
-use Rattle.header.specs.Header.{DLC, FDF, headerOf}
+use Rattle.header.specs.Header.{DLC, FDF, FILHIT, headerOf}
 use Rattle.header.proofs.Dlcs.{received-le}
 use Rattle.message.specs.declared.object.Stamp.{Stamp}
 use Rattle.message.specs.Message.{Message, bodyAt, holds, messageIn, lengthIn, decoding}
@@ -103,7 +103,7 @@ eight false = omega arith
 
 -- with this timestamp; with its own it is foundOf m
 abbrev tells : Message → Stamp → Found
-tells m s = record { header = m .header; dlc = m .dlc; stamp = s; len = length (m .payload) }
+tells m s = record { header = m .header; dlc = m .dlc; filter = m .filter; stamp = s; len = length (m .payload) }
 
 -- before its timestamp is read
 abbrev pub plain : Message → Found
@@ -126,7 +126,7 @@ module _ (m : Message) where
   put-message buf s h =
       let p : take (min (length (m .payload)) 64) (m .payload ++ drop (0 + length (m .payload)) buf) ≡ m .payload
       = rw (min-eq-left h) (take-append-seam (m .payload) _) in
-      λ i. record { header = m .header; dlc = m .dlc; seq = sym s i; stamp = m .stamp; payload = p i }
+      λ i. record { header = m .header; dlc = m .dlc; filter = m .filter; seq = sym s i; stamp = m .stamp; payload = p i }
 
   -- what is held of an answer gives the message that the answer gives
   held-message : (held rx : List ℕ) → length (m .payload) ≤ length rx → messageOf (foundOf m) (heldOf held rx) ≡ messageOf (foundOf m) rx
@@ -135,7 +135,7 @@ module _ (m : Message) where
       let n : ℕ = min (length (m .payload)) 64 in
       let l : n ≤ length (take 64 rx) = rw (length-take 64 rx) (omega arith) in
       let p = take-append-le n (take 64 rx) _ l ∙ take-take n 64 rx (omega arith) in
-      λ i. record { header = m .header; dlc = m .dlc; seq = 0; stamp = m .stamp; payload = p i }
+      λ i. record { header = m .header; dlc = m .dlc; filter = m .filter; seq = 0; stamp = m .stamp; payload = p i }
 
 pub held-length : (held rx : List ℕ) → length held ≡ 64 → length (heldOf held rx) ≡ 64
 unfolding heldOf put
@@ -202,6 +202,10 @@ module _ (l : List ℕ) (x fr : ℕ) (m : Message) (long : length l ≡ 2048) (r
   unfolding messageIn
   dlc-is = rw (← word-4) (ap (λ (k : Message). k .dlc) message-in)
 
+  filter-is : read FILHIT (leAt l (x + 4)) ≡ m .filter
+  unfolding messageIn
+  filter-is = rw (← word-4) (ap (λ (k : Message). k .filter) message-in)
+
   length-is : receivedLength (flag FDF (leAt l (x + 4))) (read DLC (leAt l (x + 4))) ≡ length (m .payload)
   length-is = rw (← word-4) (received-is _ _ (object .length-is) ∙ count-is)
 
@@ -240,7 +244,7 @@ module _ (l : List ℕ) (x fr : ℕ) (m : Message) (long : length l ≡ 2048) (r
   unfolding afterHeader
   next-header want =
       ap (λ (r : TwoWords). onPair FetchAt.Refused r (afterHeader (x + 0x400))) (pair-given l x (omega (arith, header-in)))
-      ∙ (λ i. FetchAt.Again (x + 0x400) (record { header = header-is i; dlc = dlc-is i; stamp = Stamp.None; len = length-is i }))
+      ∙ (λ i. FetchAt.Again (x + 0x400) (record { header = header-is i; dlc = dlc-is i; filter = filter-is i; stamp = Stamp.None; len = length-is i }))
 
   -- the payload k bytes behind the header's place is in RAM
   to-body : (k : ℕ) (s : Stamp) → bodyAt (stamped fr) ≡ k → m .stamp ≡ s → toBody (x + 0x400 + k) (tells m s) ≡ FetchAt.Body (x + 0x400 + k) (foundOf m)
@@ -296,7 +300,7 @@ module _ (l : List ℕ) (x fr : ℕ) (m : Message) (long : length l ≡ 2048) (r
       let n : ℕ = length (m .payload) in
       let p : take (min n 64) (take (roundUp n) (drop (x + bodyAt (stamped fr)) l)) ≡ m .payload
       = rw (min-eq-left payload-most) (take-take n (roundUp n) (drop (x + bodyAt (stamped fr)) l) (up-le n) ∙ payload-is) in
-      λ i. record { header = m .header; dlc = m .dlc; seq = sym seq-none i; stamp = m .stamp; payload = p i }
+      λ i. record { header = m .header; dlc = m .dlc; filter = m .filter; seq = sym seq-none i; stamp = m .stamp; payload = p i }
 
   pub body-held : (held : List ℕ) → messageOf (foundOf m) (heldOf held (part l (x + bodyAt (stamped fr)) (roundUp (length (m .payload))))) ≡ m
   body-held held = held-message m held _ (omega (arith, body-length)) ∙ body-message

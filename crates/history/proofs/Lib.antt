@@ -48,5 +48,6 @@ pub mod GoesOut
 pub mod Checked
 pub mod Scrubs
 pub mod Counts
+pub mod Sorted
 pub mod Example
 pub mod Demand3

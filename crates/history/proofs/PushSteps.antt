@@ -116,7 +116,7 @@ module _ (c : Model) (o : Sound c) (n : ℕ) (header : Header) (seq : ℕ) (payl
   object-mid w a g =
       let x = g .0 in
       let suits : Suits (sending (frozenAt c n)) (stamped (frozenAt c n)) sent
-      = rw (x .tx, not-stamped (frozenAt c n) (x .tx)) (record { seq = refl; stamp = tt }) in
+      = rw (x .tx, not-stamped (frozenAt c n) (x .tx)) (record { filter = refl; seq = refl; stamp = tt }) in
       (record { word = x .word; tx = x .tx; fits = x .fits }, g .1, filled-item c o n i (g .1) bs (x .fits) sent (λ r. round-trip (sending (frozenAt c n)) (stamped (frozenAt c n)) header seq Stamp.None payload bs r coded suits))
 
   -- v is the FIFO with its new control word

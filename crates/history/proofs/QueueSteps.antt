@@ -78,7 +78,7 @@ module _ (c : Model) (o : Sound c) (header : Header) (seq : ℕ) (payload bs : L
 
   -- what the object decodes to
   decodes : (r : List ℕ) → decoding true false (bs ++ r) ≡ holds sent
-  decodes r = round-trip true false header seq Stamp.None payload bs r coded (record { seq = refl; stamp = tt })
+  decodes r = round-trip true false header seq Stamp.None payload bs r coded (record { filter = refl; seq = refl; stamp = tt })
 
   pub shown-told : (w a : ℕ) → QueueMid c sent bs (PushAt.Write w a) → spoken (Ask.Body a (length bs)) (zeroed 76 bs) c ≡ hears Answer.Exchanged [] shownFilled
   unfolding queueShown queueSlot

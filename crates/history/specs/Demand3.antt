@@ -7,6 +7,7 @@ use Rattle.history.specs.Door.{StartsAtDoor}
 use Rattle.history.specs.Queue.{QueueTogether, WinnerSent, QueuePushExactly, QueuePushedIff, QueuePushFails, QueueRequestExactly, QueueEnabled, QueueSetUp}
 use Rattle.history.specs.Scrub.{FlipReported, RewriteLeaves}
 use Rattle.history.specs.Counts.{NeverMismatches, NoneMismatched}
+use Rattle.history.specs.Sorted.{FilterTold}
 use Rattle.history.specs.Example.{Begins, Sends, SendsNot}
 
 pub record Demand3 : Type 0 where
@@ -43,6 +44,7 @@ pub record Demand3 : Type 0 where
   pub rewriteLeaves : RewriteLeaves
   pub neverMismatches : NeverMismatches
   pub noneMismatched : NoneMismatched
+  pub filterTold : FilterTold
   pub begins : Begins
   pub sends : Sends
   pub sendsNot : SendsNot

@@ -85,7 +85,7 @@ story e =
 
 -- the frame as FIFO 2 receives it
 abbrev pub received : Message
-received = record { header = feedback; dlc = feedbackDlc; seq = 0; stamp = Stamp.At 77; payload = feedbackBytes }
+received = record { header = feedback; dlc = feedbackDlc; filter = 0; seq = 0; stamp = Stamp.At 77; payload = feedbackBytes }
 
 -- what the push ends with, and what the send after the request then finds
 abbrev pub saying : Outcome → Output → List Said

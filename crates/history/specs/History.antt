@@ -127,9 +127,9 @@ abbrev pub says : Bus → Model → Said
 says (Send n) c = left n (sendOutput c n)
 says SendQueue c = leftQueue (queueOutput c)
 says (Deliver n header dlc time payload) c =
-    arrived n (incoming c n header dlc (time % 2 ^ 32) payload) (deliverOf c n header dlc (time % 2 ^ 32) payload .delivery)
+    arrived n (incoming c n 0 header dlc (time % 2 ^ 32) payload) (deliverOf c n header dlc (time % 2 ^ 32) payload .delivery)
 says (Sort header dlc time payload) c =
-    let s = sortOf c header dlc (time % 2 ^ 32) payload in arrived (s .fifo) (incoming c (s .fifo) header dlc (time % 2 ^ 32) payload) (s .delivery)
+    let s = sortOf c header dlc (time % 2 ^ 32) payload in arrived (s .fifo) (incoming c (s .fifo) (s .filter) header dlc (time % 2 ^ 32) payload) (s .delivery)
 
 -- one call at a time: a call begins only where none is under way; without one there is nothing to answer
 unfoldable pub event : Event → Doing → Model → List Said → World

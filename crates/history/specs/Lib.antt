@@ -6,5 +6,6 @@ pub mod Demand
 pub mod Queue
 pub mod Scrub
 pub mod Counts
+pub mod Sorted
 pub mod Example
 pub mod Demand3

@@ -76,7 +76,14 @@ object-le m bs e =
 
 module _ (sending : Bool) (w₀ w₁ : ℕ) (p : List ℕ) (hl : lengthIn sending (flag FDF w₁) (read DLC w₁) ≡ Length.Is (length p)) where
   abbrev result : Stamp → Message
-  result s = record { header = headerOf w₀ w₁; dlc = read DLC w₁; seq = if sending then read SEQ w₁ else 0; stamp = s; payload = p }
+  result s = record {
+    header = headerOf w₀ w₁;
+    dlc = read DLC w₁;
+    filter = if sending then 0 else read FILHIT w₁;
+    seq = if sending then read SEQ w₁ else 0;
+    stamp = s;
+    payload = p;
+  }
 
   -- bytes with these words, this timestamp and this payload
   read-as : (stamped : Bool) (b : List ℕ) (s : Stamp) → leAt b 0 ≡ w₀ → leAt b 4 ≡ w₁ → (if stamped then Stamp.At (leAt b 8) else Stamp.None) ≡ s
@@ -115,23 +122,32 @@ module _ (sending : Bool) (w₀ w₁ : ℕ) (p : List ℕ) (hl : lengthIn sendin
     by-stamp false (Stamp.At t) h = absurd h
     by-stamp false Stamp.None h = without
 
--- every field comes back where the second word says the header and SEQ
+-- every field comes back where the second word says the header, the filter and SEQ
 returns : (sending stamped : Bool) (m : Message) (w : ℕ) (r : List ℕ) → m .header .id ≤ topId (m .header .extended)
     → lengthIn sending (m .header .fdf) (m .dlc) ≡ Length.Is (length (m .payload))
-    → Second (m .header) (m .dlc) w → (if sending then read SEQ w else 0) ≡ m .seq → Stamped stamped (m .stamp)
+    → Second (m .header) (m .dlc) w → (if sending then 0 else read FILHIT w) ≡ m .filter → (if sending then read SEQ w else 0) ≡ m .seq → Stamped stamped (m .stamp)
     → decoding sending stamped (objectBytes (word0 (m .header)) w (m .stamp) (m .payload) ++ r) ≡ holds m
-returns sending stamped m w r id long k sq st =
+returns sending stamped m w r id long k ft sq st =
     let h : Header = m .header in
     let len : lengthIn sending (flag FDF w) (read DLC w) ≡ Length.Is (length (m .payload)) = ap₂ (lengthIn sending) (k .fdf-is) (k .dlc-is) ∙ long in
     let hd : headerOf (word0 h) w ≡ h = k .header-is id in
     by-stamp sending (word0 h) w (m .payload) len (word0-lt h id) (k .small) r stamped (m .stamp) st
-    ∙ (λ i. holds (record { header = hd i; dlc = k .dlc-is i; seq = sq i; stamp = m .stamp; payload = m .payload }))
+    ∙ (λ i. holds (record { header = hd i; dlc = k .dlc-is i; filter = ft i; seq = sq i; stamp = m .stamp; payload = m .payload }))
 
 -- the DLC of a payload's length means that length, to send and on reception
 means : (sending fdf : Bool) (n d : ℕ) → dlcOf fdf n ≡ Dlc.Is d → lengthIn sending fdf d ≡ Length.Is n
 unfolding lengthIn
 means true fdf n d e = length-back fdf n d e
 means false fdf n d e = ap Length.Is (received-sent fdf n d (length-back fdf n d e))
+
+-- where there is no SEQ there is no filter
+no-filter : (w : ℕ) → w < 2 ^ 32 → read SEQ w ≡ 0 → read FILHIT w ≡ 0
+no-filter w h e = omega arith
+
+-- so one to write names none
+unnamed : (sending : Bool) (w seq : ℕ) → w < 2 ^ 32 → read SEQ w ≡ seq → (if sending then seq else 0) ≡ seq → (if sending then 0 else read FILHIT w) ≡ 0
+unnamed true w seq h e s = refl
+unnamed false w seq h e s = no-filter w h (e ∙ sym s)
 
 pub round-trip : RoundTrip
 round-trip sending stamped h seq stamp p bs r e s =
@@ -141,17 +157,20 @@ round-trip sending stamped h seq stamp p bs r e s =
     let own : m .dlc ≡ c .dlc = ap codeOr0 (g .dlc) in
     let is : dlcOf (h .fdf) (length p) ≡ Dlc.Is (m .dlc) = g .dlc ∙ ap Dlc.Is (sym own) in
     let small = dlc-16 (h .fdf) (length p) (m .dlc) is in
+    let w : ℕ = word1 h seq (m .dlc) in
+    let k = word1-says h (m .dlc) small seq (g .seq-fits) in
+    let sq = seq-field h (m .dlc) small seq (g .seq-fits) in
     ap (λ (b : List ℕ). decoding sending stamped (b ++ r)) (sym (c .bytes) ∙ ap (bytesOf m) (sym own))
-    ∙ returns sending stamped m (word1 h seq (m .dlc)) r (g .id) (means sending (h .fdf) (length p) (m .dlc) is)
-    (word1-says h (m .dlc) small seq (g .seq-fits))
-    (ap (λ (x : ℕ). if sending then x else 0) (seq-field h (m .dlc) small seq (g .seq-fits)) ∙ s .seq) (s .stamp)
+    ∙ returns sending stamped m w r (g .id) (means sending (h .fdf) (length p) (m .dlc) is) k (unnamed sending w seq (k .small) sq (s .seq))
+    (ap (λ (x : ℕ). if sending then x else 0) sq ∙ s .seq) (s .stamp)
 
 pub arrival-trip : ArrivalTrip
 unfolding arriving lengthIn
-arrival-trip stamped m hit r e l s =
+arrival-trip stamped m r e s =
     let g = fitting (m .header) (m .dlc) (length (m .payload)) e in
-    returns false stamped m (received1 (m .header) (m .dlc) hit) r (g .id) (ap Length.Is (g .meant))
-    (received1-says (m .header) (m .dlc) (omega (arith, g .dlc-fits)) hit l) (s .seq) (s .stamp)
+    let small : m .dlc < 16 = omega (arith, g .dlc-fits) in
+    returns false stamped m (received1 (m .header) (m .dlc) (m .filter)) r (g .id) (ap Length.Is (g .meant))
+    (received1-says (m .header) (m .dlc) small (m .filter) (s .filter)) (hit-field (m .header) (m .dlc) small (m .filter) (s .filter)) (s .seq) (s .stamp)
 
 pub arrival-filter : ArrivalFilter
 unfolding arriving objectBytes leBytes

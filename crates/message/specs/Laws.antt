@@ -27,9 +27,15 @@ Stamped true Stamp.None = ⊥
 Stamped false (Stamp.At t) = ⊥
 Stamped false Stamp.None = Unit {0}
 
--- a message as an object of this kind can hold it: SEQ only in one to send
+-- no filter in a message to send; one of the 32 in one received
+abbrev pub Filtered : (sending : Bool) → ℕ → Type 0
+Filtered true f = f ≡ 0
+Filtered false f = f < 32
+
+-- a message as an object of this kind can hold it: SEQ only in one to send, a filter only in one received
 pub record Suits (sending stamped : Bool) (m : Message) : Type 0 where
   pub seq : (if sending then m .seq else 0) ≡ m .seq
+  pub filter : Filtered sending (m .filter)
   pub stamp : Stamped stamped (m .stamp)
 
 -- every field of a message to write comes back from the object, whatever bytes stand behind it
@@ -39,11 +45,11 @@ RoundTrip =
     → let m = toWrite header seq stamp payload in
     encoding m ≡ object bs → Suits sending stamped m → decoding sending stamped (bs ++ r) ≡ holds m
 
--- so it does from the object of a frame that arrived, whichever filter took it: the DLC is the one that it brought
+-- so it does from the object of a frame that arrived: the DLC is the one that it brought, the filter the one that took it
 abbrev pub ArrivalTrip : Type 0
 ArrivalTrip =
-    (stamped : Bool) (m : Message) (hit : ℕ) (r : List ℕ) → arrivalCheck (m .header) (m .dlc) (length (m .payload)) ≡ Done.Good → hit < 32
-    → Suits false stamped m → decoding false stamped (arriving (m .header) (m .dlc) hit (m .stamp) (m .payload) ++ r) ≡ holds m
+    (stamped : Bool) (m : Message) (r : List ℕ) → arrivalCheck (m .header) (m .dlc) (length (m .payload)) ≡ Done.Good
+    → Suits false stamped m → decoding false stamped (arriving (m .header) (m .dlc) (m .filter) (m .stamp) (m .payload) ++ r) ≡ holds m
 
 -- and FILHIT of its word 1 is that filter's number
 abbrev pub ArrivalFilter : Type 0
@@ -57,9 +63,9 @@ meaningful sending stamped n b =
     objectBytes (meaning0 (flag IDE (leAt b 4)) (leAt b 0)) (meaning1 sending (leAt b 4))
     (if stamped then Stamp.At (leAt b 8) else Stamp.None) (take n (drop (bodyAt stamped) b))
 
--- what a message received is written as, by its check: the object of a frame that filter 0 took
+-- what a message received is written as, by its check: the object of a frame that its filter took
 abbrev pub arrived : Done → Message → Encoding
-arrived Done.Good m = object (arriving (m .header) (m .dlc) 0 (m .stamp) (m .payload))
+arrived Done.Good m = object (arriving (m .header) (m .dlc) (m .filter) (m .stamp) (m .payload))
 arrived (Done.Bad r) m = refused r
 
 -- what a message is written as, one to send or one received

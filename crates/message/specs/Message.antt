@@ -16,13 +16,15 @@ use Rattle.header.specs.declared.Header.{Header}
 use Rattle.message.specs.declared.object.Stamp.{Stamp}
 use Rattle.message.specs.declared.tx.Checked.{Checked}
 use Rattle.header.specs.Dlc.{dlcOf, lengthOf, receivedLength, codeOr0}
-use Rattle.header.specs.Header.{DLC, FDF, SEQ, topId, word0, word1, received1, headerOf}
+use Rattle.header.specs.Header.{DLC, FDF, SEQ, FILHIT, topId, word0, word1, received1, headerOf}
 use Rattle.message.specs.Object.{objectBytes}
 
--- the DLC is that of the object; SEQ is 0 in a message received; a timestamp is only in one received with RXTSEN at 1
+-- the DLC is that of the object; the filter is the number of the one that took a message received, 0 in one to send; SEQ is 0 in one received;
+-- a timestamp is only in one received with RXTSEN at 1
 pub record Message : Type 0 where
   pub header : Header
   pub dlc : ℕ
+  pub filter : ℕ
   pub seq : ℕ
   pub stamp : Stamp
   pub payload : List ℕ
@@ -32,7 +34,7 @@ pub record Message : Type 0 where
 -- a message to write, with the DLC that its payload's length has, 0 where there is none
 abbrev pub toWrite : Header → ℕ → Stamp → List ℕ → Message
 toWrite header seq stamp payload =
-    record { header = header; dlc = codeOr0 (dlcOf (header .fdf) (length payload)); seq = seq; stamp = stamp; payload = payload }
+    record { header = header; dlc = codeOr0 (dlcOf (header .fdf) (length payload)); filter = 0; seq = seq; stamp = stamp; payload = payload }
 
 -- a payload's length that has no DLC is refused 22
 abbrev pub byDlc : Dlc → Checked
@@ -90,6 +92,7 @@ unfoldable pub messageIn : (sending stamped : Bool) → ℕ → List ℕ → Mes
 messageIn sending stamped n b = record {
   header = headerOf (leAt b 0) (leAt b 4);
   dlc = read DLC (leAt b 4);
+  filter = if sending then 0 else read FILHIT (leAt b 4);
   seq = if sending then read SEQ (leAt b 4) else 0;
   stamp = if stamped then Stamp.At (leAt b 8) else Stamp.None;
   payload = take n (drop (bodyAt stamped) b);

@@ -41,13 +41,14 @@ abbrev pub payloadIn : List ℕ → Payload
 payloadIn bs = record { bytes = zeroed 64 bs; len = length bs }
 
 abbrev pub frameOf : Message → Frame
-frameOf m = record { header = m .header; dlc = m .dlc; seq = m .seq; stamp = m .stamp; payload = payloadIn (m .payload) }
+frameOf m = record { header = m .header; dlc = m .dlc; filter = m .filter; seq = m .seq; stamp = m .stamp; payload = payloadIn (m .payload) }
 
 -- what stands in a frame where there is none
 abbrev pub blank : Message
 blank = record {
   header = record { extended = false; id = 0; rtr = false; brs = false; fdf = false; esi = false };
   dlc = 0;
+  filter = 0;
   seq = 0;
   stamp = Stamp.None;
   payload = [];

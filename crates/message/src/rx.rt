@@ -5,7 +5,7 @@ ghost use lib.ListN.{length};
 ghost use Rattle.laws.specs.If.{if_then_else_};
 ghost use Rattle.field.specs.Field.{read, flag};
 ghost use Rattle.words.specs.Words.{leAt};
-ghost use Rattle.header.specs.Header.{DLC, FDF, SEQ};
+ghost use Rattle.header.specs.Header.{DLC, FDF, SEQ, FILHIT};
 ghost use Rattle.message.specs.Message.{bodyAt, messageIn, lengthIn, decoding};
 ghost use Rattle.message.specs.Structs.{payloadIn, frameOf, blank, decodedAs};
 ghost use Rattle.message.specs.declared.object.Stamp.{Stamp};
@@ -13,6 +13,7 @@ use crate::Stamp;
 use header::Header;
 use header::Length;
 use header::dlc_of;
+use header::filter_of;
 use header::header_of;
 use header::length_of;
 use header::received_length_of;
@@ -26,6 +27,7 @@ pub struct Payload {
 pub struct Frame {
     pub header: Header,
     pub dlc: u8,
+    pub filter: u8,
     pub seq: u32,
     pub stamp: Stamp,
     pub payload: Payload,
@@ -75,6 +77,7 @@ fn nothing(reading: Reading) -> Decoded
     let f = Frame {
         header: h,
         dlc: 0,
+        filter: 0,
         seq: 0,
         stamp: Stamp::None,
         payload: p,
@@ -108,6 +111,12 @@ fn seq_in(sending: bool, w: u32) -> u32
     if sending { field::get(w, 9, 23) } else { 0 }
 }
 
+fn filter_in(sending: bool, w: u32) -> u8
+    ensures { λ r. ⌜ r ≡ (if sending then 0 else read FILHIT w) ⌝ }
+{
+    if sending { 0 } else { filter_of(w) }
+}
+
 // The message of an object whose payload is the n bytes from `start` on.
 fn frame_in(sending: bool, stamped: bool, start: usize, n: usize, b: &[u8]) -> Frame
     requires { ⌜ (start ≡ bodyAt stamped) × (8 ≤ start) × (start + n ≤ length (now b)) × (n ≤ 64) ⌝ }
@@ -121,6 +130,7 @@ fn frame_in(sending: bool, stamped: bool, start: usize, n: usize, b: &[u8]) -> F
     Frame {
         header: h,
         dlc: dlc_of(w),
+        filter: filter_in(sending, w),
         seq: seq_in(sending, w),
         stamp: s,
         payload: p,

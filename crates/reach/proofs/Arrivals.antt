@@ -18,15 +18,15 @@ use Rattle.state.specs.declared.Model.{Model}
 use Rattle.state.specs.Model.{frozenAt}
 use Rattle.bus.specs.Bus.{stampFor, incoming}
 
-module _ (c : Model) (n : ℕ) (header : Header) (dlc time : ℕ) (payload : List ℕ) where
+module _ (c : Model) (n hit : ℕ) (header : Header) (dlc time : ℕ) (payload : List ℕ) where
   abbrev coming : Message
-  coming = incoming c n header dlc time payload
+  coming = incoming c n hit header dlc time payload
 
   -- its object, where a filter took it, is read as what arrived
-  pub coming-back : time < 2 ^ 32 → sending (frozenAt c n) ≡ false → (hit : ℕ) → hit < 32 → arrivalCheck header dlc (length payload) ≡ Done.Good
+  pub coming-back : time < 2 ^ 32 → sending (frozenAt c n) ≡ false → hit < 32 → arrivalCheck header dlc (length payload) ≡ Done.Good
       → (r : List ℕ) → decoding (sending (frozenAt c n)) (stamped (frozenAt c n)) (arriving header dlc hit (stampFor c n time) payload ++ r) ≡ holds coming
   unfolding incoming
-  coming-back small e hit l f r = rw e (arrival-trip (stamped (frozenAt c n)) coming hit r f l (record { seq = refl; stamp = go (stamped (frozenAt c n)) }))
+  coming-back small e l f r = rw e (arrival-trip (stamped (frozenAt c n)) coming r f (record { seq = refl; filter = l; stamp = go (stamped (frozenAt c n)) }))
     where
       go : (b : Bool) → Stamped b (if b then Stamp.At time else Stamp.None)
       go true = small

@@ -162,15 +162,15 @@ cause (Delivery.Refused r) = 5
 other : (X : Type 0) (x y : Delivery) → (cause x ≡ cause y → ⊥) → x ≡ y → X
 other X x y ne e = absurd (ne (ap cause e))
 
-module _ (m : Model) (r : Reached m) (n : ℕ) (header : Header) (dlc time : ℕ) (payload : List ℕ) (small : time < 2 ^ 32) (k : ℕ) where
+module _ (m : Model) (r : Reached m) (n hit : ℕ) (header : Header) (dlc time : ℕ) (payload : List ℕ) (small : time < 2 ^ 32) (k : ℕ) where
   abbrev Appends : Delivered → Type 0
   Appends x =
-      x .delivery ≡ Delivery.Delivered → held (x .model) k ≡ held m k ++ (if eqb n k then holds (incoming m n header dlc time payload) ∷ [] else [])
+      x .delivery ≡ Delivery.Delivered → held (x .model) k ≡ held m k ++ (if eqb n k then holds (incoming m n hit header dlc time payload) ∷ [] else [])
 
   -- a frame that is delivered is put behind those held
-  gives : (hit : ℕ) → hit < 32 → arrivalCheck header dlc (length payload) ≡ Done.Good → Appends (give m n hit dlc header time payload)
+  gives : hit < 32 → arrivalCheck header dlc (length payload) ≡ Done.Good → Appends (give m n hit dlc header time payload)
   unfolding claimed
-  gives hit l e =
+  gives l e =
       by-give m n header dlc time payload Appends hit
       (λ a. other _ _ _ (λ z. omega arith)) (λ a b. other _ _ _ (λ z. omega arith)) (λ a b c. other _ _ _ (λ z. omega arith))
       (λ a b c f. other _ _ _ (λ z. omega arith))
@@ -180,24 +180,24 @@ module _ (m : Model) (r : Reached m) (n : ℕ) (header : Header) (dlc time : ℕ
       let free : fifoAt m n .count < depth (frozenAt m n) = leb-false (depth (frozenAt m n)) (fifoAt m n .count) f in
       let bs = arriving header dlc hit (stampFor m n time) payload in
       let fits = object-fits m n hit dlc header time payload (ltb-false (payloadOf (frozenAt m n)) (length payload) c) in
-      let item = filled-item m s n i free bs fits (incoming m n header dlc time payload) (coming-back m n header dlc time payload small t hit l e) in
+      let item = filled-item m s n i free bs fits (incoming m n hit header dlc time payload) (coming-back m n hit header dlc time payload small t l e) in
       sym (more-held (filled m n bs) (filled-sound m s n i free bs fits) n i (claimed (fifoAt m n)) refl refl k)
       ∙ ap₂ (λ (l : List Decoding) (x : Decoding). l ++ (if eqb n k then x ∷ [] else [])) (filled-held m s n i free bs fits k) item)
 
 pub deliver-appends : DeliverAppends
 deliver-appends m r n header dlc time payload small e k =
-    by-deliver m n header dlc time payload (Appends m r n header dlc time payload small k)
+    by-deliver m n header dlc time payload (Appends m r n 0 header dlc time payload small k)
     (λ i. other _ _ _ (λ z. omega arith)) (λ i t. other _ _ _ (λ z. omega arith)) (λ i t d. other _ _ _ (λ z. omega arith))
-    (λ i t f. gives m r n header dlc time payload small k 0 (omega arith))
+    (λ i t f. gives m r n 0 header dlc time payload small k (omega arith))
     e
 
 pub sort-appends : SortAppends
 sort-appends m r header dlc time payload small e k =
     by-sort m header dlc time payload
-    (λ s. s .delivery ≡ Delivery.Delivered → held (s .model) k ≡ held m k ++ (if eqb (s .fifo) k then holds (incoming m (s .fifo) header dlc time payload) ∷ [] else []))
+    (λ s. s .delivery ≡ Delivery.Delivered → held (s .model) k ≡ held m k ++ (if eqb (s .fifo) k then holds (incoming m (s .fifo) (s .filter) header dlc time payload) ∷ [] else []))
     (λ t. other _ _ _ (λ z. omega arith)) (λ t f. other _ _ _ (λ z. omega arith)) (λ t f z. other _ _ _ (λ z. omega arith))
     (λ t f z g. other _ _ _ (λ z. omega arith))
-    (λ t f z g. gives m r (targetFor m (filterFor m header)) header dlc time payload small k (filterFor m header) (leb-false filterCount (filterFor m header) g))
+    (λ t f z g. gives m r (targetFor m (filterFor m header)) (filterFor m header) header dlc time payload small k (leb-false filterCount (filterFor m header) g))
     e
 
 -- bit 3, by computing

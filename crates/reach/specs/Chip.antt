@@ -89,12 +89,12 @@ QueueSendKeeps = (m : Model) → (QueueRequested m → heldQueue m ≡ []) → (
 
 -- ---- deliver
 
--- a frame that is delivered is the last that FIFO n holds, as that receives it; those before it stay, and so does every other FIFO
+-- a frame that is delivered is the last that FIFO n holds, as that receives it, with filter 0; those before it stay, and so does every other FIFO
 abbrev pub DeliverAppends : Type 0
 DeliverAppends =
     (m : Model) → Reached m → (n : ℕ) (header : Header) (dlc time : ℕ) (payload : List ℕ) → time < 2 ^ 32
     → deliverOf m n header dlc time payload .delivery ≡ Delivery.Delivered → (k : ℕ)
-    → held (deliverOf m n header dlc time payload .model) k ≡ held m k ++ (if eqb n k then holds (incoming m n header dlc time payload) ∷ [] else [])
+    → held (deliverOf m n header dlc time payload .model) k ≡ held m k ++ (if eqb n k then holds (incoming m n 0 header dlc time payload) ∷ [] else [])
 
 -- one turned down by a full FIFO sets overflow: status bit 3 reads 1
 abbrev pub FullOverflows : Type 0
@@ -104,13 +104,13 @@ FullOverflows =
 
 -- ---- sort
 
--- a frame that a filter took is the last that its target holds; those before it stay, and so does every other FIFO
+-- a frame that a filter took is the last that its target holds, with that filter; those before it stay, and so does every other FIFO
 abbrev pub SortAppends : Type 0
 SortAppends =
     (m : Model) → Reached m → (header : Header) (dlc time : ℕ) (payload : List ℕ) → time < 2 ^ 32
     → let s = sortOf m header dlc time payload in
     s .delivery ≡ Delivery.Delivered → (k : ℕ)
-    → held (s .model) k ≡ held m k ++ (if eqb (s .fifo) k then holds (incoming m (s .fifo) header dlc time payload) ∷ [] else [])
+    → held (s .model) k ≡ held m k ++ (if eqb (s .fifo) k then holds (incoming m (s .fifo) (s .filter) header dlc time payload) ∷ [] else [])
 
 -- one turned down by a full FIFO sets that FIFO's overflow
 abbrev pub SortOverflows : Type 0

@@ -42,11 +42,11 @@ pub poured : (n : ℕ) (l : List ℕ) → take (min n 64) (take 64 l) ≡ take (
 poured n l = take-take (min n 64) 64 l (omega arith)
 
 -- what is told of a message has the length of what is poured
-pub found-is : (f : Found) (held : List ℕ) → length held ≡ 64 → foundOf (messageOf f held) ≡ record { header = f .header; dlc = f .dlc; stamp = f .stamp; len = min (f .len) 64 }
+pub found-is : (f : Found) (held : List ℕ) → length held ≡ 64 → foundOf (messageOf f held) ≡ record { header = f .header; dlc = f .dlc; filter = f .filter; stamp = f .stamp; len = min (f .len) 64 }
 unfolding messageOf
 found-is f held e =
     let l = length-take-le (min (f .len) 64) held (omega (arith, e)) in
-    λ i. record { header = f .header; dlc = f .dlc; stamp = f .stamp; len = l i }
+    λ i. record { header = f .header; dlc = f .dlc; filter = f .filter; stamp = f .stamp; len = l i }
 
 -- what is held of a payload's answer gives the message that the answer gives
 pub held-message : (f : Found) (held rx : List ℕ) → length rx ≡ roundUp (f .len) → messageOf f (heldOf held rx) ≡ messageOf f rx
@@ -55,4 +55,4 @@ held-message f held rx e =
     let n : ℕ = min (f .len) 64 in
     let l : n ≤ length (take 64 rx) = rw (length-take 64 rx, e) (omega (arith, up-le (f .len))) in
     let p = take-append-le n (take 64 rx) _ l ∙ take-take n 64 rx (omega arith) in
-    λ i. record { header = f .header; dlc = f .dlc; seq = 0; stamp = f .stamp; payload = p i }
+    λ i. record { header = f .header; dlc = f .dlc; filter = f .filter; seq = 0; stamp = f .stamp; payload = p i }

@@ -20,7 +20,7 @@ use Rattle.words.proofs.Laws.{le-back, le-length, le-drop, up-le}
 use Rattle.parts.specs.Parts.{part}
 use Rattle.header.specs.declared.dlc.Length.{Length}
 use Rattle.header.specs.Dlc.{receivedLength}
-use Rattle.header.specs.Header.{DLC, FDF, headerOf}
+use Rattle.header.specs.Header.{DLC, FDF, FILHIT, headerOf}
 use Rattle.header.proofs.Dlcs.{received-le}
 use Rattle.message.specs.declared.object.Stamp.{Stamp}
 use Rattle.message.specs.Message.{Message, bodyAt, messageIn, lengthIn}
@@ -101,13 +101,26 @@ eight false = omega arith
 
 -- an object with a payload of n bytes
 abbrev foundIn : (stamped : Bool) → ℕ → List ℕ → Found
-foundIn stamped n b = record { header = headerOf (leAt b 0) (leAt b 4); dlc = read DLC (leAt b 4); stamp = if stamped then Stamp.At (leAt b 8) else Stamp.None; len = n }
+foundIn stamped n b = record {
+  header = headerOf (leAt b 0) (leAt b 4);
+  dlc = read DLC (leAt b 4);
+  filter = read FILHIT (leAt b 4);
+  stamp = if stamped then Stamp.At (leAt b 8) else Stamp.None;
+  len = n;
+}
 
 pub message-is : (stamped : Bool) (n : ℕ) (b : List ℕ) → n ≤ 64 → messageOf (foundIn stamped n b) (part b (bodyAt stamped) (roundUp n)) ≡ messageIn false stamped n b
 unfolding messageOf messageIn part
 message-is stamped n b h =
     let p : take (min n 64) (take (roundUp n) (drop (bodyAt stamped) b)) ≡ take n (drop (bodyAt stamped) b) = rw (min-eq-left h) (take-take n (roundUp n) (drop (bodyAt stamped) b) (up-le n)) in
-    λ i. record { header = headerOf (leAt b 0) (leAt b 4); dlc = read DLC (leAt b 4); seq = 0; stamp = if stamped then Stamp.At (leAt b 8) else Stamp.None; payload = p i }
+    λ i. record {
+      header = headerOf (leAt b 0) (leAt b 4);
+      dlc = read DLC (leAt b 4);
+      filter = read FILHIT (leAt b 4);
+      seq = 0;
+      stamp = if stamped then Stamp.At (leAt b 8) else Stamp.None;
+      payload = p i;
+    }
 
 -- user address, header and control again
 again-reads : (want : Want) (fifo u w : ℕ) (b : List ℕ) (xs : List (Answer × List ℕ)) → w < 2 ^ 32 → inRange (u + 0x400) 8 ≡ true → 8 ≤ length b

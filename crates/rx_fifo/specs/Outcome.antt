@@ -16,11 +16,11 @@ use Rattle.fetch.specs.FetchAt.{FetchAt}
 
 -- the message with the payload's bytes at the front of bs; no payload is longer than 64 bytes
 unfoldable pub messageOf : Found → List ℕ → Message
-messageOf f bs = record { header = f .header; dlc = f .dlc; seq = 0; stamp = f .stamp; payload = take (min (f .len) 64) bs }
+messageOf f bs = record { header = f .header; dlc = f .dlc; filter = f .filter; seq = 0; stamp = f .stamp; payload = take (min (f .len) 64) bs }
 
 -- what is told of a message; its payload is in the lent buffer
 abbrev pub foundOf : Message → Found
-foundOf m = record { header = m .header; dlc = m .dlc; stamp = m .stamp; len = length (m .payload) }
+foundOf m = record { header = m .header; dlc = m .dlc; filter = m .filter; stamp = m .stamp; len = length (m .payload) }
 
 abbrev pub toldOf : Bool → Outcome
 toldOf next = if next then Outcome.Yes else Outcome.No

@@ -6,7 +6,7 @@ ghost use Prim.Native.Nat.{min};
 ghost use lib.ListN.{length};
 ghost use Rattle.field.specs.Field.{read, mark};
 ghost use Rattle.fifo.specs.Control.{UINC};
-ghost use Rattle.header.specs.Header.{DLC, headerOf};
+ghost use Rattle.header.specs.Header.{DLC, FILHIT, headerOf};
 ghost use Rattle.spi.specs.declared.ask.Ask.{Ask};
 ghost use Rattle.fetch.specs.Numbers.{stampIn};
 ghost use Rattle.rx_fifo.specs.Step.{askOf, hasNextStart, lentStart, peekStart, getStart, stepOf};
@@ -130,11 +130,12 @@ fn stamp_of(c: FetchNumbers) -> Stamp
 
 // As many bytes as the lent buffer is filled with.
 fn found(c: FetchNumbers) -> Found
-    ensures { λ r. ⌜ r ≡ record { header = headerOf (c .a) (c .b); dlc = read DLC (c .b); stamp = stampIn c; len = min (c .len) 64 } ⌝ }
+    ensures { λ r. ⌜ r ≡ record { header = headerOf (c .a) (c .b); dlc = read DLC (c .b); filter = read FILHIT (c .b); stamp = stampIn c; len = min (c .len) 64 } ⌝ }
 {
     Found {
         header: header::header_of(c.a, c.b),
         dlc: header::dlc_of(c.b),
+        filter: header::filter_of(c.b),
         stamp: stamp_of(c),
         len: held::at_most_64(c.len as usize) as u8,
     }

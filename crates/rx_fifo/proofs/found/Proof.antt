@@ -7,5 +7,5 @@ use Rattle.rx_fifo.proofs.found.Tie as tie
 pub found-spec : {M : Type 1} → statement M
 found-spec =
     tie.close
-    (tie.spec (λ c κs. search needs) (λ c κs. search needs) (λ c κs. search needs) (search needs) (λ c κs. search needs) (search needs)
-    (λ c. simp (c .at-most-64 .ensures .0, c .before .before .stamp-of .ensures, c .before .before .before .dlc-of .ensures .0, c .before .before .before .before .header-of .ensures)))
+    (tie.spec (λ c κs. search needs) (λ c κs. search needs) (λ c κs. search needs) (λ c κs. search needs) (search needs) (λ c κs. search needs) (search needs)
+    (λ c. simp (c .at-most-64 .ensures .0, c .before .before .stamp-of .ensures, c .before .before .before .filter-of .ensures .0, c .before .before .before .before .dlc-of .ensures .0, c .before .before .before .before .before .header-of .ensures)))

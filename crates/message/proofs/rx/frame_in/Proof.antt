@@ -14,6 +14,6 @@ frame-in-spec =
     (λ c κs. search needs)
     (λ c κs. search needs) (search needs)
     (λ c κs. search needs) (search needs) (search needs) (search needs)
-    (λ c κs. search needs)
     (λ c κs. search needs) (λ c κs. search needs)
-    (λ c. let p = c .before .before in let a = p .before .before .before .before .before .before .before in simp (c .seq-in .ensures, c .before .dlc-of .ensures .0, p .hold .ensures, p .before .before .stamp-in .ensures, p .before .before .before .header-of .ensures, p .before .before .before .before .le-at2 .ensures, p .before .before .before .before .before .le-at .ensures, add-sub-cancel-left (bodyAt (a .args .stamped)) (a .args .n), a .pre .0)))
+    (λ c κs. search needs) (λ c κs. search needs)
+    (λ c. let p = c .before .before .before in let a = p .before .before .before .before .before .before .before in simp (c .seq-in .ensures, c .before .filter-in .ensures, c .before .before .dlc-of .ensures .0, p .hold .ensures, p .before .before .stamp-in .ensures, p .before .before .before .header-of .ensures, p .before .before .before .before .le-at2 .ensures, p .before .before .before .before .before .le-at .ensures, add-sub-cancel-left (bodyAt (a .args .stamped)) (a .args .n), a .pre .0)))
