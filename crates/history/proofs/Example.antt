@@ -3,6 +3,7 @@
 use Prim.Native.Nat.{ℕ}
 use mathlib.Core.Path.{refl}
 use native.Mathlib.Omega.{arith}
+use lib.Count.{trailingZeros}
 use lib.ListN.{replicate, length-replicate}
 use Rattle.field.specs.Field.{withField}
 use Rattle.words.specs.Words.{leBytes, beBytes, leAt, beAt}
@@ -27,6 +28,7 @@ use Rattle.rx_fifo.specs.Outcome as found
 use Rattle.driver.specs.Start.{ofPlan, ofPush, ofFetch}
 use Rattle.driver.specs.Step.{askOf, stepOf, outcomeOf, filledBy}
 use Rattle.driver.specs.Send.{bodyOf}
+use Rattle.filters.specs.Filters.{agrees, kindAgrees, idAgrees, matches, tests}
 use Rattle.ring.specs.Ring as ring
 use Rattle.ring.specs.Registers.{control, ready, edge, status}
 use Rattle.ring.specs.Layout.{stamped, size, room, end, base, slotAt}
@@ -36,7 +38,8 @@ use Rattle.state.specs.Model.{reset}
 use Rattle.bank.specs.Registers.{shownAt, wordOf, granted, conWritten, controlWritten, registerWritten}
 use Rattle.model.specs.Exchange.{performed, exchange}
 use Rattle.bus.specs.Held.{slotOf, itemAt, row, held}
-use Rattle.bus.specs.Bus.{sends, sendOutput, sendModel, incoming, receives, appended, give, deliverOf}
+use Rattle.bus.specs.Bus.{sends, sendOutput, sendModel, incoming, receives, appended, give}
+use Rattle.bus.specs.Sort.{sortOf}
 use Rattle.reach.specs.Bus.{stepped}
 use Rattle.reach.specs.Reach.{lived}
 use Rattle.history.specs.History.{answered, heard, settled, event, after}
@@ -62,5 +65,5 @@ unfolding c₀ lived exchange performed sent commandOf leBytes beBytes leAt beAt
     push.afterAddress push.stepOf push.askOf push.outcomeOf requestStart reads.afterControl reads.afterStatus reads.afterAddress
     reads.afterHeader reads.toTime reads.toBody reads.afterAgain reads.afterTime fetch.heldOf fetch.stepOf fetch.askOf fetch.lentAt
     fetch.lentStart found.messageOf found.outcomeOf found.filled found.filledBy ofPlan ofPush ofFetch askOf stepOf outcomeOf filledBy
-    bodyOf slotOf itemAt row held sends sendOutput sendModel incoming receives appended give deliverOf stepped answered heard settled event after
+    bodyOf slotOf itemAt row held sends sendOutput sendModel incoming receives appended give sortOf agrees kindAgrees idAgrees matches tests trailingZeros stepped answered heard settled event after
 computed = (refl, (Outcome.Refused Refusal.SpiWrite, refl, refl, refl))

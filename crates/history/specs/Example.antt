@@ -7,6 +7,7 @@ use mathlib.Core.Bool.{true, false}
 use mathlib.Core.List.{List, [], _∷_}
 use lib.ListN.{replicate}
 use Rattle.fifo.specs.Control.{CiFIFOCON}
+use Rattle.filter.specs.Control.{CiFLTCON}
 use Rattle.parts.specs.Parts.{put}
 use Rattle.spi.specs.declared.ask.Ask.{Ask}
 use Rattle.spi.specs.Ask.{sent, wanted}
@@ -22,7 +23,7 @@ use Rattle.state.specs.Model.{reset}
 use Rattle.bus.specs.declared.arrival.Delivery.{Delivery}
 use Rattle.bus.specs.Bus.{Output, frame, nothing}
 use Rattle.bus.specs.Held.{held}
-use Rattle.reach.specs.Bus.{Send, Deliver}
+use Rattle.reach.specs.Bus.{Send, Sort}
 use Rattle.reach.specs.Reach.{Happening, Exchange as exchanges, lived}
 use Rattle.history.specs.Command.{Push, Request, Get}
 use Rattle.history.specs.History.{Event, Begin, Exchange, Fail, On, Said, called, left, arrived}
@@ -30,14 +31,14 @@ use Rattle.history.specs.Demand.{Leaves, world}
 
 -- ---- the chip
 
--- the bytes that the driver sends to write FIFO n's control word
-abbrev pub controlTo : (n w : ℕ) → Happening
-controlTo n w = let ask = Ask.Word (CiFIFOCON .address n) w in exchanges (sent ask []) (wanted ask)
+-- the bytes that the driver sends to write a register
+abbrev pub writing : (address w : ℕ) → Happening
+writing address w = let ask = Ask.Word address w in exchanges (sent ask []) (wanted ask)
 
 -- FIFO 1 sends and has two slots (TXEN 1, FSIZE 1); FIFO 2 receives with a timestamp and has one (RXTSEN 1); PLSIZE 0 of both is
--- 8 bytes; the other FIFOs stay as after RESET
+-- 8 bytes; filter 3, the only one enabled, gives FIFO 2 every frame (FLTEN3 1, F3BP 2, its mask 0); all else stays as after RESET
 abbrev pub since₀ : List Happening
-since₀ = controlTo 1 0x01000080 ∷ controlTo 2 0x00000020 ∷ []
+since₀ = writing (CiFIFOCON .address 1) 0x01000080 ∷ writing (CiFIFOCON .address 2) 0x00000020 ∷ writing (CiFLTCON .address 0) 0x82000000 ∷ []
 
 -- reset with zeros in its RAM, and set so
 unfoldable pub c₀ : Model
@@ -73,19 +74,19 @@ feedbackBytes = 1 ∷ 2 ∷ 3 ∷ 4 ∷ 5 ∷ 6 ∷ 7 ∷ 8 ∷ []
 abbrev pub buffer : List ℕ
 buffer = replicate 64 0xFF
 
--- a push with a send in between that finds no request; a request, the send, a frame that arrives, and a get; e is the exchange
+-- a push with a send in between that finds no request; a request, the send, a frame that arrives and is sorted, and a get; e is the exchange
 -- that writes the object to RAM
 abbrev pub story : Event → List Event
 story e =
     Begin (Push 1 torque 5 torqueBytes) ∷ Exchange ∷ Exchange ∷ On (Send 1) ∷ Exchange ∷ e ∷ Exchange
-    ∷ Begin (Request 1) ∷ Exchange ∷ Exchange ∷ On (Send 1) ∷ On (Deliver 2 feedback feedbackDlc 77 feedbackBytes)
+    ∷ Begin (Request 1) ∷ Exchange ∷ Exchange ∷ On (Send 1) ∷ On (Sort feedback feedbackDlc 77 feedbackBytes)
     ∷ Begin (Get 2 buffer) ∷ Exchange ∷ Exchange ∷ Exchange ∷ Exchange ∷ Exchange ∷ Exchange ∷ Exchange ∷ Exchange ∷ Exchange ∷ []
 
 -- ---- what is said
 
--- the frame as FIFO 2 receives it
+-- the frame as FIFO 2 receives it: filter 3 took it
 abbrev pub received : Message
-received = record { header = feedback; dlc = feedbackDlc; filter = 0; seq = 0; stamp = Stamp.At 77; payload = feedbackBytes }
+received = record { header = feedback; dlc = feedbackDlc; filter = 3; seq = 0; stamp = Stamp.At 77; payload = feedbackBytes }
 
 -- what the push ends with, and what the send after the request then finds
 abbrev pub saying : Outcome → Output → List Said
