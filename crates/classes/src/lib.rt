@@ -30,7 +30,7 @@ pub const TDCO: u8 = 5;
 // The Rust cuts a length to 32 bits.
 pub const LENGTH: u8 = 6;
 
-// A header field that document 01 does not carry.
+// A header field that documents 01 and 02 do not carry: SID11.
 pub const ABSENT: u8 = 7;
 
 // What was seen of a case so far. `row` is the call's in `spoken`. Of the calls on RAM `address` and `size` are the arguments, of the

@@ -1,11 +1,13 @@
 // A message's two header words, through the port's encoding and decoding: it has no reader or setter for a single field.
-// A field is counted as in `names`: SID, EID and DLC, the five flags, SEQ.
+// A field is counted as in `names`: SID, EID and DLC, the five flags, SEQ of an object to send or FILHIT of one received.
 ghost use Prim.Native.Nat.{_≤_};
 use header::Header;
 use header::dlc_of;
 use header::eid_of;
+use header::filter_of;
 use header::first_word;
 use header::header_of;
+use header::received_word;
 use header::second_word;
 use named::cut;
 
@@ -15,12 +17,10 @@ const IDE: usize = 3;
 
 const FDF: usize = 6;
 
-const SEQ: usize = 8;
+const ABOVE: usize = 8;
 
-// How many fields document 01 carries. SEQ is one to send; SID11 and FILHIT are left out.
-pub fn carried(sending: bool) -> usize {
-    if sending { 9 } else { 8 }
-}
+// How many fields documents 01 and 02 carry. SID11 is left out.
+pub const CARRIED: usize = 9;
 
 // A header with this flag alone; with none for any other field.
 fn lone(i: usize) -> Header {
@@ -48,7 +48,7 @@ fn seq_in(b: u32) -> u32 {
     frame.seq
 }
 
-pub fn read(i: usize, a: u32, b: u32) -> u32 {
+pub fn read(sending: bool, i: usize, a: u32, b: u32) -> u32 {
     let h = header_of(a, b);
     match i {
         0 => header_of(a, 0).id,
@@ -59,7 +59,11 @@ pub fn read(i: usize, a: u32, b: u32) -> u32 {
         5 => h.brs as u32,
         6 => h.fdf as u32,
         7 => h.esi as u32,
-        _ => seq_in(b),
+        _ => if sending {
+            seq_in(b)
+        } else {
+            filter_of(b) as u32
+        },
     }
 }
 
@@ -85,11 +89,20 @@ fn id_word(i: usize, v: u32) -> u32 {
     })
 }
 
-// The second word of a message that has v in this field and nothing else.
-fn rest_word(i: usize, v: u32) -> u32 {
+// The second word of a message that has v above the flags and nothing else.
+fn above_word(sending: bool, v: u32) -> u32 {
+    if sending {
+        second_word(lone(ABOVE), cut(v, 0x7F_FFFF), 0)
+    } else {
+        received_word(lone(ABOVE), 0, cut(v, 31))
+    }
+}
+
+// That of one that has v in this field and nothing else.
+fn rest_word(sending: bool, i: usize, v: u32) -> u32 {
     match i {
         DLC => second_word(lone(i), 0, cut(v, 15)),
-        SEQ => second_word(lone(i), cut(v, 0x7F_FFFF), 0),
+        ABOVE => above_word(sending, v),
         _ => if v == 0 { 0 } else { flag_word(i) },
     }
 }
@@ -106,6 +119,6 @@ pub fn with_first(i: usize, v: u32, a: u32) -> u32 {
     over(a, id_word(i, MOST), id_word(i, v))
 }
 
-pub fn with_second(i: usize, v: u32, b: u32) -> u32 {
-    over(b, rest_word(i, MOST), rest_word(i, v))
+pub fn with_second(sending: bool, i: usize, v: u32, b: u32) -> u32 {
+    over(b, rest_word(sending, i, MOST), rest_word(sending, i, v))
 }

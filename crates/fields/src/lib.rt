@@ -42,7 +42,7 @@ fn held(k: usize, i: usize, word: u64) -> Field {
             Field::Unknown
         };
     }
-    if i < headers::carried(k == TX_HEADER) {
+    if i < headers::CARRIED {
         Field::Value(word)
     } else {
         Field::Absent
@@ -56,7 +56,7 @@ fn read(k: usize, i: usize, word: u64) -> u32 {
     if k < TX_HEADER {
         return fifo_fields::read(k - FIFO_CONTROL, i, low(word));
     }
-    headers::read(i, low(word), high(word))
+    headers::read(k == TX_HEADER, i, low(word), high(word))
 }
 
 fn with(k: usize, i: usize, v: u32, word: u64) -> u64 {
@@ -71,7 +71,7 @@ fn with(k: usize, i: usize, v: u32, word: u64) -> u64 {
     if i < headers::DLC {
         joined(headers::with_first(i, v, a), b)
     } else {
-        joined(a, headers::with_second(i, v, b))
+        joined(a, headers::with_second(k == TX_HEADER, i, v, b))
     }
 }
 

@@ -27,7 +27,7 @@ pub fn find(list: usize, name: &[u8]) -> usize {
         txqnif txqeif txatif txerr txlarb txabt txqci/\
         fifoua/\
         sid eid dlc ide rtr brs fdf esi seq sid11/\
-        sid eid dlc ide rtr brs fdf esi sid11 filhit/",
+        sid eid dlc ide rtr brs fdf esi filhit sid11/",
         list,
         name,
     )

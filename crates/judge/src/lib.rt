@@ -26,8 +26,8 @@ fn held(s: State, line: &[u8], out: &[u8], note: &mut [u8]) -> State {
     state::differing(s, lines::put(note, d, b"\n"))
 }
 
-// Whether both are results of a kind that a transcript may have without its last word: a message's DLC, or the number of exchanges that
-// mismatched before a checked read's word, which the Rust does not tell.
+// Whether both are results of a kind that a transcript may have without its last words: a message's DLC and filter, or the number of
+// exchanges that mismatched before a checked read's word, which the Rust does not tell.
 fn is_in_part(line: &[u8], out: &[u8]) -> bool {
     let kind = text::word(line, 1);
     text::is(out, 1, kind) && (check::same(kind, b"message") || check::same(kind, b"word"))

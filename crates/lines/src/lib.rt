@@ -164,16 +164,26 @@ fn message(out: &mut [u8], at: usize, what: &[u8], h: Header, v: Value, payload:
     bytes(out, c, payload)
 }
 
-// A received message tells its timestamp and, behind its payload, its DLC.
-fn received(out: &mut [u8], at: usize, h: Header, s: Stamp, payload: &[u8], dlc: u8) -> usize {
+// A received message tells its timestamp and, behind its payload, its DLC and the filter that took it.
+fn received(
+    out: &mut [u8],
+    at: usize,
+    h: Header,
+    s: Stamp,
+    payload: &[u8],
+    dlc: u8,
+    filter: u8,
+) -> usize {
     let a = message(out, at, b"message ", h, time(s), payload);
-    tail(out, a, Value::Decimal(dlc as u64))
+    let b = tail(out, a, Value::Decimal(dlc as u64));
+    tail(out, b, Value::Decimal(filter as u64))
 }
 
 fn found(out: &mut [u8], at: usize, f: Found, buf: &[u8]) -> usize {
     let h = f.header;
     let s = f.stamp;
-    received(out, at, h, s, text::front(buf, f.len as usize), f.dlc)
+    let payload = text::front(buf, f.len as usize);
+    received(out, at, h, s, payload, f.dlc, f.filter)
 }
 
 // A message to send, which tells its SEQ, or a received one.
@@ -186,7 +196,7 @@ pub fn frame(out: &mut [u8], at: usize, sending: bool, f: Frame) -> usize {
     if sending {
         return message(out, at, b"frame ", h, Value::Decimal(f.seq as u64), payload);
     }
-    received(out, at, h, s, payload, f.dlc)
+    received(out, at, h, s, payload, f.dlc, f.filter)
 }
 
 // Which of a list's words an outcome without a checked word, a message, a report or a refusal is told by.

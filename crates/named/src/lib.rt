@@ -3,7 +3,7 @@ ghost use Prim.Native.Nat.{_≤_};
 
 pub enum Field {
     Value(u64),
-    // A field of the data sheet that document 01 does not carry.
+    // A field of the data sheet that documents 01 and 02 do not carry.
     Absent,
     // No such register or field, or a value or a word that is too large.
     Unknown,

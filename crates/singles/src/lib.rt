@@ -141,7 +141,7 @@ fn field_class(line: &[u8]) -> u8 {
     if text::is(line, 1, b"CiTDC") && text::is(line, 2, b"tdco") {
         return delay_class(line);
     }
-    if is_header(line) && (text::is(line, 2, b"sid11") || text::is(line, 2, b"filhit")) {
+    if is_header(line) && text::is(line, 2, b"sid11") {
         return classes::ABSENT;
     }
     classes::COMPARED

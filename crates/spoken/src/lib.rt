@@ -214,6 +214,6 @@ pub fn understood(line: &[u8], numbers: &mut [u64], lent: &mut [u8]) -> Line {
 // A result's line, `= RESULT`. What it says goes to the buffers.
 pub fn result(line: &[u8], numbers: &mut [u64], lent: &mut [u8]) -> Line {
     let table =
-        b"ok - none - yes - no - panic - refused d refused dh refused dd word h word hd mode d bytes b message khfsb message khfsbd agree hd differ hhhd differ hhhdahd differ hhhdud unread hd";
+        b"ok - none - yes - no - panic - refused d refused dh refused dd word h word hd mode d bytes b message khfsb message khfsbd message khfsbdd agree hd differ hhhd differ hhhdahd differ hhhdud unread hd";
     row_of(text::rest(line, 1), table, numbers, lent)
 }
