@@ -38,6 +38,8 @@ pub struct Received {
     pub header: Header,
     /// The DLC as it was received, 0 to 15: a classic frame with 9 to 15 has 8 bytes of payload.
     pub dlc: u8,
+    /// The number of the filter that took it, 0 to 31, as the chip wrote it into the object (FILHIT).
+    pub filter: u8,
     /// The timestamp, where the FIFO keeps one (RXTSEN).
     pub time: Option<u32>,
     /// How many bytes of payload, 0 to 64.
@@ -141,6 +143,7 @@ impl<L: Line> Mcp<L> {
             Outcome::Message(found) => Ok(Some(Received {
                 header: found.header,
                 dlc: found.dlc,
+                filter: found.filter,
                 time: match found.stamp {
                     Stamp::At(t) => Some(t),
                     Stamp::None => None,

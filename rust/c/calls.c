@@ -585,12 +585,12 @@ static void header_fields(void)
         IS(!memcmp(object + 8, bytes, len));
         IS(mcp_chip_held_at(&chip, 1, 0, &out.frame) == 0);
         IS(out.frame.kind == MCP_FRAME && SAME(out.frame.header) && out.frame.seq == fields[i].seq && out.frame.len == len);
-        IS(out.frame.dlc == dlc && !out.frame.stamped && !out.frame.time && !memcmp(out.frame.payload, bytes, len));
+        IS(out.frame.dlc == dlc && !out.frame.filter && !out.frame.stamped && !out.frame.time && !memcmp(out.frame.payload, bytes, len));
         memset(&out.frame, 0x5A, sizeof out.frame);
         IS(mcp_chip_send(&chip, 1, &out.frame) == 0);
         IS(out.frame.kind == MCP_FRAME && SAME(out.frame.header) && out.frame.seq == fields[i].seq && out.frame.len == len);
-        IS(out.frame.dlc == dlc && !out.frame.stamped && !out.frame.time && !memcmp(out.frame.payload, bytes, len));
-        IS(mcp_chip_send(&chip, 1, &out.frame) == 0 && out.frame.kind == MCP_NOTHING && out.frame.len == 0 && out.frame.dlc == 0);
+        IS(out.frame.dlc == dlc && !out.frame.filter && !out.frame.stamped && !out.frame.time && !memcmp(out.frame.payload, bytes, len));
+        IS(mcp_chip_send(&chip, 1, &out.frame) == 0 && out.frame.kind == MCP_NOTHING && out.frame.len == 0 && out.frame.dlc == 0 && out.frame.filter == 0);
 
         IS(mcp_chip_deliver(&chip, 2, h, dlc, 0xA1B2C3D4, bytes, len, &out.word) == 0 && out.word == MCP_DELIVERED);
         IS(mcp_chip_held_at(&chip, 2, 0, &out.frame) == 0);
@@ -600,7 +600,7 @@ static void header_fields(void)
         for (int get = 0; get < 2; get++) {
             fresh();
             IS((get ? mcp_get : mcp_peek)(&line, 2, out.buf, 72, &out.message) == 0);
-            IS(out.message.found == 1 && SAME(out.message.header) && out.message.len == len && out.message.dlc == dlc);
+            IS(out.message.found == 1 && SAME(out.message.header) && out.message.len == len && out.message.dlc == dlc && !out.message.filter);
             IS(out.message.stamped == 1 && out.message.time == 0xA1B2C3D4 && !memcmp(out.buf, bytes, len));
             for (size_t b = len; b < 72; b++)
                 IS(out.buf[b] == 0x5A);
@@ -612,7 +612,7 @@ static void header_fields(void)
             memset(&out.message, 0x5A, sizeof out.message);
             IS((get ? mcp_get : mcp_peek)(&line, 2, out.buf, 72, &out.message) == 0);
             IS(!out.message.found && !out.message.len && !out.message.dlc && !out.message.stamped && !out.message.time);
-            IS(!out.message.header.id);
+            IS(!out.message.header.id && !out.message.filter);
             IS(!memcmp(out.buf, before.buf, 72));
         }
         IS(mcp_chip_held_at(&chip, 2, 0, &out.frame) == 0 && out.frame.kind == MCP_NOTHING);
@@ -698,6 +698,42 @@ static void sorting(void)
     IS(refused_by(0x423, 12) == MCP_NO_MATCH);
     IS(mcp_modify_register(&line, 0, 0x1F, 0x10) == 0);
     IS(refused_by(0x423, 12) == MCP_DEVICE_NET && refused_by(0x423, 9) == MCP_BAD_PAYLOAD && refused_by(0x800, 9) == MCP_BAD_IDENTIFIER);
+}
+
+/* Whether the oldest message of a FIFO, and a peek, and a get that takes it, say that this filter took it. */
+static int says_filter(uint32_t fifo, uint32_t f)
+{
+    int is = mcp_chip_held_at(&chip, fifo, 0, &out.frame) == 0 && out.frame.kind == MCP_FRAME && out.frame.filter == f;
+    for (int get = 0; get < 2; get++) {
+        memset(&out.message, 0x5A, sizeof out.message);
+        is = is && (get ? mcp_get : mcp_peek)(&line, fifo, out.buf, 72, &out.message) == 0 && out.message.found == 1;
+        is = is && out.message.filter == f && out.message.dlc == 5 && out.message.header.id == 0x123;
+    }
+    return is;
+}
+
+/* Document 02: a received message says which filter took it, with a timestamp (FIFO 2) and without (FIFO 3); one delivered by name says 0. */
+static void every_filter(void)
+{
+    static const uint32_t high[] = { 0x200, 0x400, 0x800, 0x1000, 0x2000, 0x4000, 0x8000, 0x10000, 0x80000000, 0xFFFF0600, 0xFFFFFE00 };
+    for (uint32_t fifo = 2; fifo <= 3; fifo++)
+        for (uint32_t f = 0; f < 32; f++) {
+            mcp_filter to = filter;
+            to.fifo = fifo;
+            prepare();
+            IS(mcp_configure_filter(&line, f, &to) == 0 && mcp_get(&line, fifo, out.buf, 72, &out.message) == 0);
+            IS(comes_to(0x123, 5, MCP_DELIVERED, fifo, f));
+            IS(mcp_chip_deliver(&chip, fifo, &header, 5, 7, bytes, 5, &out.word) == 0 && out.word == MCP_DELIVERED);
+            IS(mcp_disable_filter(&line, f) == 0); /* the message keeps the one that took it */
+            IS(says_filter(fifo, f) && says_filter(fifo, 0) && held(fifo) == 0);
+        }
+    /* Every bit of word 1 above the flags, in FIFO 3's oldest, behind 4 x 16 and 2 x 76 bytes: 15 to 11 alone count. */
+    for (size_t i = 0; i < sizeof high / sizeof *high; i++) {
+        const uint32_t w = high[i] | 5;
+        const uint8_t word[4] = { (uint8_t)w, (uint8_t)(w >> 8), (uint8_t)(w >> 16), (uint8_t)(w >> 24) };
+        prepare();
+        IS(mcp_write_ram(&line, 0x400 + 64 + 152 + 4, word, 4) == 0 && says_filter(3, w / 2048 % 32));
+    }
 }
 
 /* Whether a DLC means so many bytes: a classic frame has 8 at most; there is none above 15. */
@@ -1208,6 +1244,7 @@ int main(void)
     header_fields();
     the_chip();
     sorting();
+    every_filter();
     every_dlc();
     classic_dlcs();
     beyond_slot();

@@ -22,6 +22,7 @@ pub struct CFrame {
     stamped: u8,
     len: u8,
     dlc: u8,
+    filter: u8,
     payload: [u8; 64],
 }
 
@@ -34,7 +35,7 @@ pub struct CSorted {
 
 layout! {
     CChip 2816, words 0;
-    CFrame 88, header 0, seq 12, time 16, kind 20, stamped 21, len 22, dlc 23, payload 24;
+    CFrame 92, header 0, seq 12, time 16, kind 20, stamped 21, len 22, dlc 23, filter 24, payload 25;
     CSorted 12, turned_down 0, fifo 4, filter 8;
 }
 
@@ -45,7 +46,7 @@ const NO_FRAME: u8 = 2;
 
 impl CFrame {
     fn none(kind: u8) -> CFrame {
-        CFrame { header: CHeader::default(), seq: 0, time: 0, kind, stamped: 0, len: 0, dlc: 0, payload: [0; 64] }
+        CFrame { header: CHeader::default(), seq: 0, time: 0, kind, stamped: 0, len: 0, dlc: 0, filter: 0, payload: [0; 64] }
     }
 
     fn of(frame: Frame) -> CFrame {
@@ -61,6 +62,7 @@ impl CFrame {
             stamped,
             len: frame.payload.len as u8,
             dlc: frame.dlc,
+            filter: frame.filter,
             payload: frame.payload.bytes,
         }
     }

@@ -367,7 +367,7 @@ int main(int argc, char **argv)
             size_t filled = call == READ_RAM ? len : 0;
             if (call == PEEK || call == GET) {
                 IS(len >= 64 && out.message.found <= 1 && out.message.stamped <= out.message.found);
-                IS(out.message.found || !out.message.dlc);
+                IS(out.message.filter < 32 && (out.message.found || (!out.message.dlc && !out.message.filter)));
                 IS(out.message.len == meant(out.message.dlc, out.message.header.fdf) && out.message.len <= slots[plsize]);
                 coded += !out.message.header.fdf && out.message.dlc > 8;
                 filled = out.message.len;
@@ -376,6 +376,7 @@ int main(int argc, char **argv)
             IS(call == HAS_NEXT ? out.flag <= 1 : out.flag == 0x5A);
             if (call == SEND || call == HELD_AT || call == SEND_QUEUE || call == HELD_QUEUE_AT) {
                 IS(out.frame.kind <= MCP_NO_FRAME && (out.frame.kind == MCP_FRAME || !out.frame.dlc));
+                IS(out.frame.filter < (out.frame.kind == MCP_FRAME && call == HELD_AT ? 32 : 1));
                 IS(out.frame.len == meant(out.frame.dlc, out.frame.header.fdf));
             }
             IS(call != SORT || (out.sorted.turned_down <= MCP_FULL && out.sorted.fifo < 32 && out.sorted.filter < 32));

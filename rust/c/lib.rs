@@ -80,6 +80,7 @@ pub struct CMessage {
     stamped: u8,
     len: u8,
     dlc: u8,
+    filter: u8,
 }
 
 impl CMessage {
@@ -91,6 +92,7 @@ impl CMessage {
             stamped: r.time.is_some() as u8,
             len: r.len as u8,
             dlc: r.dlc,
+            filter: r.filter,
         })
     }
 }
@@ -264,7 +266,7 @@ pub(crate) use layout;
 layout! {
     CLine 4 * size_of::<usize>(), transfer 0, wait size_of::<usize>(), context 2 * size_of::<usize>(), value 3 * size_of::<usize>();
     CHeader 12, id 0, extended 4, rtr 5, brs 6, fdf 7, esi 8;
-    CMessage 20, header 0, time 12, found 16, stamped 17, len 18, dlc 19;
+    CMessage 24, header 0, time 12, found 16, stamped 17, len 18, dlc 19, filter 20;
     COscillator 2, pll 0, divide 1;
     CIo 4, xstbyen 0, txcanod 1, sof 2, intod 3;
     CNominal 16, brp 0, tseg1 4, tseg2 8, sjw 12;

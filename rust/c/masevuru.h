@@ -84,11 +84,12 @@ typedef struct {
 
 /* What peek and get found. found is 0, as everything else, where the FIFO holds no message; time is that of a FIFO with timestamps
  * (stamped); the payload is the first len bytes of the buffer that was lent, whose other bytes stay. dlc is the DLC as it was received, 0 to
- * 15: a classic frame with 9 to 15 has a len of 8. */
+ * 15: a classic frame with 9 to 15 has a len of 8. filter is the number of the filter that took it, 0 to 31, as the chip wrote it into the
+ * object (FILHIT). */
 typedef struct {
     mcp_header header;
     uint32_t time;
-    uint8_t found, stamped, len, dlc;
+    uint8_t found, stamped, len, dlc, filter;
 } mcp_message;
 
 /* divide: the system clock is half of the oscillator's or the PLL's. */
@@ -239,7 +240,7 @@ int mcp_chip_new(mcp_chip *chip);
 int mcp_chip_transfer(void *chip, const uint8_t *tx, size_t tx_len, uint8_t *rx, size_t rx_len);
 void mcp_chip_wait(void *chip, uint32_t microseconds);
 
-/* A message in the chip or on the bus: all zeros but kind where that is not MCP_FRAME. seq is 0 in one received. */
+/* A message in the chip or on the bus: all zeros but kind where that is not MCP_FRAME. seq is 0 in one received, filter in one to send. */
 enum {
     MCP_NOTHING = 0, /* nothing was sent, nothing is held there */
     MCP_FRAME = 1,
@@ -248,7 +249,7 @@ enum {
 typedef struct {
     mcp_header header;
     uint32_t seq, time;
-    uint8_t kind, stamped, len, dlc, payload[64];
+    uint8_t kind, stamped, len, dlc, filter, payload[64];
 } mcp_frame;
 
 /* The chip sends the oldest message of a FIFO, if sending is requested there. */
@@ -289,8 +290,9 @@ MCP_LAYOUT(mcp_line, 4 * sizeof(void *), MCP_AT(mcp_line, transfer, 0) && MCP_AT
     MCP_AT(mcp_line, context, 2 * sizeof(void *)) && MCP_AT(mcp_line, value, 3 * sizeof(void *)));
 MCP_LAYOUT(mcp_header, 12, MCP_AT(mcp_header, id, 0) && MCP_AT(mcp_header, extended, 4) && MCP_AT(mcp_header, rtr, 5) &&
     MCP_AT(mcp_header, brs, 6) && MCP_AT(mcp_header, fdf, 7) && MCP_AT(mcp_header, esi, 8));
-MCP_LAYOUT(mcp_message, 20, MCP_AT(mcp_message, header, 0) && MCP_AT(mcp_message, time, 12) && MCP_AT(mcp_message, found, 16) &&
-    MCP_AT(mcp_message, stamped, 17) && MCP_AT(mcp_message, len, 18) && MCP_AT(mcp_message, dlc, 19));
+MCP_LAYOUT(mcp_message, 24, MCP_AT(mcp_message, header, 0) && MCP_AT(mcp_message, time, 12) && MCP_AT(mcp_message, found, 16) &&
+    MCP_AT(mcp_message, stamped, 17) && MCP_AT(mcp_message, len, 18) && MCP_AT(mcp_message, dlc, 19) &&
+    MCP_AT(mcp_message, filter, 20));
 MCP_LAYOUT(mcp_oscillator, 2, MCP_AT(mcp_oscillator, pll, 0) && MCP_AT(mcp_oscillator, divide, 1));
 MCP_LAYOUT(mcp_io, 4, MCP_AT(mcp_io, xstbyen, 0) && MCP_AT(mcp_io, txcanod, 1) && MCP_AT(mcp_io, sof, 2) && MCP_AT(mcp_io, intod, 3));
 MCP_LAYOUT(mcp_nominal, 16, MCP_AT(mcp_nominal, brp, 0) && MCP_AT(mcp_nominal, tseg1, 4) && MCP_AT(mcp_nominal, tseg2, 8) &&
@@ -317,9 +319,9 @@ MCP_LAYOUT(mcp_report, 36, MCP_AT(mcp_report, seen, 0) && MCP_AT(mcp_report, add
     MCP_AT(mcp_report, wanted, 12) && MCP_AT(mcp_report, rewrite, 16) && MCP_AT(mcp_report, back, 20) && MCP_AT(mcp_report, number, 24) &&
     MCP_AT(mcp_report, mismatches, 28) && MCP_AT(mcp_report, back_mismatches, 32));
 MCP_LAYOUT(mcp_chip, 2816, MCP_AT(mcp_chip, words, 0));
-MCP_LAYOUT(mcp_frame, 88, MCP_AT(mcp_frame, header, 0) && MCP_AT(mcp_frame, seq, 12) && MCP_AT(mcp_frame, time, 16) &&
+MCP_LAYOUT(mcp_frame, 92, MCP_AT(mcp_frame, header, 0) && MCP_AT(mcp_frame, seq, 12) && MCP_AT(mcp_frame, time, 16) &&
     MCP_AT(mcp_frame, kind, 20) && MCP_AT(mcp_frame, stamped, 21) && MCP_AT(mcp_frame, len, 22) && MCP_AT(mcp_frame, dlc, 23) &&
-    MCP_AT(mcp_frame, payload, 24));
+    MCP_AT(mcp_frame, filter, 24) && MCP_AT(mcp_frame, payload, 25));
 MCP_LAYOUT(mcp_sorted, 12, MCP_AT(mcp_sorted, turned_down, 0) && MCP_AT(mcp_sorted, fifo, 4) && MCP_AT(mcp_sorted, filter, 8));
 #undef MCP_LAYOUT
 #undef MCP_AT

@@ -386,7 +386,7 @@ fn finished_again() {
             assert_eq!(finish(end, &received, &mut buf[..room]), Outcome::Refused(Refusal::BufferTooSmall));
         }
         assert_eq!((buf, line.chip.held(2)), ([0x5A; 72], Ok(is_held)));
-        let found = Found { header: HEADER, dlc: 5, stamp: Stamp::At(0xA1B2_C3D4), len: 5 };
+        let found = Found { header: HEADER, dlc: 5, filter: 0, stamp: Stamp::At(0xA1B2_C3D4), len: 5 };
         assert_eq!(finish(end, &received, &mut buf[..64]), Outcome::Message(found));
         assert_eq!((&buf[..5], &buf[5..]), (&BYTES[..5], &[0x5A; 67][..]));
     }
@@ -552,6 +552,39 @@ fn sorting() {
     assert_eq!((number(Refusal::NoMatch), number(Refusal::DeviceNet)), (30, 31));
 }
 
+/// Document 02: a received message says which filter took it, with a timestamp (FIFO 2) and without (FIFO 3); one delivered by name says 0.
+#[test]
+fn every_filter() {
+    for (fifo, time) in [(2, Some(7)), (3, None)] {
+        for f in 0..32 {
+            let (mut m, mut buf) = (prepared(), [0x5A; 72]);
+            m.configure_filter(f, FilterConfiguration { fifo, ..filter() }).unwrap();
+            assert_eq!(m.get(fifo, &mut buf).unwrap().unwrap().filter, 0);
+            assert_eq!(m.line.chip.sort(HEADER, 5, 7, &BYTES[..5]), Sorted { delivery: Delivery::Delivered, fifo, filter: f });
+            assert_eq!(m.line.chip.deliver(fifo, HEADER, 5, 7, &BYTES[..5]), Delivery::Delivered);
+            let filters = [0, 1].map(|k| m.line.chip.held_at(fifo, k).unwrap().unwrap().frame.filter);
+            assert_eq!(filters, [f as u8, 0]);
+            m.disable_filter(f).unwrap(); // the message keeps the one that took it
+            let found = |filter| Ok(Some(Received { header: HEADER, dlc: 5, filter, time, len: 5 }));
+            assert_eq!((m.peek(fifo, &mut buf), m.get(fifo, &mut buf)), (found(f as u8), found(f as u8)));
+            assert_eq!((m.peek(fifo, &mut buf), m.get(fifo, &mut buf)), (found(0), found(0)));
+        }
+    }
+    // every bit of word 1 above the flags, left by a raw write in FIFO 3's oldest, behind 4 x 16 and 2 x 76 bytes: 15 to 11 alone count
+    for high in [0x0200u32, 0x0400, 0x0800, 0x1000, 0x2000, 0x4000, 0x8000, 0x1_0000, 0x8000_0000, 0xFFFF_0600, 0xFFFF_FE00] {
+        let (mut m, mut buf) = (prepared(), [0x5A; 72]);
+        m.write_ram(0x400 + 64 + 152 + 4, &(high | 5).to_le_bytes()).unwrap();
+        let found = Ok(Some(Received { header: HEADER, dlc: 5, filter: (high / 2048 % 32) as u8, time: None, len: 5 }));
+        assert_eq!((m.peek(3, &mut buf), m.get(3, &mut buf)), (found, found));
+    }
+    // a message to send has none, whatever its SEQ
+    let mut m = prepared();
+    assert!(m.push(1, HEADER, 0x7F_FFFF, &BYTES).is_ok() && m.request(1).is_ok());
+    assert_eq!(m.line.chip.held_at(1, 0).unwrap().unwrap().frame.filter, 0);
+    let (sending, frame) = m.line.chip.send(1);
+    assert_eq!((sending, frame.seq, frame.filter), (Sending::Frame, 0x7F_FFFF, 0));
+}
+
 /// How many bytes a DLC means: a classic frame has 8 at most; there is none above 15.
 fn meant(dlc: u32, fdf: bool) -> Option<usize> {
     const LENGTHS: [usize; 16] = [0, 1, 2, 3, 4, 5, 6, 7, 8, 12, 16, 20, 24, 32, 48, 64];
@@ -581,7 +614,7 @@ fn every_dlc() {
         for chip in [named, sorted] {
             let (mut m, mut held) = (on(chip), Payload { len, bytes: [0; 64] });
             held.bytes[..len].copy_from_slice(payload);
-            let frame = Frame { header, dlc: dlc as u8, seq: 0, stamp: Stamp::At(time), payload: held };
+            let frame = Frame { header, dlc: dlc as u8, filter: 0, seq: 0, stamp: Stamp::At(time), payload: held };
             let slot = m.line.chip.held_at(2, 0).unwrap().unwrap();
             assert_eq!((slot.reading, slot.frame), (Reading::Whole, frame));
             // its second slot of 76 bytes, behind 4 x 16: word 1 has the DLC in bits 3 to 0
@@ -590,7 +623,7 @@ fn every_dlc() {
             assert_eq!(u32::from(word[0] % 16), dlc);
             for call in [Driver::peek, Driver::get] {
                 let mut buf = [0x5A; 72];
-                assert_eq!(call(&mut m, 2, &mut buf), Ok(Some(Received { header, dlc: dlc as u8, time: Some(time), len })));
+                assert_eq!(call(&mut m, 2, &mut buf), Ok(Some(Received { header, dlc: dlc as u8, filter: 0, time: Some(time), len })));
                 assert_eq!((&buf[..len], &buf[len..]), (payload, &[0x5A; 72][len..]));
             }
             assert_eq!(m.get(2, &mut [0; 64]), Ok(None));
@@ -601,7 +634,7 @@ fn every_dlc() {
 /// Classic DLCs of 9 to 15 where no frame brought them, and beside what else is refused or turned down; none of them is ever sent.
 #[test]
 fn classic_dlcs() {
-    let found = |dlc, len| Ok(Some(Received { header: HEADER, dlc, time: None, len }));
+    let found = |dlc, len| Ok(Some(Received { header: HEADER, dlc, filter: 0, time: None, len }));
     // 20, 21, 22 in this order; FIFO 3 has slots for 8 bytes
     let (mut m, far) = (prepared(), Header { id: 0x800, ..HEADER });
     for (fifo, header, refusal) in [(0, far, Refusal::BadNumber), (3, far, Refusal::BadIdentifier), (3, HEADER, Refusal::BadPayload)] {
@@ -779,7 +812,7 @@ fn the_queue_by_document_02() {
         assert!(full > 0 && m.line.chip.held_queue_at(255).is_none());
         // FIFOs as they were
         assert_eq!((m.line.chip.held(1), m.line.chip.held(2), m.line.chip.held(3)), (Ok(0), Ok(1), Ok(1)));
-        assert_eq!(m.get(3, &mut [0; 64]), Ok(Some(Received { header: HEADER, dlc: 5, time: None, len: 5 })));
+        assert_eq!(m.get(3, &mut [0; 64]), Ok(Some(Received { header: HEADER, dlc: 5, filter: 0, time: None, len: 5 })));
     }
 }
 
@@ -839,7 +872,7 @@ fn beyond_slot() {
     assert_eq!((m.has_next(3), m.peek(3, &mut buf), m.get(3, &mut buf)), (Ok(true), refused, refused));
     assert!(m.line.chip.model == before && buf == [0x5A; 72]);
     m.write_ram(second, &[0x0D, 0, 0, 0]).unwrap();
-    assert_eq!(m.get(3, &mut buf), Ok(Some(Received { header: HEADER, dlc: 13, time: None, len: 8 })));
+    assert_eq!(m.get(3, &mut buf), Ok(Some(Received { header: HEADER, dlc: 13, filter: 0, time: None, len: 8 })));
     assert_eq!((number(Refusal::LengthBeyondSlot), Refusal::LengthBeyondSlot.to_string()), (35, "refused 35: LengthBeyondSlot".into()));
 }
 
@@ -1470,7 +1503,7 @@ fn a_scrubber_of_ones_own() {
 #[test]
 fn lent_bytes() {
     let mut m = prepared();
-    let received = |time| Ok(Some(Received { header: HEADER, dlc: 5, time, len: 5 }));
+    let received = |time| Ok(Some(Received { header: HEADER, dlc: 5, filter: 0, time, len: 5 }));
     for (fifo, time) in [(2, Some(0xA1B2_C3D4)), (3, None)] {
         let mut buf = [0x5A; 72];
         assert_eq!(m.has_next(fifo), Ok(true));

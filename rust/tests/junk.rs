@@ -162,10 +162,10 @@ fn is_meant(dlc: u8, fdf: bool, len: usize) -> bool {
     LENGTHS.get(dlc as usize).is_some_and(|&n| len == if fdf { n } else { n.min(8) })
 }
 
-/// The same of a message that a call ended with; and no read, checked and done, has more than 2 mismatches behind it.
+/// The same of a message that a call ended with, whose filter is one of 32; and no read, checked and done, has more than 2 mismatches behind it.
 fn is_as_meant(end: Outcome) -> bool {
     match end {
-        Outcome::Message(found) => is_meant(found.dlc, found.header.fdf, found.len as usize),
+        Outcome::Message(found) => found.filter < 32 && is_meant(found.dlc, found.header.fdf, found.len as usize),
         Outcome::Checked(_, mismatches) | Outcome::Scrubbed(Report::Agree { mismatches, .. }) => mismatches < 3,
         Outcome::Scrubbed(Report::Differ { mismatches, rewrite: Rewrite::Back(_, back), .. }) => mismatches < 3 && back < 3,
         Outcome::Scrubbed(Report::Differ { mismatches, .. }) => mismatches < 3,
@@ -379,7 +379,7 @@ fn a_hundred_thousand() {
                 let lent = &mut buf[..room];
                 let found = if call == 22 { mcp.peek(g.fifo, lent) } else { mcp.get(g.fifo, lent) };
                 if let Ok(Some(r)) = found {
-                    assert!(is_meant(r.dlc, r.header.fdf, r.len), "{found:?}");
+                    assert!(r.filter < 32 && is_meant(r.dlc, r.header.fdf, r.len), "{found:?}");
                     assert!(r.len <= SLOTS[(mcp.line.fifth >> 29) as usize], "{found:?}, control {:08x}", mcp.line.fifth);
                     coded[r.dlc as usize] += u32::from(!r.header.fdf);
                 }
@@ -398,9 +398,9 @@ fn a_hundred_thousand() {
         let _ = chip.send(g.fifo);
         queued[sent_from_queue(chip)] += 1;
         let delivery = chip.deliver(g.fifo, g.header, g.dlc, g.c, frame);
-        assert!(delivery != Delivery::Delivered || is_brought(newest(chip, g.fifo), &g, frame));
+        assert!(delivery != Delivery::Delivered || is_brought(newest(chip, g.fifo), &g, 0, frame));
         let s = chip.sort(g.header, g.dlc, g.c, frame);
-        assert!(s.delivery != Delivery::Delivered || is_brought(newest(chip, s.fifo), &g, frame));
+        assert!(s.delivery != Delivery::Delivered || is_brought(newest(chip, s.fifo), &g, s.filter, frame));
         sorted[sorted_number(s)] += 1;
         assert!(chip.held(g.fifo).map_or(!(1..32).contains(&g.fifo), |held| held <= 32));
     }
@@ -442,10 +442,11 @@ fn newest(chip: &Chip, fifo: u32) -> Decoded {
     chip.held_at(fifo, chip.held(fifo).unwrap() - 1).unwrap().unwrap()
 }
 
-/// Whether a slot has the header, the DLC and the payload of a frame.
-fn is_brought(slot: Decoded, g: &Given, frame: &[u8]) -> bool {
+/// Whether a slot has the header, the DLC and the payload of a frame, and the filter that took it.
+fn is_brought(slot: Decoded, g: &Given, filter: u32, frame: &[u8]) -> bool {
     let f = slot.frame;
-    slot.reading == Reading::Whole && f.header == g.header && u32::from(f.dlc) == g.dlc && &f.payload.bytes[..f.payload.len] == frame
+    let is_same = f.header == g.header && u32::from(f.dlc) == g.dlc && u32::from(f.filter) == filter;
+    slot.reading == Reading::Whole && is_same && &f.payload.bytes[..f.payload.len] == frame
 }
 
 fn report_number(report: Report) -> usize {
