@@ -1,8 +1,8 @@
 #!/usr/bin/env python3
 """A second model of the driver and the modelled chip, in another language: reads a script (docs/SCRIPTS.md) from standard input and writes
 the transcript that drive should write. Written from docs/01-scope.md, 02-change-requests.md, chip-facts.md, DECISIONS.md and the formats
-alone, without a look at the code or the definitions under crates/, so that the two can be held against each other: crates/drive/stdout is
-what this writes for crates/drive/stdin. A new request changes this file by its own words first."""
+alone, without a look at the code or the definitions under crates/ (but for the lines that oracle/README.md names), so that the two can be held
+against each other: crates/drive/stdout is what this writes for crates/drive/stdin. A new request changes this file by its own words first."""
 import sys, re
 
 PL = [8, 12, 16, 20, 24, 32, 48, 64]
