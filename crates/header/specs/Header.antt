@@ -104,6 +104,6 @@ headerOf a b = record {
 abbrev pub meaning0 : Bool → ℕ → ℕ
 meaning0 extended w = w % 2 ^ (if extended then 29 else 11)
 
--- of word 1 all of an object to send; of one received 8..0, which are those below SEQ, and FILHIT's
+-- of word 1 all of an object to send; of one received those below SEQ, 8..0, and FILHIT's, 15..11
 abbrev pub meaning1 : Bool → ℕ → ℕ
 meaning1 sending w = if sending then w % 2 ^ 32 else read FILHIT w * 2 ^ 11 + w % 2 ^ 9

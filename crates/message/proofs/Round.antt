@@ -324,4 +324,5 @@ always-holds stamped b h =
       rw (le-ltb (length b) (bodyAt stamped) (omega arith), le-leb (bodyAt stamped + n) (length b) h),
       cut false stamped b n h,
       refl,
+      refl,
     )

@@ -115,11 +115,12 @@ ClassicDlc = (m : Message) (bs r : List ℕ) → m .header .fdf ≡ false → en
 abbrev pub meantIn : List ℕ → ℕ
 meantIn b = receivedLength (flag FDF (leAt b 4)) (read DLC (leAt b 4))
 
--- a received object that is long enough always holds a message: whatever its DLC, which is kept
+-- a received object that is long enough always holds a message: whatever its DLC, which is kept, and whatever filter FILHIT names
 abbrev pub AlwaysHolds : Type 0
 AlwaysHolds =
     (stamped : Bool) (b : List ℕ) → bodyAt stamped + meantIn b ≤ length b
-    → (m : Message) × (decoding false stamped b ≡ holds m) × (length (m .payload) ≡ meantIn b) × (m .dlc ≡ read DLC (leAt b 4))
+    → (m : Message) × (decoding false stamped b ≡ holds m) × (length (m .payload) ≡ meantIn b)
+    × (m .dlc ≡ read DLC (leAt b 4)) × (m .filter ≡ read FILHIT (leAt b 4))
 
 -- an object to send that has its header is no frame exactly if it is a classic one with a DLC above 8
 abbrev pub NoFrameIff : Type 0
