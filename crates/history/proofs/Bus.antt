@@ -62,23 +62,33 @@ Listed c t = (j : ℕ) → isFifo j ≡ true → map holds (accepted j t) ≡ ma
 abbrev pub Moves : Model → Said → Model → Type 0
 Moves c x d = (j : ℕ) → isFifo j ≡ true → held c j ++ map holds (acceptedIn j x) ≡ map holds (handedOutIn j x) ++ held d j
 
+-- messages that are gathered from what was said, one thing behind the other
+module _ (all : List Said → List Message) (each : Said → List Message) (none : all [] ≡ []) (more : (x : Said) (t : List Said) → all (x ∷ t) ≡ each x ++ all t) where
+  pub gathered : (s t : List Said) → all (s ++ t) ≡ all s ++ all t
+  gathered [] t = rw none
+  gathered (x ∷ s) t =
+      more x (s ++ t) ∙ ap (λ (l : List Message). each x ++ l) (gathered s t) ∙ sym (append-assoc (each x) (all s) (all t))
+      ∙ ap (λ (l : List Message). l ++ all t) (sym (more x s))
+
+  pub one-more : (t : List Said) (x : Said) → all (t ++ (x ∷ [])) ≡ all t ++ each x
+  one-more t x =
+      gathered t (x ∷ []) ∙ ap (λ (l : List Message). all t ++ l) (more x [] ∙ ap (λ (l : List Message). each x ++ l) none ∙ append-nil (each x))
+
 pub accepted-append : (j : ℕ) (s t : List Said) → accepted j (s ++ t) ≡ accepted j s ++ accepted j t
 unfolding accepted
-accepted-append j [] t = refl
-accepted-append j (x ∷ s) t = rw (accepted-append j s t, append-assoc)
+accepted-append j = gathered (accepted j) (acceptedIn j) refl (λ x t. refl)
 
 pub handedOut-append : (j : ℕ) (s t : List Said) → handedOut j (s ++ t) ≡ handedOut j s ++ handedOut j t
 unfolding handedOut
-handedOut-append j [] t = refl
-handedOut-append j (x ∷ s) t = rw (handedOut-append j s t, append-assoc)
+handedOut-append j = gathered (handedOut j) (handedOutIn j) refl (λ x t. refl)
 
 accepted-snoc : (j : ℕ) (t : List Said) (x : Said) → accepted j (t ++ (x ∷ [])) ≡ accepted j t ++ acceptedIn j x
 unfolding accepted
-accepted-snoc j t x = accepted-append j t (x ∷ []) ∙ rw append-nil
+accepted-snoc j = one-more (accepted j) (acceptedIn j) refl (λ x t. refl)
 
 handedOut-snoc : (j : ℕ) (t : List Said) (x : Said) → handedOut j (t ++ (x ∷ [])) ≡ handedOut j t ++ handedOutIn j x
 unfolding handedOut
-handedOut-snoc j t x = handedOut-append j t (x ∷ []) ∙ rw append-nil
+handedOut-snoc j = one-more (handedOut j) (handedOutIn j) refl (λ x t. refl)
 
 pub lists-snoc : (c d : Model) (t : List Said) (x : Said) → Listed c t → Moves c x d → Listed d (t ++ (x ∷ []))
 lists-snoc c d t x l m j h =

@@ -13,6 +13,7 @@ use Rattle.history.specs.Lists.{queuedIn, queueAccepted, queueSentIn, qu
 use mathlib.Core.Logic.{∥∥₁-elim}
 use Rattle.history.specs.Command.{Command}
 use Rattle.call.specs.declared.Outcome.{Outcome}
+use Rattle.history.proofs.Bus.{one-more}
 
 abbrev pub QueueListed : Model → List Said → Type 0
 QueueListed c t = Perm (map holds (queueAccepted t)) (map holds (queueSent t) ++ heldQueue c)
@@ -23,13 +24,11 @@ QueueMoves c x d = Perm (heldQueue c ++ map holds (queuedIn x)) (map holds (queu
 
 accepted-snoc : (t : List Said) (x : Said) → queueAccepted (t ++ (x ∷ [])) ≡ queueAccepted t ++ queuedIn x
 unfolding queueAccepted
-accepted-snoc [] x = append-nil (queuedIn x)
-accepted-snoc (y ∷ t) x = rw (accepted-snoc t x, append-assoc)
+accepted-snoc = one-more queueAccepted queuedIn refl (λ x t. refl)
 
 sent-snoc : (t : List Said) (x : Said) → queueSent (t ++ (x ∷ [])) ≡ queueSent t ++ queueSentIn x
 unfolding queueSent
-sent-snoc [] x = append-nil (queueSentIn x)
-sent-snoc (y ∷ t) x = rw (sent-snoc t x, append-assoc)
+sent-snoc = one-more queueSent queueSentIn refl (λ x t. refl)
 
 pub queue-same : (c d : Model) (t : List Said) → heldQueue d ≡ heldQueue c → QueueListed c t → QueueListed d t
 queue-same c d t e l = rw e l

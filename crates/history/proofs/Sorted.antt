@@ -6,9 +6,7 @@ use mathlib.Core.Path.{_≡_, refl, sym, ap, _∙_}
 use mathlib.Core.Bool.{true}
 use mathlib.Core.List.{List, [], _∷_, _++_, map, map-append, append-nil, append-assoc, head-eq-of-cons-eq, tail-eq-of-cons-eq}
 use borrow.Author.Tests.{eq-eqb}
-use lib.Dec.{eqb}
 use lib.ListN.{length, length-map}
-use Rattle.laws.specs.If.{if_then_else_}
 use Rattle.laws.proofs.Choice.{by-if}
 use Rattle.fifo.specs.Control.{isFifo}
 use Rattle.header.specs.declared.Header.{Header}
@@ -25,9 +23,9 @@ use Rattle.bus.specs.Held.{held}
 use Rattle.bus.specs.Sort.{filterFor, targetFor, sortOf}
 use Rattle.bus.proofs.Arriving.{never, give-iff}
 use Rattle.bus.proofs.Sorts.{by-sort}
-use Rattle.reach.specs.Bus.{Bus, Sort, stepped}
+use Rattle.reach.specs.Bus.{Bus, Sort}
 use Rattle.history.specs.Command.{Command, Get, started}
-use Rattle.history.specs.History.{Event, Begin, Exchange, Fail, On, Said, called, arrived, Doing, idle, busy, World, halfway, isOver, settled, says, event, after}
+use Rattle.history.specs.History.{Event, Begin, Exchange, Fail, On, Said, called, Doing, idle, busy, World, halfway, isOver, settled, says, event, after}
 use Rattle.history.specs.Lists.{only, taken, accepted, acceptedIn, handedOut, handedOutIn}
 use Rattle.history.specs.Demand.{start, world}
 use Rattle.history.specs.Sorted.{FilterTold}
