@@ -2,7 +2,7 @@
 // refused (24).
 
 // Fields of CiFIFOCON that a FIFO which sends has.
-#[derive(Drop)]
+#[derive(Clone, Copy)]
 pub struct TxFifo {
     pub txpri: u32,
     pub txat: u32,
@@ -14,7 +14,7 @@ pub struct TxFifo {
 }
 
 // Fields of CiFIFOCON that a FIFO which receives has.
-#[derive(Drop)]
+#[derive(Clone, Copy)]
 pub struct RxFifo {
     pub rxtsen: bool,
     pub rxovie: bool,
@@ -23,14 +23,14 @@ pub struct RxFifo {
     pub notempty: bool,
 }
 
-#[derive(Drop)]
+#[derive(Clone, Copy)]
 pub enum FifoMode {
     Transmit(TxFifo),
     Receive(RxFifo),
 }
 
 // `size`: how many messages; `plsize`: PLSIZE, 0 to 7.
-#[derive(Drop)]
+#[derive(Clone, Copy)]
 pub struct FifoConfiguration {
     pub size: u32,
     pub plsize: u32,
@@ -38,7 +38,7 @@ pub struct FifoConfiguration {
 }
 
 // Fields of the queue's control; `size` and `plsize` as of a FIFO.
-#[derive(Drop)]
+#[derive(Clone, Copy)]
 pub struct TxQueueConfiguration {
     pub size: u32,
     pub plsize: u32,
@@ -50,20 +50,20 @@ pub struct TxQueueConfiguration {
 }
 
 // The queue is off, or on with this configuration.
-#[derive(Drop)]
+#[derive(Clone, Copy)]
 pub enum TxQueueSetting {
     Off,
     On(TxQueueConfiguration),
 }
 
-#[derive(Drop)]
+#[derive(Clone, Copy)]
 pub struct Identifier {
     pub extended: bool,
     pub id: u32,
 }
 
 // Which frames a filter takes.
-#[derive(Drop)]
+#[derive(Clone, Copy)]
 pub enum FilterMode {
     Standard,
     Extended,
@@ -71,7 +71,7 @@ pub enum FilterMode {
 }
 
 // A filter gives what its object and mask match to a FIFO.
-#[derive(Drop)]
+#[derive(Clone, Copy)]
 pub struct FilterConfiguration {
     pub fifo: u32,
     pub mode: FilterMode,

@@ -14,7 +14,7 @@ use state::{
 };
 
 // The next chip, and whether a change of mode that was asked for was granted; 27 where it wasn't.
-#[derive(Drop)]
+#[derive(Clone, Copy)]
 pub struct Written {
     pub model: Model,
     pub granted: bool,

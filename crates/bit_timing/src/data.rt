@@ -4,7 +4,7 @@ ghost use Rattle.field.specs.Field.{read, write, Fits};
 ghost use Rattle.field.specs.Register.{Carries};
 ghost use Rattle.bit_timing.specs.Data.{CiDBTCFG, SJW, TSEG2, TSEG1, BRP};
 
-#[derive(Drop)]
+#[derive(Clone, Copy)]
 pub struct DataBitTimeConfiguration(pub u32);
 
 impl DataBitTimeConfiguration {

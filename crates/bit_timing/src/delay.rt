@@ -7,7 +7,7 @@ ghost use Rattle.bit_timing.specs.Signed.{seven_of, number_of, Small};
 
 use crate::signed;
 
-#[derive(Drop)]
+#[derive(Clone, Copy)]
 pub struct TransmitterDelayCompensation(pub u32);
 
 impl TransmitterDelayCompensation {

@@ -4,7 +4,7 @@ ghost use Rattle.field.specs.Field.{read, write, Fits};
 ghost use Rattle.field.specs.Register.{Carries};
 ghost use Rattle.bit_timing.specs.Nominal.{CiNBTCFG, SJW, TSEG2, TSEG1, BRP};
 
-#[derive(Drop)]
+#[derive(Clone, Copy)]
 pub struct NominalBitTimeConfiguration(pub u32);
 
 impl NominalBitTimeConfiguration {

@@ -17,7 +17,7 @@ use message::Stamp;
 use spi::{Done, Refusal};
 use state::{Model, fifo_at, frozen_at};
 
-#[derive(Drop)]
+#[derive(Clone, Copy)]
 pub enum Delivery {
     Delivered,
     Refused(Refusal),
@@ -28,7 +28,7 @@ pub enum Delivery {
     Full,
 }
 
-#[derive(Drop)]
+#[derive(Clone, Copy)]
 pub struct Delivered {
     pub delivery: Delivery,
     pub model: Model,

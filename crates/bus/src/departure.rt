@@ -10,7 +10,7 @@ use message::{Decoded, Frame, Reading};
 use spi::Refusal;
 use state::{Model, fifo_at, frozen_at};
 
-#[derive(Drop)]
+#[derive(Clone, Copy)]
 pub enum Sending {
     Frame,
     NoFrame,
@@ -19,7 +19,7 @@ pub enum Sending {
 }
 
 // A frame of no content stands beside every answer but `Frame`.
-#[derive(Drop)]
+#[derive(Clone, Copy)]
 pub struct Sent {
     pub sending: Sending,
     pub frame: Frame,

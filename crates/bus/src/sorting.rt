@@ -11,7 +11,7 @@ use spi::{Done, Refusal};
 use state::Model;
 
 // The FIFO and the filter that a frame was for; 0 where it was refused.
-#[derive(Drop)]
+#[derive(Clone, Copy)]
 pub struct Sorted {
     pub delivery: Delivery,
     pub fifo: u32,

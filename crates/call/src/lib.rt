@@ -7,7 +7,7 @@ use spi::Refusal;
 
 // A message that was found in a receive FIFO, with the DLC that it was received with and the number of the filter that took it. Its payload of
 // `len` bytes is in the lent buffer.
-#[derive(Drop)]
+#[derive(Clone, Copy)]
 pub struct Found {
     pub header: Header,
     pub dlc: u8,
@@ -18,7 +18,7 @@ pub struct Found {
 
 // What came of a scrub step's rewrite: none was told; the word of the checked read-back and how many of its exchanges mismatched before
 // it; what the write or else the read-back was refused with.
-#[derive(Drop)]
+#[derive(Clone, Copy)]
 pub enum Rewrite {
     None,
     Back(u32, u8),
@@ -27,7 +27,7 @@ pub enum Rewrite {
 
 // What a scrub step reports of the entry that it visited: the cared-for bits agree; they do not, with the word read and the wanted
 // one; the checked read was refused. `mismatches`: how many of its exchanges mismatched before the word was read.
-#[derive(Drop)]
+#[derive(Clone, Copy)]
 pub enum Report {
     Agree {
         address: u16,
@@ -46,7 +46,7 @@ pub enum Report {
     },
 }
 
-#[derive(Drop)]
+#[derive(Clone, Copy)]
 pub enum Outcome {
     // The call still asks for something.
     Running,

@@ -1,14 +1,14 @@
 // What a configuration call is given. A number is any number: one that is wider than its field is refused (24).
 
 // `divide`: the system clock is half of the oscillator's or the PLL's.
-#[derive(Drop)]
+#[derive(Clone, Copy)]
 pub struct OscillatorConfiguration {
     pub pll: bool,
     pub divide: bool,
 }
 
 // The fields of IOCON that a call sets.
-#[derive(Drop)]
+#[derive(Clone, Copy)]
 pub struct IoConfiguration {
     pub xstbyen: bool,
     pub txcanod: bool,
@@ -17,7 +17,7 @@ pub struct IoConfiguration {
 }
 
 // Fields of CiNBTCFG.
-#[derive(Drop)]
+#[derive(Clone, Copy)]
 pub struct NominalBitTime {
     pub brp: u32,
     pub tseg1: u32,
@@ -26,7 +26,7 @@ pub struct NominalBitTime {
 }
 
 // Fields of CiDBTCFG, and TDCO of CiTDC, a number from -64 to 63.
-#[derive(Drop)]
+#[derive(Clone, Copy)]
 pub struct DataBitTime {
     pub brp: u32,
     pub tseg1: u32,
@@ -35,7 +35,7 @@ pub struct DataBitTime {
     pub tdco: i32,
 }
 
-#[derive(Drop)]
+#[derive(Clone, Copy)]
 pub struct BitTimeConfiguration {
     pub nominal: NominalBitTime,
     pub data: DataBitTime,
@@ -43,7 +43,7 @@ pub struct BitTimeConfiguration {
 
 // `counter`: the time base counter; `dncnt`: the data bits that filters look at, 0 to leave them as they are; the others:
 // which interrupts are enabled beside those of transmit and receive.
-#[derive(Drop)]
+#[derive(Clone, Copy)]
 pub struct Settings {
     pub oscillator: OscillatorConfiguration,
     pub io: IoConfiguration,

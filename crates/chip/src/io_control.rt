@@ -4,7 +4,7 @@ ghost use Rattle.field.specs.Field.{flag, mark};
 ghost use Rattle.field.specs.Register.{Carries};
 ghost use Rattle.chip.specs.IoControl.{IOCON, TRIS, LAT, GPIO, PM, XSTBYEN, TXCANOD, SOF, INTOD};
 
-#[derive(Drop)]
+#[derive(Clone, Copy)]
 pub struct IoControl(pub u32);
 
 impl IoControl {

@@ -4,7 +4,7 @@ ghost use Rattle.field.specs.Field.{read, write, Fits, flag, mark};
 ghost use Rattle.field.specs.Register.{Carries};
 ghost use Rattle.chip.specs.OscillatorControl.{OSC, PLLEN, OSCDIS, LPMEN, SCLKDIV, CLKODIV, PLLRDY, OSCRDY, SCLKRDY};
 
-#[derive(Drop)]
+#[derive(Clone, Copy)]
 pub struct OscillatorControl(pub u32);
 
 impl OscillatorControl {

@@ -36,7 +36,7 @@ pub const ABSENT: u8 = 7;
 // pushes and transmit `size` is the payload's, of the two calls on bit timing it is TDCO. `asked` counts the exchanges; the others are of
 // their answers: whether CiTDC's word makes a difference, the user address word, a header's second word; of the control word behind it
 // whether it means fewer bytes than the header, and whether a timestamp follows.
-#[derive(Drop)]
+#[derive(Clone, Copy)]
 pub struct Seen {
     pub row: usize,
     pub wide: bool,
@@ -171,7 +171,7 @@ pub fn answered(s: Seen, rx: &[u8]) -> Seen {
 }
 
 // A part of RAM.
-#[derive(Drop)]
+#[derive(Clone, Copy)]
 struct Part {
     address: u32,
     size: u64,

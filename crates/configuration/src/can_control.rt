@@ -4,7 +4,7 @@ ghost use Rattle.field.specs.Field.{read, write, Fits, flag, mark};
 ghost use Rattle.field.specs.Register.{Carries};
 ghost use Rattle.configuration.specs.CanControl.{CiCON, DNCNT, ISOCRCEN, PXEDIS, WAKFIL, WFT, BUSY, BRSDIS, RTXAT, ESIGM, SERR2LOM, STEF, TXQEN, OPMOD, REQOP, ABAT, TXBWS};
 
-#[derive(Drop)]
+#[derive(Clone, Copy)]
 pub struct CanControl(pub u32);
 
 impl CanControl {

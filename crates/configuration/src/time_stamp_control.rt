@@ -4,7 +4,7 @@ ghost use Rattle.field.specs.Field.{read, write, Fits, flag, mark};
 ghost use Rattle.field.specs.Register.{Carries};
 ghost use Rattle.configuration.specs.TimeStampControl.{CiTSCON, TBCPRE, TBCEN, TSEOF, TSRES};
 
-#[derive(Drop)]
+#[derive(Clone, Copy)]
 pub struct TimeStampControl(pub u32);
 
 impl TimeStampControl {

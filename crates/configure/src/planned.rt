@@ -7,7 +7,7 @@ use plan::Poll;
 use spi::Refusal;
 
 // What a plan does. `One` and `Io` are one change; they differ in what a failed exchange means.
-#[derive(Drop)]
+#[derive(Clone, Copy)]
 pub enum PlanKind {
     Nothing,
     One,
@@ -21,7 +21,7 @@ pub enum PlanKind {
     Configure,
 }
 
-#[derive(Drop)]
+#[derive(Clone, Copy)]
 pub enum PlanStage {
     // A change: its register is read; the word is written.
     Read,
@@ -42,7 +42,7 @@ pub enum PlanStage {
 
 // `n`: the mode waited for, or the filter's number; `more`: polls, or bits of an echo, that are left; `next`: the place of the
 // item after the one under way; `m`, `a`, `b`: address, kept bits and set bits of the change under way; `w`: the word to write.
-#[derive(Drop)]
+#[derive(Clone, Copy)]
 pub struct PlanNumbers {
     pub kind: PlanKind,
     pub stage: PlanStage,

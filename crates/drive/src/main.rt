@@ -9,7 +9,7 @@ use state::Model;
 
 // The number of the line that was read last, counted from 1; whether a call waits for its @ lines, and how many bytes its own line and
 // they have.
-#[derive(Drop)]
+#[derive(Clone, Copy)]
 struct Place {
     number: u64,
     open: bool,

@@ -41,7 +41,7 @@ use tx_fifo::PushStage;
 pub use watch::{Scrubber, Watch};
 
 // Where a call stands in its family.
-#[derive(Drop)]
+#[derive(Clone, Copy)]
 enum At {
     Register(RegisterStage),
     Ram(RamStage),
@@ -53,7 +53,7 @@ enum At {
 }
 
 // A call without its bytes: where it stands, and numbers that the families share. Nobody outside makes one by hand.
-#[derive(Drop)]
+#[derive(Clone, Copy)]
 pub struct Numbers {
     at: At,
     stamped: bool,
@@ -71,7 +71,7 @@ pub struct Numbers {
 }
 
 // A call: its numbers, and its own bytes (the object to send, the payload received, or the bits that a plan sets).
-#[derive(Drop)]
+#[derive(Clone, Copy)]
 pub struct Call {
     numbers: Numbers,
     body: [u8; 76],

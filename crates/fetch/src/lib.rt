@@ -15,7 +15,7 @@ use call::Found;
 use fifo::{FifoControl, FifoStatus};
 use spi::{Answer, Done, OneWord, Refusal, TwoWords};
 
-#[derive(Drop)]
+#[derive(Clone, Copy)]
 pub enum Want {
     HasNext,
     Peek,
@@ -23,7 +23,7 @@ pub enum Want {
 }
 
 // The exchange that a call asks for, or how it ended.
-#[derive(Drop)]
+#[derive(Clone, Copy)]
 pub enum FetchStage {
     Control,
     Status,
@@ -44,7 +44,7 @@ pub enum FetchStage {
 }
 
 // A call as plain numbers; which of them count is told by the stage.
-#[derive(Drop)]
+#[derive(Clone, Copy)]
 pub struct FetchNumbers {
     pub stage: FetchStage,
     pub want: Want,

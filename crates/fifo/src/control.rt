@@ -24,7 +24,7 @@ pub fn is_fifo(n: u32) -> bool
     n <= 31
 }
 
-#[derive(Drop)]
+#[derive(Clone, Copy)]
 pub struct FifoControl(pub u32);
 
 impl FifoControl {

@@ -4,7 +4,7 @@ ghost use Rattle.field.specs.Field.{read, write, Fits, flag, mark};
 ghost use Rattle.field.specs.Register.{Carries};
 ghost use Rattle.fifo.specs.Status.{CiFIFOSTA, TFNRFNIF, TFHRFHIF, TFERFFIF, RXOVIF, TXATIF, TXERR, TXLARB, TXABT, FIFOCI};
 
-#[derive(Drop)]
+#[derive(Clone, Copy)]
 pub struct FifoStatus(pub u32);
 
 impl FifoStatus {

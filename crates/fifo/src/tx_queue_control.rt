@@ -7,7 +7,7 @@ ghost use Rattle.fifo.specs.TxQueueControl.{CiTXQCON, TXQNIE, TXQEIE};
 
 use crate::FifoControl;
 
-#[derive(Drop)]
+#[derive(Clone, Copy)]
 pub struct TxQueueControl(pub u32);
 
 impl TxQueueControl {

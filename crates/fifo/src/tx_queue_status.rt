@@ -5,7 +5,7 @@ ghost use Rattle.field.specs.Register.{Carries};
 ghost use Rattle.fifo.specs.Status.{TXATIF, TXERR, TXLARB, TXABT};
 ghost use Rattle.fifo.specs.TxQueueStatus.{CiTXQSTA, TXQNIF, TXQEIF, TXQCI};
 
-#[derive(Drop)]
+#[derive(Clone, Copy)]
 pub struct TxQueueStatus(pub u32);
 
 impl TxQueueStatus {

@@ -5,7 +5,7 @@ ghost use Rattle.field.specs.Register.{Carries};
 ghost use Rattle.fifo.specs.TxQueueUserAddress.{CiTXQUA};
 ghost use Rattle.fifo.specs.UserAddress.{FIFOUA};
 
-#[derive(Drop)]
+#[derive(Clone, Copy)]
 pub struct TxQueueUserAddress(pub u32);
 
 impl TxQueueUserAddress {

@@ -4,7 +4,7 @@ ghost use Rattle.field.specs.Field.{read, write};
 ghost use Rattle.field.specs.Register.{Carries};
 ghost use Rattle.fifo.specs.UserAddress.{CiFIFOUA, FIFOUA};
 
-#[derive(Drop)]
+#[derive(Clone, Copy)]
 pub struct UserAddress(pub u32);
 
 impl UserAddress {

@@ -4,7 +4,7 @@ ghost use Rattle.field.specs.Field.{read, write, Fits, flag, mark};
 ghost use Rattle.field.specs.Register.{Carries};
 ghost use Rattle.filter.specs.Control.{CiFLTCON, FBP, FLTEN};
 
-#[derive(Drop)]
+#[derive(Clone, Copy)]
 pub struct FilterControl(pub u32);
 
 impl FilterControl {

@@ -4,7 +4,7 @@ ghost use Rattle.field.specs.Field.{read, write, Fits, flag, mark};
 ghost use Rattle.field.specs.Register.{Carries};
 ghost use Rattle.filter.specs.Mask.{CiMASK, MSID, MEID, MSID11, MIDE};
 
-#[derive(Drop)]
+#[derive(Clone, Copy)]
 pub struct FilterMask(pub u32);
 
 impl FilterMask {

@@ -4,7 +4,7 @@ ghost use Rattle.field.specs.Field.{read, write, Fits, flag, mark};
 ghost use Rattle.field.specs.Register.{Carries};
 ghost use Rattle.filter.specs.Object.{CiFLTOBJ, SID, EID, SID11, EXIDE};
 
-#[derive(Drop)]
+#[derive(Clone, Copy)]
 pub struct FilterObject(pub u32);
 
 impl FilterObject {

@@ -5,13 +5,13 @@ ghost use Rattle.header.specs.Dlc.{dlcs, length_of, received_length, dlc_of};
 // What DLC 0 to 15 mean, in bytes.
 pub const LENGTHS: [usize; 16] = [0, 1, 2, 3, 4, 5, 6, 7, 8, 12, 16, 20, 24, 32, 48, 64];
 
-#[derive(Drop)]
+#[derive(Clone, Copy)]
 pub enum Length {
     Is(usize),
     Bad,
 }
 
-#[derive(Drop)]
+#[derive(Clone, Copy)]
 pub enum Dlc {
     Is(usize),
     Bad,

@@ -11,7 +11,7 @@ mod dlc;
 
 pub use dlc::{Dlc, LENGTHS, Length, dlc_for_len, len_for_dlc, received_len};
 
-#[derive(Drop)]
+#[derive(Clone, Copy)]
 pub struct Header {
     pub extended: bool,
     pub id: u32,

@@ -7,7 +7,7 @@ ghost use Rattle.field.specs.Register.{Carries};
 ghost use Rattle.interrupt.specs.Interrupt.{CiINT, cause_bit, IF, IE};
 
 // The data sheet's names without IF and IE.
-#[derive(Drop)]
+#[derive(Clone, Copy)]
 pub enum Cause {
     Tx,
     Rx,
@@ -44,7 +44,7 @@ fn bit_of(cause: Cause) -> u32
     }
 }
 
-#[derive(Drop)]
+#[derive(Clone, Copy)]
 pub struct Interrupt(pub u32);
 
 impl Interrupt {

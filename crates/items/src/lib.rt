@@ -3,7 +3,7 @@
 
 use spoken::{Fault, Line};
 
-#[derive(Drop)]
+#[derive(Clone, Copy)]
 pub enum Item {
     Blank,
     // A call, understood or not.

@@ -24,7 +24,7 @@ const DIFFER: usize = 8;
 
 // The line that was read last and the one that the case began with, counted from 1; the line where the port first did otherwise, and
 // how long the text is that is held of it; the case's class; how many bytes the call's line has, and how many came last.
-#[derive(Drop)]
+#[derive(Clone, Copy)]
 pub struct State {
     pub number: u64,
     pub start: u64,

@@ -78,7 +78,7 @@ pub fn exchange(out: &mut [u8], at: usize, sent: &[u8], want: usize) -> usize {
 }
 
 // What stands behind a result's words.
-#[derive(Drop)]
+#[derive(Clone, Copy)]
 enum Value {
     Nothing,
     Dash,

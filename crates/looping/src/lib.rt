@@ -6,14 +6,14 @@ use driver::{Answer, Call, Next, Outcome};
 use model::Heard;
 use state::Model;
 
-#[derive(Drop)]
+#[derive(Clone, Copy)]
 pub struct Line {
     pub model: Model,
     pub exchanges: u64,
 }
 
 // The line after a turn, what the call is answered, and how many bytes were received.
-#[derive(Drop)]
+#[derive(Clone, Copy)]
 pub struct Turn {
     pub line: Line,
     pub answer: Answer,
@@ -21,7 +21,7 @@ pub struct Turn {
 }
 
 // The line after a call, and how that ended.
-#[derive(Drop)]
+#[derive(Clone, Copy)]
 pub struct Ran {
     pub line: Line,
     pub outcome: Outcome,

@@ -5,7 +5,7 @@ ghost use Rattle.message.specs.Object.{stamp_bytes, object_bytes};
 ghost use Rattle.message.specs.Structs.{object_in};
 
 // A received message's timestamp.
-#[derive(Drop)]
+#[derive(Clone, Copy)]
 pub enum Stamp {
     At(u32),
     None,

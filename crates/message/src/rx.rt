@@ -12,13 +12,13 @@ use crate::Stamp;
 use header::{Header, Length, dlc_of, filter_of, header_of, length_of, received_length_of};
 
 // What lies behind the first `len` bytes is 0.
-#[derive(Drop)]
+#[derive(Clone, Copy)]
 pub struct Payload {
     pub bytes: [u8; 64],
     pub len: usize,
 }
 
-#[derive(Drop)]
+#[derive(Clone, Copy)]
 pub struct Frame {
     pub header: Header,
     pub dlc: u8,
@@ -30,7 +30,7 @@ pub struct Frame {
 
 // What an object's bytes are read as: a whole message; no frame, of one to send that is classic and has a DLC above 8; or fewer
 // bytes than the DLC means.
-#[derive(Drop)]
+#[derive(Clone, Copy)]
 pub enum Reading {
     Whole,
     NoFrame,
@@ -38,7 +38,7 @@ pub enum Reading {
 }
 
 // A frame of no content stands beside every reading but `Whole`.
-#[derive(Drop)]
+#[derive(Clone, Copy)]
 pub struct Decoded {
     pub reading: Reading,
     pub frame: Frame,

@@ -8,14 +8,14 @@ use crate::{Stamp, object};
 use header::{Dlc, Header, dlc_for_len, first_word, second_word};
 use spi::{Done, Refusal};
 
-#[derive(Drop)]
+#[derive(Clone, Copy)]
 pub enum Checked {
     Dlc(usize),
     Bad(Refusal),
 }
 
 // The object's length, or why there is none.
-#[derive(Drop)]
+#[derive(Clone, Copy)]
 pub struct Written {
     pub done: Done,
     pub len: usize,

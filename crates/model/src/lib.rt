@@ -13,7 +13,7 @@ use operation::Operation;
 use place::Register;
 use state::Model;
 
-#[derive(Drop)]
+#[derive(Clone, Copy)]
 pub enum Heard {
     // Failed, and nothing changed.
     Failed,
@@ -23,7 +23,7 @@ pub enum Heard {
     NoLayout,
 }
 
-#[derive(Drop)]
+#[derive(Clone, Copy)]
 pub struct Exchanged {
     pub heard: Heard,
     pub model: Model,

@@ -4,7 +4,7 @@ ghost use Rattle.operation.specs.Operation.{opcode, address, in_ram, read_at, wr
 
 use place::{Place, Register, register_at};
 
-#[derive(Drop)]
+#[derive(Clone, Copy)]
 pub enum Operation {
     Reset,
     Read(Register),

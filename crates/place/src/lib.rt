@@ -4,7 +4,7 @@
 ghost use Rattle.std.specs.Prelude.{◌≡◌};
 ghost use Rattle.place.specs.Place.{of_fifo, of_filter, single, register_at, is_carried};
 
-#[derive(Drop)]
+#[derive(Clone, Copy)]
 pub enum Register {
     Con,
     Osc,
@@ -24,7 +24,7 @@ pub enum Register {
     QueueAddress,
 }
 
-#[derive(Drop)]
+#[derive(Clone, Copy)]
 pub enum Place {
     Is(Register),
     None,

@@ -2,7 +2,7 @@
 ghost use Rattle.std.specs.Prelude.{◌≡◌, ◌-◌, ◌^◌};
 ghost use Rattle.plan.specs.Change.{modified};
 
-#[derive(Drop)]
+#[derive(Clone, Copy)]
 pub struct Change {
     pub address: u16,
     pub keep: u32,

@@ -8,13 +8,13 @@ use configuration::CanControl;
 use spi::Refusal;
 
 // What is waited for: the mode that CiCON shows, with the refusal where it does not come; PLLRDY.
-#[derive(Drop)]
+#[derive(Clone, Copy)]
 pub enum Poll {
     Mode(u32, Refusal),
     Pll,
 }
 
-#[derive(Drop)]
+#[derive(Clone, Copy)]
 pub enum Item {
     // A register is read and written.
     Change(Change),

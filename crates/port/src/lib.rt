@@ -45,7 +45,7 @@ pub fn line(
 }
 
 // What a line of the transcript means to the call.
-#[derive(Drop)]
+#[derive(Clone, Copy)]
 pub enum Step {
     Stay,
     Begin(usize),

@@ -18,7 +18,7 @@ const ECHO_ADDRESS: u16 = 0x400;
 
 const ECHO_LEN: usize = 128;
 
-#[derive(Drop)]
+#[derive(Clone, Copy)]
 pub enum RamStage {
     Read,
     Received,
@@ -31,7 +31,7 @@ pub enum RamStage {
 
 // Where a call stands, in plain numbers. `m`: the address; `place`: where in the lent buffer the bytes go that are read; `count`: how
 // many bytes are read or written. A stage looks only at those that it needs.
-#[derive(Drop)]
+#[derive(Clone, Copy)]
 pub struct RamNumbers {
     pub stage: RamStage,
     pub m: u16,

@@ -4,7 +4,7 @@
 use libc::{STDERR_FILENO, STDIN_FILENO};
 
 // What stands in the line's buffer: a line, the front of a line that is longer than the buffer, or nothing: the input has ended.
-#[derive(Drop)]
+#[derive(Clone, Copy)]
 pub enum Kind {
     Line,
     Long,
@@ -26,7 +26,7 @@ pub fn is_end(kind: Kind) -> bool {
 }
 
 // Which bytes of the piece that was read last are left, and how many of the line's buffer are the line's.
-#[derive(Drop)]
+#[derive(Clone, Copy)]
 pub struct Reader {
     pub at: usize,
     pub have: usize,
@@ -93,7 +93,7 @@ fn without_return(line: &[u8], len: usize) -> usize {
 }
 
 // Which bytes of a piece are left.
-#[derive(Drop)]
+#[derive(Clone, Copy)]
 struct Place {
     at: usize,
     have: usize,

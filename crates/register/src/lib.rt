@@ -12,7 +12,7 @@ use call::Outcome;
 use configuration::CanControl;
 use spi::{Answer, Ask, CheckedWord, Done, OneWord, Refusal};
 
-#[derive(Drop)]
+#[derive(Clone, Copy)]
 pub enum RegisterStage {
     Reset,
     Read,
@@ -28,7 +28,7 @@ pub enum RegisterStage {
 
 // Where a call stands, in plain numbers. `m`: the address; `w`: the word to write, or that was read, or the mode; `seen`: how many
 // exchanges of a checked read mismatched. A stage looks only at those that it needs.
-#[derive(Drop)]
+#[derive(Clone, Copy)]
 pub struct RegisterNumbers {
     pub stage: RegisterStage,
     pub m: u16,

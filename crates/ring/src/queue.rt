@@ -9,7 +9,7 @@ use crate::depth;
 use crate::ring::{kept, without_txreq};
 use fifo::{FifoControl, FifoStatus};
 
-#[derive(Drop)]
+#[derive(Clone, Copy)]
 pub struct Queue {
     // The control word as last written; UINC is 0 in it, and so is FRESET outside Configuration.
     pub control: u32,

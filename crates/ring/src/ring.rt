@@ -8,7 +8,7 @@ ghost use Rattle.ring.specs.Ring.{sending, depth, place, shown, claimed, taken, 
 
 use fifo::FifoControl;
 
-#[derive(Drop)]
+#[derive(Clone, Copy)]
 pub struct Fifo {
     // The control word as last written; UINC is 0 in it, and so is FRESET outside Configuration.
     pub control: u32,

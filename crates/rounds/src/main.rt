@@ -12,7 +12,7 @@ use state::Model;
 use text::Number;
 
 // The chip with its count of exchanges, and how many messages came out as they went in.
-#[derive(Drop)]
+#[derive(Clone, Copy)]
 struct Stand {
     line: Line,
     good: u64,
@@ -28,7 +28,7 @@ fn count(n: u64, more: bool) -> u64 {
 }
 
 // The stand after a call.
-#[derive(Drop)]
+#[derive(Clone, Copy)]
 struct Done {
     stand: Stand,
     outcome: Outcome,

@@ -4,7 +4,7 @@
 use spoken::{Fault, Line, Spoken};
 use text::Number;
 
-#[derive(Drop)]
+#[derive(Clone, Copy)]
 pub enum Entry {
     // Blank, or a comment.
     Blank,

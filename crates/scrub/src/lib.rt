@@ -16,7 +16,7 @@ use call::{Outcome, Report, Rewrite};
 use spi::{Answer, Ask, CheckedWord, Done, Refusal};
 use watch::{Begun, Due};
 
-#[derive(Drop)]
+#[derive(Clone, Copy)]
 pub enum ScrubStage {
     Visit,
     Write,
@@ -32,7 +32,7 @@ pub enum ScrubStage {
 // Where a step stands, in plain numbers. `place`: the scrubber's; `next`: the place behind the entry; `m`, `a`, `b`: the entry's
 // address, wanted word and care mask; `count`: how many exchanges of the checked read under way, or of the last, mismatched; `w`: the
 // word that was read, and `first` the visit's count; `t`: the one that was read back. A stage looks only at those that it needs.
-#[derive(Drop)]
+#[derive(Clone, Copy)]
 pub struct ScrubNumbers {
     pub stage: ScrubStage,
     pub rewrite: bool,

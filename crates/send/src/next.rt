@@ -1,5 +1,5 @@
 // What the caller's loop does now.
-#[derive(Drop)]
+#[derive(Clone, Copy)]
 pub enum Next {
     // The first `n` bytes of the buffer are sent, then `want` are received.
     Transfer { n: usize, want: usize },

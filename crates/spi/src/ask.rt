@@ -8,7 +8,7 @@ ghost use Rattle.spi.specs.declared.ask.Ask.{Ask};
 use crate::{OpCode, checked_read, command, write_word};
 
 // What a call asks for now.
-#[derive(Drop)]
+#[derive(Clone, Copy)]
 pub enum Ask {
     // A plain read of so many bytes, of a register or of RAM.
     Read { address: u16, count: usize },
@@ -27,7 +27,7 @@ pub enum Ask {
 }
 
 // How the caller answers. What an exchange received is a slice beside it; a failed exchange was not carried out.
-#[derive(Drop)]
+#[derive(Clone, Copy)]
 pub enum Answer {
     Exchanged,
     Failed,
@@ -36,7 +36,7 @@ pub enum Answer {
 
 // The bytes of an exchange: the first `send` of the head and behind them the first `body` of the call's body go out, then
 // `want` come back.
-#[derive(Drop)]
+#[derive(Clone, Copy)]
 pub struct Exchange {
     pub head: [u8; 6],
     pub send: usize,

@@ -5,7 +5,7 @@ ghost use Rattle.spi.specs.Instruction.{code_of, command_of};
 ghost use Rattle.spi.specs.declared.instruction.OpCode.TheVariants.{Write, ReadCrc};
 
 // WriteCrc is named and never sent.
-#[derive(Drop)]
+#[derive(Clone, Copy)]
 pub enum OpCode {
     Reset,
     Write,

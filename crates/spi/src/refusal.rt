@@ -1,5 +1,5 @@
 // Why a call is refused: the table of refusals. specs/Refusals.antt has the number of each and the values that it carries.
-#[derive(Drop)]
+#[derive(Clone, Copy)]
 pub enum Refusal {
     SpiRead,
     SpiWrite,
@@ -32,7 +32,7 @@ pub enum Refusal {
 }
 
 // An answer that says only whether all is well.
-#[derive(Drop)]
+#[derive(Clone, Copy)]
 pub enum Done {
     Good,
     Bad(Refusal),

@@ -6,21 +6,21 @@ ghost use Rattle.spi.specs.Reply.{word_reply, pair_reply, done_reply, wait_reply
 use crate::{Answer, Done, Refusal, checked_read};
 
 // Where one word was wanted.
-#[derive(Drop)]
+#[derive(Clone, Copy)]
 pub enum OneWord {
     Word(u32),
     Bad(Refusal),
 }
 
 // Where two words were wanted.
-#[derive(Drop)]
+#[derive(Clone, Copy)]
 pub enum TwoWords {
     Words(u32, u32),
     Bad(Refusal),
 }
 
 // Where a word and its CRC were wanted.
-#[derive(Drop)]
+#[derive(Clone, Copy)]
 pub enum CheckedWord {
     Word(u32),
     Mismatch,

@@ -9,14 +9,14 @@ use text::Number;
 mod entries;
 
 // A line by its row in a table, and its last number: of bytes, how many.
-#[derive(Drop)]
+#[derive(Clone, Copy)]
 pub struct Spoken {
     pub row: usize,
     pub count: usize,
 }
 
 // Why a line is not understood.
-#[derive(Drop)]
+#[derive(Clone, Copy)]
 pub enum Fault {
     // No row has its name.
     Name,
@@ -34,14 +34,14 @@ pub enum Fault {
     Place,
 }
 
-#[derive(Drop)]
+#[derive(Clone, Copy)]
 pub enum Line {
     Row(Spoken),
     Bad(Fault),
 }
 
 // A row's last number, or why the row is not the line's.
-#[derive(Drop)]
+#[derive(Clone, Copy)]
 enum Tried {
     Is(u64),
     Bad(Fault),

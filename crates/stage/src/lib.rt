@@ -8,7 +8,7 @@ use state::Model;
 use text::Number;
 
 // What the @ lines say of one exchange, and the chip after their bus steps.
-#[derive(Drop)]
+#[derive(Clone, Copy)]
 struct Told {
     model: Model,
     fails: bool,
@@ -91,7 +91,7 @@ fn heard_of(m: Model, notes: &[u8], k: u64, rx: &mut [u8]) -> Told {
 }
 
 // Where the chip stands: how many exchanges were made, and how many bytes came last; what the call is answered, and with how many bytes.
-#[derive(Drop)]
+#[derive(Clone, Copy)]
 struct Turn {
     model: Model,
     made: u64,
@@ -253,7 +253,7 @@ fn done(
 }
 
 // The chip after a call, and the place of the scrubber that the call gives back.
-#[derive(Drop)]
+#[derive(Clone, Copy)]
 struct After {
     model: Model,
     place: usize,

@@ -16,7 +16,7 @@ use filter::{FilterControl, FilterMask, FilterObject};
 use interrupt::Interrupt;
 use ring::{Fifo, Queue};
 
-#[derive(Drop)]
+#[derive(Clone, Copy)]
 pub struct Fixed {
     pub configuring: bool,
     // The transmit queue is on.
@@ -25,7 +25,7 @@ pub struct Fixed {
     pub frozen: [u32; 32],
 }
 
-#[derive(Drop)]
+#[derive(Clone, Copy)]
 pub struct Setup {
     pub con: u32,
     pub osc: u32,
@@ -37,7 +37,7 @@ pub struct Setup {
     pub mask: [u32; 32],
 }
 
-#[derive(Drop)]
+#[derive(Clone, Copy)]
 pub struct Model {
     pub fixed: Fixed,
     pub setup: Setup,

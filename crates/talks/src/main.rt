@@ -34,7 +34,7 @@ fn got_of(item: Item) -> usize {
 
 // The number of the line that was read last, counted from 1; whether the last call's line was understood; how many bytes it has, and
 // one more than the call reads from RAM.
-#[derive(Drop)]
+#[derive(Clone, Copy)]
 struct Place {
     number: u64,
     open: bool,
@@ -74,7 +74,7 @@ fn next(p: Place, item: Item, heard: Line, numbers: &[u64]) -> Place {
 }
 
 // What is wrong with a line, if anything is.
-#[derive(Drop)]
+#[derive(Clone, Copy)]
 enum Verdict {
     Good,
     Bad(Fault),

@@ -15,7 +15,7 @@ use spi::{Answer, Ask, Done, OneWord, Refusal, done_reply, word_reply};
 use tx_fifo::{PushNumbers, PushStage, push_ask, push_done, push_outcome, push_start, push_step};
 
 // What the request waits for: control as read, the answer to its write. `Late`: an answer came when it was done.
-#[derive(Drop)]
+#[derive(Clone, Copy)]
 pub enum RequestStage {
     Read,
     Write,
@@ -25,7 +25,7 @@ pub enum RequestStage {
 }
 
 // Once the push is done, `w` of its numbers is the word that the request writes and `why` what it was refused for.
-#[derive(Drop)]
+#[derive(Clone, Copy)]
 pub struct TransmitNumbers {
     pub push: PushNumbers,
     pub request: RequestStage,

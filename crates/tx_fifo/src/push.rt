@@ -18,7 +18,7 @@ use spi::{Answer, Ask, Done, OneWord, Refusal, done_reply, in_range, word_reply}
 
 // What the call waits for: the answer to one of its exchanges, in their order; what was read stands beside it. `Enabled` is the queue's
 // first one, the `Bare` ones are those of an unchecked push before its `Commit`.
-#[derive(Drop)]
+#[derive(Clone, Copy)]
 pub enum PushStage {
     Enabled,
     Control,
@@ -35,7 +35,7 @@ pub enum PushStage {
 
 // `size` is the payload's length and `len` the object's, `w` control as it is written back, `m` the RAM address, `why` what the call was
 // refused for. The object's bytes lie in a body beside them.
-#[derive(Drop)]
+#[derive(Clone, Copy)]
 pub struct PushNumbers {
     pub stage: PushStage,
     pub fifo: u8,

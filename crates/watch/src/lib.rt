@@ -11,7 +11,7 @@ ghost use Rattle.watch.specs.Watch.{blank, all_carried, place_in, turned_down, v
 use spi::Refusal;
 
 // A register's address, the word that is wanted there, and a 1 for each bit that is cared for.
-#[derive(Drop)]
+#[derive(Clone, Copy)]
 pub struct Watch {
     pub address: u32,
     pub wanted: u32,
@@ -19,20 +19,20 @@ pub struct Watch {
 }
 
 // How far a scrubber is: the place of the entry that it visits next, where the list has one there.
-#[derive(Drop)]
+#[derive(Clone, Copy)]
 pub struct Scrubber {
     pub place: usize,
 }
 
 // Whether a step visits an entry, or is refused before any exchange.
-#[derive(Drop)]
+#[derive(Clone, Copy)]
 pub enum Due {
     Visit,
     Refused(Refusal),
 }
 
 // What a step begins with: the scrubber's place, the place behind the entry that is due, and the entry.
-#[derive(Drop)]
+#[derive(Clone, Copy)]
 pub struct Begun {
     pub place: usize,
     pub next: usize,
