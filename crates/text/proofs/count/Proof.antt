@@ -6,13 +6,13 @@ use lib.ListN.{length}
 use Rattle.text.proofs.count.Statement.{statement}
 use Rattle.text.proofs.count.Tie as tie
 
-abbrev invariant-loop : tie.invariant-loop
-invariant-loop line at₀ n₀ at n = (n ≤ at) × (at ≤ length line)
+abbrev invariant-loop-at : tie.invariant-loop-at
+invariant-loop-at line at₀ n₀ at n = (n ≤ at) × (at ≤ length line)
 
-abbrev decreases-loop : tie.decreases-loop
-decreases-loop line at₀ n₀ at n = length line - at
+abbrev decreases-loop-at : tie.decreases-loop-at
+decreases-loop-at line at₀ n₀ at n = length line - at
 
 pub count_spec : {M : Type 1} → statement M
 count_spec =
     tie.close
-    (tie.spec invariant-loop decreases-loop (search rules) (λ c κs. search rules) (search rules) (search rules) (search rules) (search rules))
+    (tie.spec invariant-loop-at decreases-loop-at (search rules) (λ c κs. search rules) (search rules) (search rules) (search rules) (search rules))

@@ -11,9 +11,9 @@ unfolding value_of
 digit_spec =
     tie.close
     (tie.spec
-    (λ c. (simp (lt-ltb _ _ c.if1.true), search rules))
-    (λ c. (simp (le-ltb _ _ c.before.if1.false, lt-ltb _ _ c.if2.true), search rules))
-    (λ c. (simp (le-ltb _ _ c.before.before.if1.false, le-ltb _ _ c.before.if2.false, lt-ltb _ _ c.if3.true), search rules))
+    (λ c. (simp (lt-ltb _ _ c.if-n-lt48.true), search rules))
+    (λ c. (simp (le-ltb _ _ c.before.if-n-lt48.false, lt-ltb _ _ c.if-n-lt58.true), search rules))
+    (λ c. (simp (le-ltb _ _ c.before.before.if-n-lt48.false, le-ltb _ _ c.before.if-n-lt58.false, lt-ltb _ _ c.if-n-lt97.true), search rules))
     (search rules)
-    (λ c. (simp (le-ltb _ _ c.before.before.before.if1.false, le-ltb _ _ c.before.before.if2.false, le-ltb _ _ c.before.if3.false, lt-ltb _ _ c.if4.true), search rules))
-    (λ c. (simp (le-ltb _ _ c.before.before.before.if1.false, le-ltb _ _ c.before.before.if2.false, le-ltb _ _ c.before.if3.false, le-ltb _ _ c.if4.false), search rules)))
+    (λ c. (simp (le-ltb _ _ c.before.before.before.if-n-lt48.false, le-ltb _ _ c.before.before.if-n-lt58.false, le-ltb _ _ c.before.if-n-lt97.false, lt-ltb _ _ c.if-n-lt103.true), search rules))
+    (λ c. (simp (le-ltb _ _ c.before.before.before.if-n-lt48.false, le-ltb _ _ c.before.before.if-n-lt58.false, le-ltb _ _ c.before.if-n-lt97.false, le-ltb _ _ c.if-n-lt103.false), search rules)))
