@@ -8,4 +8,4 @@ use Rattle.filters.proofs.control_at.Tie as tie
 
 pub control_at_spec : {M : Type 1} → statement M
 control_at_spec =
-    tie.close (tie.spec (search rules) (search rules) (search rules) (search rules) (λ c. sym (get_or-eq_default c.before.before.args.control.now 0 c.if1.false)))
+    tie.close (tie.spec (search rules) (search rules) (search rules) (search rules) (λ c. sym (get_or-eq_default c.before.before.args.control.now 0 c.if-k-words.false)))
