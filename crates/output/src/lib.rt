@@ -1,26 +1,29 @@
 // What programs write to standard output, and counts that stop at the largest number.
 #![tactic(auto)]
 
-use libc::STDOUT_FILENO;
+use std::rt::Stdout;
 
-pub fn write(s: &[u8]) {
-    io::write_all(STDOUT_FILENO, s);
+// What can not be written is left out.
+pub fn write(stdout: Stdout, s: &[u8]) {
+    let _ = stdout.write_all(s);
 }
 
-pub fn write_line(s: &[u8]) {
-    write(s);
-    write(b"\n");
+pub fn write_line(stdout: Stdout, s: &[u8]) {
+    write(stdout, s);
+    write(stdout, b"\n");
 }
 
-pub fn number(n: u64) {
-    io::print_decimal(STDOUT_FILENO, n);
+pub fn number(stdout: Stdout, n: u64) {
+    let mut digits = [0u8; 20];
+    let k = io::decimal(n, &mut digits);
+    write(stdout, &digits[..k]);
 }
 
 // A line that is not understood, by its number.
-pub fn error(at: u64) {
-    write(b"error ");
-    number(at);
-    write(b"\n");
+pub fn error(stdout: Stdout, at: u64) {
+    write(stdout, b"error ");
+    number(stdout, at);
+    write(stdout, b"\n");
 }
 
 pub fn one_more(n: u64) -> u64 {

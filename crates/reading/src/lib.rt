@@ -1,7 +1,8 @@
 // Lines of standard input, of any number and any length.
 #![tactic(auto)]
 
-use libc::{STDERR_FILENO, STDIN_FILENO};
+use std::io::Read;
+use std::rt::{Stderr, Stdin};
 
 // What stands in the line's buffer: a line, the front of a line that is longer than the buffer, or nothing: the input has ended.
 #[derive(Clone, Copy)]
@@ -100,22 +101,30 @@ struct Place {
 }
 
 // A read that fails ends the input, and is told.
-fn told(got: isize) {
-    if got < 0 {
-        io::write_all(STDERR_FILENO, b"standard input can not be read\n");
+fn told(stderr: Stderr) {
+    let _ = stderr.write_all(b"standard input can not be read\n");
+}
+
+// How many bytes of a piece were read.
+fn count(stdin: Stdin, stderr: Stderr, piece: &mut [u8]) -> usize {
+    let mut input = stdin;
+    match input.read(piece) {
+        Ok(n) => n,
+        Err(_) => {
+            told(stderr);
+            0
+        }
     }
 }
 
 // Where the next byte stands; the next piece is read where none is left, and at the input's end there is none.
-fn fetched(at: usize, have: usize, piece: &mut [u8]) -> Place {
+fn fetched(stdin: Stdin, stderr: Stderr, at: usize, have: usize, piece: &mut [u8]) -> Place {
     if at < have {
         return Place { at: at, have: have };
     }
-    let got = libc::read(STDIN_FILENO, piece);
-    told(got);
     Place {
         at: 0,
-        have: io::count(got, piece),
+        have: count(stdin, stderr, piece),
     }
 }
 
@@ -157,14 +166,20 @@ fn last(line: &[u8], len: usize) -> Reader {
 
 // The next line, without the spaces at its ends and with single spaces between its words, and without a carriage return before its
 // newline. No input has so many bytes that the turns run out.
-pub fn next_line(r: Reader, piece: &mut [u8], line: &mut [u8]) -> Reader {
+pub fn next_line(
+    stdin: Stdin,
+    stderr: Stderr,
+    r: Reader,
+    piece: &mut [u8],
+    line: &mut [u8],
+) -> Reader {
     let mut at = r.at;
     let mut have = r.have;
     let mut len = 0;
     let mut turns = u64::MAX;
     while 0 < turns {
         turns -= 1;
-        let p = fetched(at, have, piece);
+        let p = fetched(stdin, stderr, at, have, piece);
         at = p.at;
         have = p.have;
         if have <= at {
