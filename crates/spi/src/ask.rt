@@ -71,6 +71,7 @@ fn idle() -> Exchange
     }
 }
 
+#[tactic(auto, unfolding(crate::specs::Ask::exchange_of, parts::specs::Parts::zeroed, crate::specs::Instruction::command_of, words::specs::Words::be_bytes, words::specs::Words::le_bytes))]
 pub fn exchange_of(ask: Ask) -> Exchange
     ensures { result ≡ exchange_of ask }
 {

@@ -12,4 +12,4 @@ unfolding zeroed command_of be_bytes
 checked_head_spec =
     tie.close
     (tie.spec (λ c κs. search rules) (search rules) (search rules) (search rules)
-    (λ c. simp c.checked_read.ensures))
+    (λ c. simp c.checked_read-c.ensures))

@@ -12,4 +12,4 @@ unfolding zeroed command_of be_bytes
 command_head_spec =
     tie.close
     (tie.spec (λ c κs. search rules) (search rules) (search rules)
-    (λ c. simp c.command.ensures))
+    (λ c. simp c.command-c.ensures))

@@ -8,4 +8,4 @@ use Rattle.spi.proofs.instruction.checked_read.Tie as tie
 
 pub checked_read_spec : {M : Type 1} → statement M
 unfolding command_of be_bytes
-checked_read_spec = tie.close (tie.spec (search rules) (search rules) (search rules) (λ c. rw c.command.ensures))
+checked_read_spec = tie.close (tie.spec (search rules) (search rules) (search rules) (λ c. rw c.command-c.ensures))

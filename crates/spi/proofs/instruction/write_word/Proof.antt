@@ -11,4 +11,4 @@ unfolding command_of be_bytes le_bytes
 write_word_spec =
     tie.close
     (tie.spec (search rules) (search rules) (search rules) (search rules) (search rules) (search rules) (search rules) (search rules)
-    (λ c. rw (c.before.command.ensures, c.le_bytes.ensures)))
+    (λ c. rw (c.before.command-c.ensures, c.le_bytes-w.ensures)))

@@ -12,6 +12,6 @@ unfolding access_of
 access_spec =
     tie.close
     (tie.spec (search rules)
-    (λ c. simp (sym c.before.before.in_range.ensures ∙ c.before.if1.true, eq-eqb _ _ c.if2.true))
-    (λ c. simp (sym c.before.before.in_range.ensures ∙ c.before.if1.true, ne_eqb _ _ c.if2.false))
-    (λ c. simp (sym c.before.in_range.ensures ∙ c.if1.false)))
+    (λ c. simp (sym c.before.before.in_range.ensures ∙ c.before.if-in_range.true, eq-eqb _ _ c.if-n-eq0.true))
+    (λ c. simp (sym c.before.before.in_range.ensures ∙ c.before.if-in_range.true, ne_eqb _ _ c.if-n-eq0.false))
+    (λ c. simp (sym c.before.in_range.ensures ∙ c.if-in_range.false)))

@@ -12,8 +12,8 @@ pub in_range_spec : {M : Type 1} → statement M
 unfolding in_range
 in_range_spec =
     tie.close
-    (tie.spec (λ c. simp (lt-leb _ _ c.if1.true))
-    (λ c. let a = c.before.before.args in simp (le-leb _ _ c.before.if1.false, lt-leb (a.address + a.n) 0xC00 (omega arith)))
-    (λ c. let a = c.before.before.before.args in simp (le-leb _ _ c.before.before.if1.false, lt-leb (a.address + a.n) 0xC00 (omega arith)))
+    (tie.spec (λ c. simp (lt-leb _ _ c.if-a-lt-RAM_START.true))
+    (λ c. let a = c.before.before.args in simp (le-leb _ _ c.before.if-a-lt-RAM_START.false, lt-leb (a.address + a.n) 0xC00 (omega arith)))
+    (λ c. let a = c.before.before.before.args in simp (le-leb _ _ c.before.before.if-a-lt-RAM_START.false, lt-leb (a.address + a.n) 0xC00 (omega arith)))
     (search rules)
-    (λ c. simp (le-leb _ _ c.before.before.if1.false)))
+    (λ c. simp (le-leb _ _ c.before.before.if-a-lt-RAM_START.false)))

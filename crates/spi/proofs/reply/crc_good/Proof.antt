@@ -12,4 +12,4 @@ crc_good_spec =
     tie.close
     (tie.spec (λ c κs. search rules) (search rules) (λ c κs. search rules) (search rules) (search rules) (search rules) (λ c κs. search rules)
     (λ c κs. search rules)
-    (λ c. simp (of_parts, c.be_at.ensures, c.before.update2.ensures, c.before.before.before.update.ensures, c.before.before.before.before.before.checked_read.ensures)))
+    (λ c. simp (of_parts, c.be_at.ensures, c.before.update-2.ensures, c.before.before.before.update.ensures, c.before.before.before.before.before.checked_read-c.ensures)))
