@@ -10,4 +10,4 @@ unfolding word0
 first_word_spec =
     tie.close
     (tie.spec (search rules) (search rules) (search rules) (search rules)
-    (λ c. rw (c.set2.ensures, c.before.eid_of.ensures.0, c.before.before.set.ensures, c.before.before.before.sid_of.ensures.0)))
+    (λ c. rw (c.set.ensures, c.before.eid_of.ensures.0, c.before.before.set-sid.ensures, c.before.before.before.sid_of.ensures.0)))

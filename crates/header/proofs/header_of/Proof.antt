@@ -10,4 +10,4 @@ unfolding header_of
 header_of_spec =
     tie.close
     (tie.spec (search rules) (search rules) (search rules) (search rules) (search rules) (search rules)
-    (λ c. simp (c.bit5.ensures, c.before.bit4.ensures, c.before.before.bit3.ensures, c.before.before.before.bit2.ensures, c.before.before.before.before.identifier.ensures, c.before.before.before.before.before.bit.ensures)))
+    (λ c. simp (c.bit-4.ensures, c.before.bit-3.ensures, c.before.before.bit-2.ensures, c.before.before.before.bit.ensures, c.before.before.before.before.identifier.ensures, c.before.before.before.before.before.bit-extended.ensures)))

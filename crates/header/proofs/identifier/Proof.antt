@@ -8,5 +8,5 @@ pub identifier_spec : {M : Type 1} → statement M
 identifier_spec =
     tie.close
     (tie.spec (search rules) (search rules) (search rules) (search rules)
-    (λ c. rw (c.before.if1.true, c.get2.ensures, c.before.before.get.ensures))
-    (λ c. rw (c.if1.false, c.before.get.ensures)))
+    (λ c. rw (c.before.if-extended.true, c.get.ensures, c.before.before.get-sid.ensures))
+    (λ c. rw (c.if-extended.false, c.before.get-sid.ensures)))

@@ -8,4 +8,4 @@ pub kind_word_spec : {M : Type 1} → statement M
 kind_word_spec =
     tie.close
     (tie.spec (search rules) (search rules) (search rules) (search rules) (search rules) (search rules)
-    (λ c. rw (c.set_bit5.ensures, c.before.set_bit4.ensures, c.before.before.set_bit3.ensures, c.before.before.before.set_bit2.ensures, c.before.before.before.before.set_bit.ensures, c.before.before.before.before.before.set.ensures)))
+    (λ c. rw (c.set_bit.ensures, c.before.set_bit-e.ensures, c.before.before.set_bit-d.ensures, c.before.before.before.set_bit-c.ensures, c.before.before.before.before.set_bit-b.ensures, c.before.before.before.before.before.set-a.ensures)))

@@ -8,5 +8,5 @@ use Rattle.header.proofs.sid_of.Tie as tie
 pub sid_of_spec : {M : Type 1} → statement M
 sid_of_spec =
     tie.close
-    (tie.spec (λ c. let h = rw c.if1.true at c.before.requires in rw c.if1.true (refl, omega arith))
-    (λ c. let h = rw c.if1.false at c.before.requires in rw c.if1.false (refl, omega arith)))
+    (tie.spec (λ c. let h = rw c.if-extended.true at c.before.requires in rw c.if-extended.true (refl, omega arith))
+    (λ c. let h = rw c.if-extended.false at c.before.requires in rw c.if-extended.false (refl, omega arith)))

@@ -9,6 +9,6 @@ pub dlc_for_len_spec : {M : Type 1} → statement M
 dlc_for_len_spec =
     tie.close
     (tie.spec (λ c κs. search rules)
-    (λ c. rw c.before.if1.true c.fd_dlc.ensures)
-    (λ c. early _ _ c.if2.true)
-    (λ c. rw c.before.if1.false (classic _ c.if2.false)))
+    (λ c. rw c.before.if-fdf.true c.fd_dlc.ensures)
+    (λ c. early _ _ c.if-len-le8.true)
+    (λ c. rw c.before.if-fdf.false (classic _ c.if-len-le8.false)))

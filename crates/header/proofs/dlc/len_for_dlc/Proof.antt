@@ -11,5 +11,5 @@ unfolding length_of
 len_for_dlc_spec =
     tie.close
     (tie.spec (search rules) (search rules) (search rules)
-    (λ c. simp (lt-ltb _ _ (rw c.before.count.ensures.0 at c.if1.true)))
-    (λ c. simp (le-ltb _ _ (rw c.before.count.ensures.0 at c.if1.false))))
+    (λ c. simp (lt-ltb _ _ (rw c.before.count.ensures.0 at c.if-dlc-count.true)))
+    (λ c. simp (le-ltb _ _ (rw c.before.count.ensures.0 at c.if-dlc-count.false))))
