@@ -9,6 +9,7 @@ use output::{write, write_line};
 use spi::Refusal;
 use spoken::Spoken;
 use state::Model;
+use std::rt::Stdout;
 
 fn sent_answer(sending: Sending, f: Frame, out: &mut [u8]) -> usize {
     match sending {
@@ -46,19 +47,19 @@ fn sorted_answer(delivery: Delivery, fifo: u32, filter: u32, out: &mut [u8]) -> 
     }
 }
 
-fn answered(words: &[u8], answer: &[u8]) {
-    write(b"bus ");
-    write(words);
-    write(b" = ");
-    write_line(answer);
+fn answered(stdout: Stdout, words: &[u8], answer: &[u8]) {
+    write(stdout, b"bus ");
+    write(stdout, words);
+    write(stdout, b" = ");
+    write_line(stdout, answer);
 }
 
-fn sent(s: Sent, words: &[u8]) -> Model {
+fn sent(stdout: Stdout, s: Sent, words: &[u8]) -> Model {
     let sending = s.sending;
     let f = s.frame;
     let mut out = [0u8; 256];
     let n = sent_answer(sending, f, &mut out);
-    answered(words, text::front(&out, n));
+    answered(stdout, words, text::front(&out, n));
     s.model
 }
 
@@ -78,7 +79,14 @@ fn dlc_of(coded: bool, numbers: &[u64], k: usize, n: usize, fdf: bool) -> u32 {
     dlc_for(n, fdf)
 }
 
-fn delivered(m: Model, words: &[u8], coded: bool, numbers: &[u64], lent: &[u8]) -> Model {
+fn delivered(
+    stdout: Stdout,
+    m: Model,
+    words: &[u8],
+    coded: bool,
+    numbers: &[u64],
+    lent: &[u8],
+) -> Model {
     let header = starts::header_of(starts::number(numbers, 1), starts::number(numbers, 2));
     let payload = text::front(lent, starts::number(numbers, 4) as usize);
     let dlc = dlc_of(coded, numbers, 5, payload.len(), header.fdf);
@@ -93,11 +101,18 @@ fn delivered(m: Model, words: &[u8], coded: bool, numbers: &[u64], lent: &[u8]) 
     let delivery = d.delivery;
     let mut out = [0u8; 64];
     let n = delivered_answer(delivery, &mut out);
-    answered(words, text::front(&out, n));
+    answered(stdout, words, text::front(&out, n));
     d.model
 }
 
-fn sorted(m: Model, words: &[u8], coded: bool, numbers: &[u64], lent: &[u8]) -> Model {
+fn sorted(
+    stdout: Stdout,
+    m: Model,
+    words: &[u8],
+    coded: bool,
+    numbers: &[u64],
+    lent: &[u8],
+) -> Model {
     let header = starts::header_of(starts::number(numbers, 0), starts::number(numbers, 1));
     let payload = text::front(lent, starts::number(numbers, 3) as usize);
     let dlc = dlc_of(coded, numbers, 4, payload.len(), header.fdf);
@@ -105,34 +120,41 @@ fn sorted(m: Model, words: &[u8], coded: bool, numbers: &[u64], lent: &[u8]) -> 
     let delivery = s.delivery;
     let mut out = [0u8; 64];
     let n = sorted_answer(delivery, s.fifo, s.filter, &mut out);
-    answered(words, text::front(&out, n));
+    answered(stdout, words, text::front(&out, n));
     s.model
 }
 
 // A bus step, by its words, its row in a script and what they say.
-pub fn bus_step(m: Model, s: Spoken, words: &[u8], numbers: &[u64], lent: &[u8]) -> Model {
+pub fn bus_step(
+    stdout: Stdout,
+    m: Model,
+    s: Spoken,
+    words: &[u8],
+    numbers: &[u64],
+    lent: &[u8],
+) -> Model {
     let row = s.row;
     match row {
-        script::SEND => sent(bus::send(m, starts::word(numbers, 0)), words),
-        script::SEND_QUEUE => sent(bus::send_queue(m), words),
-        script::DELIVER => delivered(m, words, false, numbers, lent),
-        script::DELIVER_CODED => delivered(m, words, true, numbers, lent),
-        _ => sorted(m, words, row == script::SORT_CODED, numbers, lent),
+        script::SEND => sent(stdout, bus::send(m, starts::word(numbers, 0)), words),
+        script::SEND_QUEUE => sent(stdout, bus::send_queue(m), words),
+        script::DELIVER => delivered(stdout, m, words, false, numbers, lent),
+        script::DELIVER_CODED => delivered(stdout, m, words, true, numbers, lent),
+        _ => sorted(stdout, m, words, row == script::SORT_CODED, numbers, lent),
     }
 }
 
 // What came back from an exchange that was carried out, and 27 where it asked to leave Configuration and was not granted.
-pub fn write_received(heard: Heard, rx: &[u8], out: &mut [u8]) {
+pub fn write_received(stdout: Stdout, heard: Heard, rx: &[u8], out: &mut [u8]) {
     let a = lines::put(out, 0, b"< ");
     let b = lines::bytes(out, a, rx);
-    write_line(text::front(out, b));
+    write_line(stdout, text::front(out, b));
     if let Heard::NoLayout = heard {
-        write_line(b"* 27");
+        write_line(stdout, b"* 27");
     }
 }
 
-pub fn write_failed() {
-    write_line(b"!");
+pub fn write_failed(stdout: Stdout) {
+    write_line(stdout, b"!");
 }
 
 // How many bytes came back of those that were wanted.
@@ -143,25 +165,30 @@ pub fn received(heard: Heard, want: usize) -> usize {
     }
 }
 
-pub fn write_exchange(sent: &[u8], want: usize, out: &mut [u8]) {
+pub fn write_exchange(stdout: Stdout, sent: &[u8], want: usize, out: &mut [u8]) {
     let n = lines::exchange(out, 0, sent, want);
-    write_line(text::front(out, n));
+    write_line(stdout, text::front(out, n));
 }
 
-fn write_raw(heard: Heard, rx: &[u8], out: &mut [u8]) {
+fn write_raw(stdout: Stdout, heard: Heard, rx: &[u8], out: &mut [u8]) {
     match heard {
-        Heard::Failed => write_failed(),
-        _ => write_received(heard, rx, out),
+        Heard::Failed => write_failed(stdout),
+        _ => write_received(stdout, heard, rx, out),
     }
 }
 
-fn raw(m: Model, sent: &[u8], want: usize) -> Model {
+fn raw(stdout: Stdout, m: Model, sent: &[u8], want: usize) -> Model {
     let mut out = io::large_buffer();
     let mut rx = [0u8; 2048];
-    write_exchange(sent, want, &mut out);
+    write_exchange(stdout, sent, want, &mut out);
     let x = model::exchange(m, sent, want, &mut rx);
     let heard = x.heard;
-    write_raw(heard, text::front(&rx, received(heard, want)), &mut out);
+    write_raw(
+        stdout,
+        heard,
+        text::front(&rx, received(heard, want)),
+        &mut out,
+    );
     x.model
 }
 
@@ -181,18 +208,18 @@ fn is_sending(m: Model, n: u32) -> bool {
     }
 }
 
-fn item(d: Decoded, sending: bool) {
+fn item(stdout: Stdout, d: Decoded, sending: bool) {
     let reading = d.reading;
     let f = d.frame;
     let mut out = [0u8; 256];
     let a = put_item(reading, sending, f, &mut out);
-    write_line(text::front(&out, a));
+    write_line(stdout, text::front(&out, a));
 }
 
-fn items(m: Model, n: u32, count: u8) {
+fn items(stdout: Stdout, m: Model, n: u32, count: u8) {
     let mut k: u8 = 0;
     while k < count {
-        item(bus::held_at(m, n, k), is_sending(m, n));
+        item(stdout, bus::held_at(m, n, k), is_sending(m, n));
         k += 1;
     }
 }
@@ -205,13 +232,13 @@ fn put_held(m: Model, n: u32, out: &mut [u8]) -> usize {
 }
 
 // A FIFO that there is not holds nothing.
-fn held(m: Model, n: u32, words: &[u8]) {
+fn held(stdout: Stdout, m: Model, n: u32, words: &[u8]) {
     let mut out = [0u8; 64];
     let k = put_held(m, n, &mut out);
-    write(words);
-    write(b" ");
-    write_line(text::front(&out, k));
-    items(m, n, bus::held_len(m, n));
+    write(stdout, words);
+    write(stdout, b" ");
+    write_line(stdout, text::front(&out, k));
+    items(stdout, m, n, bus::held_len(m, n));
 }
 
 // One more where slot k of the queue is held.
@@ -233,26 +260,26 @@ fn queue_len(m: Model) -> u64 {
     n
 }
 
-fn queue_item(m: Model, k: u8) {
+fn queue_item(stdout: Stdout, m: Model, k: u8) {
     if bus::queue_holds(m, k) {
-        item(bus::queue_item(m, k), true);
+        item(stdout, bus::queue_item(m, k), true);
     }
 }
 
-fn queue_items(m: Model) {
+fn queue_items(stdout: Stdout, m: Model) {
     let mut k: u8 = 0;
     while k < 32 {
-        queue_item(m, k);
+        queue_item(stdout, m, k);
         k += 1;
     }
 }
 
-fn held_queue(m: Model, words: &[u8]) {
-    write(words);
-    write(b" ");
-    output::number(queue_len(m));
-    write(b"\n");
-    queue_items(m);
+fn held_queue(stdout: Stdout, m: Model, words: &[u8]) {
+    write(stdout, words);
+    write(stdout, b" ");
+    output::number(stdout, queue_len(m));
+    write(stdout, b"\n");
+    queue_items(stdout, m);
 }
 
 pub fn new_chip() -> Model {
@@ -260,7 +287,14 @@ pub fn new_chip() -> Model {
 }
 
 // A line between calls, with the blank line behind it.
-pub fn between(m: Model, s: Spoken, words: &[u8], numbers: &[u64], lent: &[u8]) -> Model {
+pub fn between(
+    stdout: Stdout,
+    m: Model,
+    s: Spoken,
+    words: &[u8],
+    numbers: &[u64],
+    lent: &[u8],
+) -> Model {
     let row = s.row;
     let next = match row {
         script::SEND
@@ -268,25 +302,26 @@ pub fn between(m: Model, s: Spoken, words: &[u8], numbers: &[u64], lent: &[u8]) 
         | script::DELIVER_CODED
         | script::SORT
         | script::SORT_CODED
-        | script::SEND_QUEUE => bus_step(m, s, words, numbers, lent),
+        | script::SEND_QUEUE => bus_step(stdout, m, s, words, numbers, lent),
         script::RAW => raw(
+            stdout,
             m,
             text::front(lent, starts::number(numbers, 0) as usize),
             s.count,
         ),
         script::HELD => {
-            held(m, starts::word(numbers, 0), words);
+            held(stdout, m, starts::word(numbers, 0), words);
             m
         }
         script::HELD_QUEUE => {
-            held_queue(m, words);
+            held_queue(stdout, m, words);
             m
         }
         _ => {
-            write_line(words);
+            write_line(stdout, words);
             new_chip()
         }
     };
-    write(b"\n");
+    write(stdout, b"\n");
     next
 }

@@ -6,6 +6,7 @@ use output::write;
 use script::Entry;
 use spoken::{Fault, Spoken};
 use state::Model;
+use std::rt::{Stderr, Stdin, Stdout};
 
 // The number of the line that was read last, counted from 1; whether a call waits for its @ lines, and how many bytes its own line and
 // they have.
@@ -25,6 +26,7 @@ fn next(p: Place) -> Place {
 
 // The call that waits is run before the line that ends it, or at the input's end.
 fn run_call(
+    stdout: Stdout,
     m: Model,
     p: Place,
     over: bool,
@@ -34,6 +36,7 @@ fn run_call(
 ) -> Model {
     if p.open && over {
         return stage::run(
+            stdout,
             m,
             text::front(head, p.head),
             text::front(notes, p.notes),
@@ -45,6 +48,7 @@ fn run_call(
 
 // With a new chip the scrubber is at the first entry.
 fn step(
+    stdout: Stdout,
     m: Model,
     s: Spoken,
     line: &[u8],
@@ -55,10 +59,11 @@ fn step(
     if s.row == script::NEW {
         scrubber[0] = 0;
     }
-    acts::between(m, s, line, numbers, lent)
+    acts::between(stdout, m, s, line, numbers, lent)
 }
 
 fn act(
+    stdout: Stdout,
     m: Model,
     entry: Entry,
     line: &[u8],
@@ -67,15 +72,15 @@ fn act(
     scrubber: &mut [u64; 1],
 ) -> Model {
     match entry {
-        Entry::Step(s) => step(m, s, line, numbers, lent, scrubber),
+        Entry::Step(s) => step(stdout, m, s, line, numbers, lent, scrubber),
         _ => m,
     }
 }
 
-fn refused(p: Place, fault: Fault, line: &[u8]) -> Place {
-    output::error(p.number);
-    write(b"\n");
-    faults::told(p.number, fault, line);
+fn refused(stdout: Stdout, stderr: Stderr, p: Place, fault: Fault, line: &[u8]) -> Place {
+    output::error(stdout, p.number);
+    write(stdout, b"\n");
+    faults::told(stderr, p.number, fault, line);
     p
 }
 
@@ -102,9 +107,9 @@ fn fits(notes: &[u8], len: usize, line: &[u8]) -> bool {
     false
 }
 
-fn noted(p: Place, line: &[u8], notes: &mut [u8]) -> Place {
+fn noted(stdout: Stdout, stderr: Stderr, p: Place, line: &[u8], notes: &mut [u8]) -> Place {
     if !p.open {
-        return refused(p, Fault::Alone, line);
+        return refused(stdout, stderr, p, Fault::Alone, line);
     }
     if fits(notes, p.notes, line) {
         let mut q = p;
@@ -112,22 +117,33 @@ fn noted(p: Place, line: &[u8], notes: &mut [u8]) -> Place {
         q.notes = lines::byte(notes, a, b'\n');
         return q;
     }
-    refused(p, Fault::Room, line)
+    refused(stdout, stderr, p, Fault::Room, line)
 }
 
-fn after(p: Place, entry: Entry, line: &[u8], head: &mut [u8], notes: &mut [u8]) -> Place {
+fn after(
+    stdout: Stdout,
+    stderr: Stderr,
+    p: Place,
+    entry: Entry,
+    line: &[u8],
+    head: &mut [u8],
+    notes: &mut [u8],
+) -> Place {
     match entry {
         Entry::Blank => p,
         Entry::Call => opened(p, line, head),
-        Entry::Note => noted(p, line, notes),
-        Entry::BadNote(f) => refused(p, f, line),
+        Entry::Note => noted(stdout, stderr, p, line, notes),
+        Entry::BadNote(f) => refused(stdout, stderr, p, f, line),
         Entry::Step(_) => closed(p),
-        Entry::Bad(f) => refused(closed(p), f, line),
+        Entry::Bad(f) => refused(stdout, stderr, closed(p), f, line),
     }
 }
 
 // A line at a time; `scrubber` is the place of the one scrubber. No script has so many lines that the turns run out.
 fn run(
+    stdin: Stdin,
+    stdout: Stdout,
+    stderr: Stderr,
     piece: &mut [u8; 65536],
     buf: &mut [u8; 65536],
     head: &mut [u8; 65536],
@@ -146,18 +162,26 @@ fn run(
     };
     let mut turns = u64::MAX;
     loop {
-        r = reading::next_line(r, piece, buf);
+        r = reading::next_line(stdin, stderr, r, piece, buf);
         let kind = r.kind;
         let line = text::front(buf, r.len);
         let entry = script::entry_of(line, reading::is_long(kind), numbers, lent);
         let end = reading::is_end(kind);
         p = next(p);
-        m = run_call(m, p, end || script::ends(entry), head, notes, scrubber);
+        m = run_call(
+            stdout,
+            m,
+            p,
+            end || script::ends(entry),
+            head,
+            notes,
+            scrubber,
+        );
         if end {
             return;
         }
-        m = act(m, entry, line, numbers, lent, scrubber);
-        p = after(p, entry, line, head, notes);
+        m = act(stdout, m, entry, line, numbers, lent, scrubber);
+        p = after(stdout, stderr, p, entry, line, head, notes);
         if turns < 1 {
             return;
         }
@@ -165,7 +189,7 @@ fn run(
     }
 }
 
-fn main() {
+fn main(rt: HostRuntime) {
     let mut piece = io::large_buffer();
     let mut buf = io::large_buffer();
     let mut head = io::large_buffer();
@@ -174,6 +198,9 @@ fn main() {
     let mut numbers = [0u64; 24];
     let mut scrubber = [0u64; 1];
     run(
+        rt.stdin(),
+        rt.stdout(),
+        rt.stderr(),
         &mut piece,
         &mut buf,
         &mut head,

@@ -4,6 +4,7 @@
 use classes::Seen;
 use items::Item;
 use spoken::{Fault, Line};
+use std::rt::{Stderr, Stdout};
 use text::Number;
 
 mod state;
@@ -55,7 +56,15 @@ fn judged(s: State, item: Item, line: &[u8], out: &[u8], note: &mut [u8]) -> Sta
 }
 
 // A line that is a case by itself.
-fn single(s: State, item: Item, line: &[u8], note: &mut [u8], counts: &mut [u64]) {
+fn single(
+    stdout: Stdout,
+    stderr: Stderr,
+    s: State,
+    item: Item,
+    line: &[u8],
+    note: &mut [u8],
+    counts: &mut [u64],
+) {
     if !singles::is_single(item) {
         return;
     }
@@ -63,9 +72,9 @@ fn single(s: State, item: Item, line: &[u8], note: &mut [u8], counts: &mut [u64]
     match singles::single(item, line, &mut out) {
         Number::Is(n) => {
             let t = held(s, line, text::front(&out, n as usize), note);
-            state::count_single(t, singles::class(item, line), note, counts);
+            state::count_single(stdout, t, singles::class(item, line), note, counts);
         }
-        Number::Bad => state::count_bad(s, line, counts),
+        Number::Bad => state::count_bad(stdout, stderr, s, line, counts),
     }
 }
 
@@ -107,6 +116,8 @@ fn classed(s: State, seen: Seen, item: Item, line: &[u8]) -> State {
 
 // A line is read: the case that it ends, or that it is, is counted.
 pub fn settled(
+    stdout: Stdout,
+    stderr: Stderr,
     before: State,
     item: Item,
     line: &[u8],
@@ -115,12 +126,25 @@ pub fn settled(
     counts: &mut [u64],
 ) -> State {
     let s = judged(state::next(before), item, line, out, note);
-    let t = state::closed(s, item, note, counts);
-    single(t, item, line, note, counts);
+    let t = state::closed(stdout, s, item, note, counts);
+    single(stdout, stderr, t, item, line, note, counts);
     t
 }
 
 // After a line, `heard` being what a call's line says.
-pub fn after(s: State, item: Item, heard: Line, seen: Seen, line: &[u8]) -> State {
-    classed(state::after(s, item, heard, line), seen, item, line)
+pub fn after(
+    stdout: Stdout,
+    stderr: Stderr,
+    s: State,
+    item: Item,
+    heard: Line,
+    seen: Seen,
+    line: &[u8],
+) -> State {
+    classed(
+        state::after(stdout, stderr, s, item, heard, line),
+        seen,
+        item,
+        line,
+    )
 }

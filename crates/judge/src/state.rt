@@ -2,6 +2,7 @@
 use items::Item;
 use output::{error, number, one_more, write};
 use spoken::{Fault, Line};
+use std::rt::{Stderr, Stdout};
 
 // No case is open.
 const IDLE: u8 = 0;
@@ -63,13 +64,13 @@ fn counted(counts: &mut [u64], k: usize) {
     }
 }
 
-fn report(at: u64, start: u64, note: &[u8]) {
-    write(b"line ");
-    number(at);
-    write(b" differs, in the case of line ");
-    number(start);
-    write(b"\n");
-    write(note);
+fn report(stdout: Stdout, at: u64, start: u64, note: &[u8]) {
+    write(stdout, b"line ");
+    number(stdout, at);
+    write(stdout, b" differs, in the case of line ");
+    number(stdout, start);
+    write(stdout, b"\n");
+    write(stdout, note);
 }
 
 // Whether a line ends the case before it.
@@ -134,7 +135,7 @@ pub fn classed(s: State, class: u8) -> State {
 }
 
 // A case ends: it is counted, and told where it differs. One without a result differs whatever its class.
-pub fn closed(s: State, item: Item, note: &[u8], counts: &mut [u64]) -> State {
+pub fn closed(stdout: Stdout, s: State, item: Item, note: &[u8], counts: &mut [u64]) -> State {
     let mut t = s;
     if !is_end(item) {
         return t;
@@ -153,7 +154,7 @@ pub fn closed(s: State, item: Item, note: &[u8], counts: &mut [u64]) -> State {
         return t;
     }
     if s.differs {
-        report(s.at, s.start, text::front(note, s.note));
+        report(stdout, s.at, s.start, text::front(note, s.note));
         counted(counts, DIFFER);
         return t;
     }
@@ -161,9 +162,9 @@ pub fn closed(s: State, item: Item, note: &[u8], counts: &mut [u64]) -> State {
     t
 }
 
-fn lost(s: State, fault: Fault, line: &[u8]) -> State {
-    error(s.number);
-    faults::told(s.number, fault, line);
+fn lost(stdout: Stdout, stderr: Stderr, s: State, fault: Fault, line: &[u8]) -> State {
+    error(stdout, s.number);
+    faults::told(stderr, s.number, fault, line);
     let mut t = s;
     if s.phase != IDLE {
         t.phase = LOST;
@@ -171,7 +172,7 @@ fn lost(s: State, fault: Fault, line: &[u8]) -> State {
     t
 }
 
-fn begun(s: State, heard: Line, line: &[u8]) -> State {
+fn begun(stdout: Stdout, stderr: Stderr, s: State, heard: Line, line: &[u8]) -> State {
     let mut t = s;
     t.start = s.number;
     t.phase = TURN;
@@ -182,7 +183,7 @@ fn begun(s: State, heard: Line, line: &[u8]) -> State {
             t.lent = spoken.count;
             t
         }
-        Line::Bad(f) => lost(t, f, line),
+        Line::Bad(f) => lost(stdout, stderr, t, f, line),
     }
 }
 
@@ -202,12 +203,19 @@ fn phase_after(item: Item) -> u8 {
 }
 
 // After a line, `heard` being what a call's line says.
-pub fn after(s: State, item: Item, heard: Line, line: &[u8]) -> State {
+pub fn after(
+    stdout: Stdout,
+    stderr: Stderr,
+    s: State,
+    item: Item,
+    heard: Line,
+    line: &[u8],
+) -> State {
     if let Item::Call = item {
-        return begun(s, heard, line);
+        return begun(stdout, stderr, s, heard, line);
     }
     if let Item::Bad(f) = item {
-        return lost(s, f, line);
+        return lost(stdout, stderr, s, f, line);
     }
     if is_end(item) || s.phase == LOST {
         return s;
@@ -220,7 +228,7 @@ pub fn after(s: State, item: Item, heard: Line, line: &[u8]) -> State {
         }
         return t;
     }
-    lost(s, Fault::Place, line)
+    lost(stdout, stderr, s, Fault::Place, line)
 }
 
 pub fn is_lost(s: State) -> bool {
@@ -228,13 +236,13 @@ pub fn is_lost(s: State) -> bool {
 }
 
 // A line that is a case by itself, with its class and what is held of it where it differs.
-pub fn count_single(s: State, class: u8, note: &[u8], counts: &mut [u64]) {
+pub fn count_single(stdout: Stdout, s: State, class: u8, note: &[u8], counts: &mut [u64]) {
     if 0 < class {
         counted(counts, class as usize);
         return;
     }
     if s.differs {
-        report(s.number, s.number, text::front(note, s.note));
+        report(stdout, s.number, s.number, text::front(note, s.note));
         counted(counts, DIFFER);
         return;
     }
@@ -242,9 +250,9 @@ pub fn count_single(s: State, class: u8, note: &[u8], counts: &mut [u64]) {
 }
 
 // Such a line that is not understood.
-pub fn count_bad(s: State, line: &[u8], counts: &mut [u64]) {
-    error(s.number);
-    faults::told(s.number, Fault::Count, line);
+pub fn count_bad(stdout: Stdout, stderr: Stderr, s: State, line: &[u8], counts: &mut [u64]) {
+    error(stdout, s.number);
+    faults::told(stderr, s.number, Fault::Count, line);
     counted(counts, DIFFER);
 }
 
@@ -261,38 +269,38 @@ fn sum(a: u64, b: u64) -> u64 {
     a
 }
 
-fn told_class(k: usize, n: u64) {
+fn told_class(stdout: Stdout, k: usize, n: u64) {
     if 0 < n {
-        write(b"outside ");
-        write(text::word(b"- 24 25 35 D1 D2 D3 absent", k));
-        write(b": ");
-        number(n);
-        write(b"\n");
+        write(stdout, b"outside ");
+        write(stdout, text::word(b"- 24 25 35 D1 D2 D3 absent", k));
+        write(stdout, b": ");
+        number(stdout, n);
+        write(stdout, b"\n");
     }
 }
 
 // The classes outside that there are, each with its count; how many cases they are.
-fn told_outside(counts: &[u64]) -> u64 {
+fn told_outside(stdout: Stdout, counts: &[u64]) -> u64 {
     let mut all: u64 = 0;
     let mut k: usize = 1;
     while k < DIFFER {
-        told_class(k, at(counts, k));
+        told_class(stdout, k, at(counts, k));
         all = sum(all, at(counts, k));
         k += 1;
     }
     all
 }
 
-pub fn told(counts: &[u64]) {
-    let outside = told_outside(counts);
+pub fn told(stdout: Stdout, counts: &[u64]) {
+    let outside = told_outside(stdout, counts);
     let agree = at(counts, AGREE);
     let differ = at(counts, DIFFER);
-    number(sum(sum(agree, differ), outside));
-    write(b" cases, ");
-    number(agree);
-    write(b" agree, ");
-    number(differ);
-    write(b" differ, ");
-    number(outside);
-    write(b" outside\n");
+    number(stdout, sum(sum(agree, differ), outside));
+    write(stdout, b" cases, ");
+    number(stdout, agree);
+    write(stdout, b" agree, ");
+    number(stdout, differ);
+    write(stdout, b" differ, ");
+    number(stdout, outside);
+    write(stdout, b" outside\n");
 }

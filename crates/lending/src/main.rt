@@ -6,11 +6,12 @@ use driver::{Answer, Call, Outcome, Refusal};
 use fifo::FifoControl;
 use spi::Done;
 use spoken::Line;
+use std::rt::Stdout;
 
-fn tell_refusal(r: Refusal) {
-    output::write(b"refused ");
-    output::number(driver::number(r) as u64);
-    output::write(b"\n");
+fn tell_refusal(stdout: Stdout, r: Refusal) {
+    output::write(stdout, b"refused ");
+    output::number(stdout, driver::number(r) as u64);
+    output::write(stdout, b"\n");
 }
 
 // How a call that was started ended, with no buffer lent: it is refused, or has still to ask.
@@ -20,47 +21,79 @@ fn begun(call: Call) -> Outcome {
     driver::finish(call, text::front(&none, 0), &mut buf)
 }
 
-fn tell(what: &[u8], o: Outcome) {
-    output::write(what);
+fn tell(stdout: Stdout, what: &[u8], o: Outcome) {
+    output::write(stdout, what);
     match o {
-        Outcome::Refused(r) => tell_refusal(r),
-        _ => output::write(b"not refused\n"),
+        Outcome::Refused(r) => tell_refusal(stdout, r),
+        _ => output::write(stdout, b"not refused\n"),
     }
 }
 
-fn show(what: &[u8], s: &[u8]) {
+fn show(stdout: Stdout, what: &[u8], s: &[u8]) {
     let mut line = [0u8; 256];
     let n = lines::bytes(&mut line, 0, s);
-    output::write(what);
-    output::write_line(text::front(&line, n));
+    output::write(stdout, what);
+    output::write_line(stdout, text::front(&line, n));
 }
 
 // A RAM read's part of a buffer of 8 bytes.
-fn part(what: &[u8], address: u32, place: usize, count: usize) {
-    tell(what, begun(driver::read_ram(address, 8, place, count)));
-}
-
-fn parts() {
-    part(b"S28 read_ram 400, 4 bytes at 4 of 8: ", 0x400, 4, 4);
-    part(b"S28 read_ram 400, 4 bytes at 5 of 8: ", 0x400, 5, 4);
-    part(b"S28 read_ram 3ff, 4 bytes at 4 of 8: ", 0x3FF, 4, 4);
-    part(b"S28 read_ram 3ff, 4 bytes at 5 of 8: ", 0x3FF, 5, 4);
-}
-
-fn rooms() {
+fn part(stdout: Stdout, what: &[u8], address: u32, place: usize, count: usize) {
     tell(
+        stdout,
+        what,
+        begun(driver::read_ram(address, 8, place, count)),
+    );
+}
+
+fn parts(stdout: Stdout) {
+    part(
+        stdout,
+        b"S28 read_ram 400, 4 bytes at 4 of 8: ",
+        0x400,
+        4,
+        4,
+    );
+    part(
+        stdout,
+        b"S28 read_ram 400, 4 bytes at 5 of 8: ",
+        0x400,
+        5,
+        4,
+    );
+    part(
+        stdout,
+        b"S28 read_ram 3ff, 4 bytes at 4 of 8: ",
+        0x3FF,
+        4,
+        4,
+    );
+    part(
+        stdout,
+        b"S28 read_ram 3ff, 4 bytes at 5 of 8: ",
+        0x3FF,
+        5,
+        4,
+    );
+}
+
+fn rooms(stdout: Stdout) {
+    tell(
+        stdout,
         b"S28 peek 2 with a buffer of 64: ",
         begun(driver::peek(2, 64)),
     );
     tell(
+        stdout,
         b"S28 peek 2 with a buffer of 63: ",
         begun(driver::peek(2, 63)),
     );
     tell(
+        stdout,
         b"S28 get 2 with a buffer of 63: ",
         begun(driver::get(2, 63)),
     );
     tell(
+        stdout,
         b"S32 get 0 with a buffer of 63: ",
         begun(driver::get(0, 63)),
     );
@@ -72,51 +105,61 @@ fn read_of(answer: Answer, rx: &[u8]) -> Call {
 }
 
 // How the read ended, and what it leaves of a buffer of aa.
-fn left(what: &[u8], call: Call, rx: &[u8]) {
+fn left(stdout: Stdout, what: &[u8], call: Call, rx: &[u8]) {
     let mut buf = [0xAAu8; 8];
-    tell(what, driver::finish(call, rx, &mut buf));
-    show(b"  buffer ", &buf);
+    tell(stdout, what, driver::finish(call, rx, &mut buf));
+    show(stdout, b"  buffer ", &buf);
 }
 
-fn reads() {
+fn reads(stdout: Stdout) {
     let rx = [1u8, 2, 3, 4];
     let short = [1u8, 2, 3];
     left(
+        stdout,
         b"S46 a read of 4 bytes at 2 of 8: ",
         read_of(Answer::Exchanged, &rx),
         &rx,
     );
-    left(b"S30 the same, failed: ", read_of(Answer::Failed, &rx), &rx);
     left(
+        stdout,
+        b"S30 the same, failed: ",
+        read_of(Answer::Failed, &rx),
+        &rx,
+    );
+    left(
+        stdout,
         b"S26 the same, answered with 3 bytes: ",
         read_of(Answer::Exchanged, &short),
         &short,
     );
     left(
+        stdout,
         b"S26 the same, answered as a wait: ",
         read_of(Answer::Waited, &rx),
         &rx,
     );
     let over = read_of(Answer::Exchanged, &rx);
     left(
+        stdout,
         b"S26 the same, answered again after its end: ",
         driver::answer(over, Answer::Exchanged, &rx),
         &rx,
     );
 }
 
-fn wait(what: &[u8], answer: Answer, got: usize) {
-    output::write(what);
+fn wait(stdout: Stdout, what: &[u8], answer: Answer, got: usize) {
+    output::write(stdout, what);
     match spi::wait_reply(answer, got) {
-        Done::Bad(r) => tell_refusal(r),
-        Done::Good => output::write(b"not refused\n"),
+        Done::Bad(r) => tell_refusal(stdout, r),
+        Done::Good => output::write(stdout, b"not refused\n"),
     }
 }
 
-fn waits() {
-    wait(b"S26 a wait, waited out: ", Answer::Waited, 0);
-    wait(b"S26 the same, with a byte: ", Answer::Waited, 1);
+fn waits(stdout: Stdout) {
+    wait(stdout, b"S26 a wait, waited out: ", Answer::Waited, 0);
+    wait(stdout, b"S26 the same, with a byte: ", Answer::Waited, 1);
     wait(
+        stdout,
         b"S26 the same, answered as a failed exchange: ",
         Answer::Failed,
         0,
@@ -137,11 +180,15 @@ fn peeked(payload: &[u8]) -> Call {
     driver::answer(call, Answer::Exchanged, payload)
 }
 
-fn taken(what: &[u8], call: Call) {
+fn taken(stdout: Stdout, what: &[u8], call: Call) {
     let mut buf = [0xAAu8; 70];
     let none = [0u8; 1];
-    tell(what, driver::finish(call, text::front(&none, 0), &mut buf));
-    show(b"  buffer ", &buf);
+    tell(
+        stdout,
+        what,
+        driver::finish(call, text::front(&none, 0), &mut buf),
+    );
+    show(stdout, b"  buffer ", &buf);
 }
 
 // A scrub by its line, from the second entry on.
@@ -156,55 +203,70 @@ fn scrub_of(line: &[u8]) -> Call {
 }
 
 // How a step stands, and where its scrubber is.
-fn stands(what: &[u8], call: Call) {
+fn stands(stdout: Stdout, what: &[u8], call: Call) {
     let none = [0u8; 1];
     let mut line = [0u8; 128];
     let n = lines::result(&mut line, 0, begun(call), text::front(&none, 0));
     let s = driver::scrubber(call);
-    output::write(what);
-    output::write(text::front(&line, n));
-    output::write(b", place ");
-    output::number(s.place as u64);
-    output::write(b"\n");
+    output::write(stdout, what);
+    output::write(stdout, text::front(&line, n));
+    output::write(stdout, b", place ");
+    output::number(stdout, s.place as u64);
+    output::write(stdout, b"\n");
 }
 
 // The word read is 460, with the CRC of be 00 04 60 04 00 00.
-fn scrubs() {
+fn scrubs(stdout: Stdout) {
     let none = [0u8; 1];
     let empty = text::front(&none, 0);
     let word = [0x60u8, 4, 0, 0, 0x6C, 0x41];
     let first = scrub_of(b"call scrub rewrite e04:3000003:ffffffff e00:461:1");
-    stands(b"R4.4 a scrub, not answered yet: ", first);
+    stands(stdout, b"R4.4 a scrub, not answered yet: ", first);
     stands(
+        stdout,
         b"S26 the same, its read answered as a wait: ",
         driver::answer(first, Answer::Waited, empty),
     );
     let second = driver::answer(first, Answer::Exchanged, &word);
     stands(
+        stdout,
         b"R4.4 the same, read, and its rewrite not answered yet: ",
         second,
     );
     let over = driver::answer(second, Answer::Waited, empty);
-    stands(b"S26 the same, its rewrite answered as a wait: ", over);
     stands(
+        stdout,
+        b"S26 the same, its rewrite answered as a wait: ",
+        over,
+    );
+    stands(
+        stdout,
         b"S26 the same, answered again after its end: ",
         driver::answer(over, Answer::Exchanged, empty),
     );
-    stands(b"R4.4 a call of another kind: ", driver::reset());
+    stands(stdout, b"R4.4 a call of another kind: ", driver::reset());
 }
 
-fn main() {
-    parts();
-    rooms();
-    reads();
-    waits();
-    taken(b"S34 a peek of 3 bytes into 70: ", peeked(&[1u8, 2, 3, 0]));
+fn main(rt: HostRuntime) {
+    parts(rt.stdout());
+    rooms(rt.stdout());
+    reads(rt.stdout());
+    waits(rt.stdout());
     taken(
+        rt.stdout(),
+        b"S34 a peek of 3 bytes into 70: ",
+        peeked(&[1u8, 2, 3, 0]),
+    );
+    taken(
+        rt.stdout(),
         b"S30 the same, its payload answered with 3 bytes: ",
         peeked(&[1u8, 2, 3]),
     );
-    scrubs();
-    output::write(b"S57 TXAT of the reset word, which has 3 there, reads as ");
-    output::number(FifoControl::reset().txat() as u64);
-    output::write(b"\n");
+    scrubs(rt.stdout());
+    output::write(
+        rt.stdout(),
+        b"S57 TXAT of the reset word, which has 3 there, reads as ",
+    );
+    output::number(rt.stdout(), FifoControl::reset().txat() as u64);
+    output::write(rt.stdout(), b"\n");
 }

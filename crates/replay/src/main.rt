@@ -5,6 +5,7 @@ use items::Item;
 use judge::State;
 use port::Step;
 use spoken::Line;
+use std::rt::{Stderr, Stdin, Stdout};
 
 // Answers go to the call as long as it does what the transcript has.
 fn step_of(s: State, item: Item, heard: Line) -> Step {
@@ -16,6 +17,9 @@ fn step_of(s: State, item: Item, heard: Line) -> Step {
 
 // A line at a time. No transcript has so many lines that the turns run out.
 fn run(
+    stdin: Stdin,
+    stdout: Stdout,
+    stderr: Stderr,
     piece: &mut [u8; 65536],
     buf: &mut [u8; 8192],
     lent: &mut [u8; 4200],
@@ -31,7 +35,7 @@ fn run(
     let mut call = driver::reset();
     let mut turns = u64::MAX;
     loop {
-        r = reading::next_line(r, piece, buf);
+        r = reading::next_line(stdin, stderr, r, piece, buf);
         let kind = r.kind;
         let long = reading::is_long(kind);
         let line = text::front(buf, r.len);
@@ -39,9 +43,18 @@ fn run(
         let due = judge::is_due(s, item);
         let read = classes::read_of(seen);
         let n = port::line(call, due, read, lent, s.lent, rx, s.got, out);
-        s = judge::settled(s, item, line, text::front(out, n), note, counts);
+        s = judge::settled(
+            stdout,
+            stderr,
+            s,
+            item,
+            line,
+            text::front(out, n),
+            note,
+            counts,
+        );
         let heard = judge::hear(item, line, long, numbers, lent);
-        s = judge::after(s, item, heard, seen, line);
+        s = judge::after(stdout, stderr, s, item, heard, seen, line);
         seen = judge::seen_after(seen, item, heard, line, numbers, rx);
         let step = step_of(s, item, heard);
         call = port::moved(call, step, numbers, lent, s.lent, rx, s.got);
@@ -55,11 +68,11 @@ fn run(
     }
 }
 
-fn told(counts: [u64; 9]) {
-    judge::told(&counts);
+fn told(stdout: Stdout, counts: [u64; 9]) {
+    judge::told(stdout, &counts);
 }
 
-fn main() {
+fn main(rt: HostRuntime) {
     let mut piece = io::large_buffer();
     let mut buf = [0u8; 8192];
     let mut lent = [0u8; 4200];
@@ -69,6 +82,9 @@ fn main() {
     let mut numbers = [0u64; 24];
     let mut counts = [0u64; 9];
     run(
+        rt.stdin(),
+        rt.stdout(),
+        rt.stderr(),
         &mut piece,
         &mut buf,
         &mut lent,
@@ -78,5 +94,5 @@ fn main() {
         &mut numbers,
         &mut counts,
     );
-    told(counts);
+    told(rt.stdout(), counts);
 }

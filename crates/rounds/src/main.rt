@@ -5,10 +5,11 @@
 
 use bus::Sending;
 use driver::{Call, Header, Outcome};
-use libc::{STDIN_FILENO, STDOUT_FILENO};
 use looping::Line;
 use message::Frame;
 use state::Model;
+use std::io::Read;
+use std::rt::{Stdin, Stdout};
 use text::Number;
 
 // The chip with its count of exchanges, and how many messages came out as they went in.
@@ -171,21 +172,21 @@ fn incoming(r: Stand, i: u32) -> Stand {
     moved(s, after.model, is_got(outcome, &buf, i))
 }
 
-fn tell(n: u64, what: &[u8]) {
-    io::print_decimal(STDOUT_FILENO, n);
-    io::write_all(STDOUT_FILENO, what);
+fn tell(stdout: Stdout, n: u64, what: &[u8]) {
+    output::number(stdout, n);
+    output::write(stdout, what);
 }
 
-fn play(n: u32) {
+fn play(stdout: Stdout, n: u32) {
     let mut r = prepared();
     let mut i = 0;
     while i < n {
         r = incoming(outgoing(r, i), i);
         i += 1;
     }
-    tell(n as u64, b" rounds, ");
-    tell(r.line.exchanges, b" exchanges, ");
-    tell(r.good, b" messages\n");
+    tell(stdout, n as u64, b" rounds, ");
+    tell(stdout, r.line.exchanges, b" exchanges, ");
+    tell(stdout, r.good, b" messages\n");
 }
 
 fn rounds_of(s: &[u8]) -> u32 {
@@ -195,10 +196,18 @@ fn rounds_of(s: &[u8]) -> u32 {
     }
 }
 
-fn main() {
+// How many bytes were read. A read that fails is no input.
+fn got(stdin: Stdin, buf: &mut [u8]) -> usize {
+    let mut input = stdin;
+    match input.read(buf) {
+        Ok(n) => n,
+        Err(_) => 0,
+    }
+}
+
+fn main(rt: HostRuntime) {
     let mut buf = io::buffer();
-    let got = libc::read(STDIN_FILENO, &mut buf);
-    let n = io::count(got, &buf);
+    let n = got(rt.stdin(), &mut buf);
     let digits = if 0 < n { n - 1 } else { 0 };
-    play(rounds_of(text::front(&buf, digits)));
+    play(rt.stdout(), rounds_of(text::front(&buf, digits)));
 }

@@ -5,6 +5,7 @@ use driver::{Answer, Call, Next};
 use model::{Exchanged, Heard};
 use spoken::{Line, Spoken};
 use state::Model;
+use std::rt::Stdout;
 use text::Number;
 
 // What the @ lines say of one exchange, and the chip after their bus steps.
@@ -34,10 +35,10 @@ fn given(t: Told, note: &[u8], rx: &mut [u8]) -> Told {
     u
 }
 
-fn stepped(t: Told, s: Spoken, note: &[u8], numbers: &[u64], lent: &[u8]) -> Told {
+fn stepped(stdout: Stdout, t: Told, s: Spoken, note: &[u8], numbers: &[u64], lent: &[u8]) -> Told {
     let mut u = t;
     let m = t.model;
-    u.model = acts::bus_step(m, s, text::rest(note, 1), numbers, lent);
+    u.model = acts::bus_step(stdout, m, s, text::rest(note, 1), numbers, lent);
     u
 }
 
@@ -47,34 +48,42 @@ fn failing(t: Told) -> Told {
     u
 }
 
-fn noted(t: Told, s: Spoken, note: &[u8], numbers: &[u64], lent: &[u8], rx: &mut [u8]) -> Told {
+fn noted(
+    stdout: Stdout,
+    t: Told,
+    s: Spoken,
+    note: &[u8],
+    numbers: &[u64],
+    lent: &[u8],
+    rx: &mut [u8],
+) -> Told {
     if s.row == script::FAIL {
         return failing(t);
     }
     if s.row == script::ANSWER {
         return given(t, note, rx);
     }
-    stepped(t, s, note, numbers, lent)
+    stepped(stdout, t, s, note, numbers, lent)
 }
 
-fn told_by(t: Told, note: &[u8], rx: &mut [u8]) -> Told {
+fn told_by(stdout: Stdout, t: Told, note: &[u8], rx: &mut [u8]) -> Told {
     let mut numbers = [0u64; 24];
     let mut lent = [0u8; 32768];
     let Line::Row(s) = script::note_of(note, &mut numbers, &mut lent) else {
         return t;
     };
-    noted(t, s, note, &numbers, &lent, rx)
+    noted(stdout, t, s, note, &numbers, &lent, rx)
 }
 
-fn told_about(t: Told, note: &[u8], k: u64, rx: &mut [u8]) -> Told {
+fn told_about(stdout: Stdout, t: Told, note: &[u8], k: u64, rx: &mut [u8]) -> Told {
     if is_about(note, k) {
-        return told_by(t, note, rx);
+        return told_by(stdout, t, note, rx);
     }
     t
 }
 
 // What the @ lines, each ended by a newline, say of exchange k: bus steps are done in the order written.
-fn heard_of(m: Model, notes: &[u8], k: u64, rx: &mut [u8]) -> Told {
+fn heard_of(stdout: Stdout, m: Model, notes: &[u8], k: u64, rx: &mut [u8]) -> Told {
     let mut t = Told {
         model: m,
         fails: false,
@@ -84,7 +93,7 @@ fn heard_of(m: Model, notes: &[u8], k: u64, rx: &mut [u8]) -> Told {
     let mut at = 0;
     while at < notes.len() {
         let end = text::end_of(notes, b'\n', at);
-        t = told_about(t, &notes[at..end], k, rx);
+        t = told_about(stdout, t, &notes[at..end], k, rx);
         at = text::next_of(notes, b'\n', at);
     }
     t
@@ -128,8 +137,8 @@ fn carried(m: Model, sent: &[u8], want: usize, seen: bool, rx: &mut [u8]) -> Exc
     model::exchange(m, sent, want, &mut unseen)
 }
 
-fn failed(m: Model, made: u64) -> Turn {
-    acts::write_failed();
+fn failed(stdout: Stdout, m: Model, made: u64) -> Turn {
+    acts::write_failed(stdout);
     Turn {
         model: m,
         made: made,
@@ -140,10 +149,10 @@ fn failed(m: Model, made: u64) -> Turn {
     }
 }
 
-fn received(x: Exchanged, made: u64, rx: &[u8], out: &mut [u8]) -> Turn {
+fn received(stdout: Stdout, x: Exchanged, made: u64, rx: &[u8], out: &mut [u8]) -> Turn {
     let m = x.model;
     let heard = x.heard;
-    acts::write_received(heard, rx, out);
+    acts::write_received(stdout, heard, rx, out);
     Turn {
         model: m,
         made: made,
@@ -155,17 +164,31 @@ fn received(x: Exchanged, made: u64, rx: &[u8], out: &mut [u8]) -> Turn {
 }
 
 // After an exchange in which the chip's bytes were seen.
-fn answered(x: Exchanged, made: u64, want: usize, rx: &[u8], out: &mut [u8]) -> Turn {
+fn answered(
+    stdout: Stdout,
+    x: Exchanged,
+    made: u64,
+    want: usize,
+    rx: &[u8],
+    out: &mut [u8],
+) -> Turn {
     let heard = x.heard;
     if is_failed(heard) {
         let m = x.model;
-        return failed(m, made);
+        return failed(stdout, m, made);
     }
-    received(x, made, text::front(rx, acts::received(heard, want)), out)
+    received(
+        stdout,
+        x,
+        made,
+        text::front(rx, acts::received(heard, want)),
+        out,
+    )
 }
 
 // The exchange of these bytes, as told: what was given goes before what came.
 fn exchanged(
+    stdout: Stdout,
     told: Told,
     made: u64,
     sent: &[u8],
@@ -175,17 +198,18 @@ fn exchanged(
 ) -> Turn {
     let m = told.model;
     if told.fails {
-        return failed(m, made);
+        return failed(stdout, m, made);
     }
     let x = carried(m, sent, want, !told.answered, rx);
     if told.answered {
-        return received(x, made, text::front(rx, told.given), out);
+        return received(stdout, x, made, text::front(rx, told.given), out);
     }
-    answered(x, made, want, rx, out)
+    answered(stdout, x, made, want, rx, out)
 }
 
 // The first n bytes of `out` are the exchange's line.
 fn exchange(
+    stdout: Stdout,
     t: Turn,
     want: usize,
     sent: &[u8],
@@ -196,14 +220,14 @@ fn exchange(
 ) -> Turn {
     let m = t.model;
     let made = output::one_more(t.made);
-    let told = heard_of(m, notes, made, rx);
-    output::write_line(text::front(out, n));
-    exchanged(told, made, sent, want, rx, out)
+    let told = heard_of(stdout, m, notes, made, rx);
+    output::write_line(stdout, text::front(out, n));
+    exchanged(stdout, told, made, sent, want, rx, out)
 }
 
-fn waited(t: Turn, over: bool, line: &[u8]) -> Turn {
+fn waited(stdout: Stdout, t: Turn, over: bool, line: &[u8]) -> Turn {
     let m = t.model;
-    output::write_line(line);
+    output::write_line(stdout, line);
     Turn {
         model: m,
         made: t.made,
@@ -216,6 +240,7 @@ fn waited(t: Turn, over: bool, line: &[u8]) -> Turn {
 
 // The first n bytes of `out` are the line of what the call does now, the bytes that it sends are at the front of `tx`.
 fn turned(
+    stdout: Stdout,
     t: Turn,
     q: Next,
     tx: &[u8],
@@ -225,9 +250,18 @@ fn turned(
     out: &mut [u8],
 ) -> Turn {
     match q {
-        Next::Transfer { n: k, want } => exchange(t, want, text::front(tx, k), notes, n, rx, out),
-        Next::Wait => waited(t, false, text::front(out, n)),
-        _ => waited(t, true, text::front(out, n)),
+        Next::Transfer { n: k, want } => exchange(
+            stdout,
+            t,
+            want,
+            text::front(tx, k),
+            notes,
+            n,
+            rx,
+            out,
+        ),
+        Next::Wait => waited(stdout, t, false, text::front(out, n)),
+        _ => waited(stdout, t, true, text::front(out, n)),
     }
 }
 
@@ -238,6 +272,7 @@ fn read_of(row: usize, numbers: &[u64]) -> usize {
 
 // What the call does now.
 fn done(
+    stdout: Stdout,
     t: Turn,
     call: Call,
     read: usize,
@@ -249,7 +284,7 @@ fn done(
     let mut tx = [0u8; 4200];
     let n = port::line(call, true, read, lent, lent.len(), rx, t.got, out);
     let q = driver::next(call, lent, &mut tx);
-    turned(t, q, &tx, notes, n, rx, out)
+    turned(stdout, t, q, &tx, notes, n, rx, out)
 }
 
 // The chip after a call, and the place of the scrubber that the call gives back.
@@ -270,6 +305,7 @@ fn ended(t: Turn, call: Call) -> After {
 
 // A call, to its end. No call asks so often that the turns run out.
 fn through(
+    stdout: Stdout,
     m: Model,
     row: usize,
     numbers: &[u64],
@@ -287,7 +323,7 @@ fn through(
         if t.over {
             return ended(t, call);
         }
-        t = done(t, call, read, lent, notes, rx, out);
+        t = done(stdout, t, call, read, lent, notes, rx, out);
         let answer = t.answer;
         call = driver::answer(call, answer, text::front(rx, t.heard));
     }
@@ -296,6 +332,7 @@ fn through(
 
 // Only a scrub moves the place.
 fn ran(
+    stdout: Stdout,
     m: Model,
     row: usize,
     numbers: &[u64],
@@ -305,8 +342,8 @@ fn ran(
 ) -> Model {
     let mut rx = [0u8; 32768];
     let mut out = io::large_buffer();
-    let e = through(m, row, numbers, lent, notes, &mut rx, &mut out);
-    output::write(b"\n");
+    let e = through(stdout, m, row, numbers, lent, notes, &mut rx, &mut out);
+    output::write(stdout, b"\n");
     if row == starts::SCRUB {
         place[0] = e.place as u64;
     }
@@ -314,15 +351,16 @@ fn ran(
 }
 
 // A call by its line, with its @ lines. A scrub starts at the place, which is afterwards the next one's.
-pub fn run(m: Model, line: &[u8], notes: &[u8], place: &mut [u64; 1]) -> Model {
+pub fn run(stdout: Stdout, m: Model, line: &[u8], notes: &[u8], place: &mut [u64; 1]) -> Model {
     let mut numbers = [0u64; 24];
     let mut lent = [0u8; 32768];
     numbers[starts::PLACE] = place[0];
-    output::write_line(line);
+    output::write_line(stdout, line);
     let Line::Row(s) = spoken::understood(line, &mut numbers, &mut lent) else {
         return m;
     };
     ran(
+        stdout,
         m,
         s.row,
         &numbers,

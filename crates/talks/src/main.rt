@@ -8,12 +8,13 @@ use items::Item;
 use output::write_line;
 use port::Step;
 use spoken::{Fault, Line};
+use std::rt::{Stderr, Stdin, Stdout};
 
 // What the call does now. A wait is not written here: its line comes with the answers.
-fn show(s: &[u8]) {
+fn show(stdout: Stdout, s: &[u8]) {
     if 0 < s.len() {
         if s[0] != b'w' {
-            write_line(s);
+            write_line(stdout, s);
         }
     }
 }
@@ -113,18 +114,21 @@ fn step_of(j: Verdict, item: Item, heard: Line) -> Step {
     }
 }
 
-fn told(p: Place, j: Verdict, line: &[u8]) {
+fn told(stdout: Stdout, stderr: Stderr, p: Place, j: Verdict, line: &[u8]) {
     match j {
-        Verdict::Good => write_line(line),
+        Verdict::Good => write_line(stdout, line),
         Verdict::Bad(f) => {
-            output::error(p.number);
-            faults::told(p.number, f, line);
+            output::error(stdout, p.number);
+            faults::told(stderr, p.number, f, line);
         }
     }
 }
 
 // A line at a time. No input has so many lines that the turns run out.
 fn run(
+    stdin: Stdin,
+    stdout: Stdout,
+    stderr: Stderr,
     piece: &mut [u8; 65536],
     buf: &mut [u8; 8192],
     lent: &mut [u8; 4200],
@@ -137,7 +141,7 @@ fn run(
     let mut call = driver::reset();
     let mut turns = u64::MAX;
     loop {
-        r = reading::next_line(r, piece, buf);
+        r = reading::next_line(stdin, stderr, r, piece, buf);
         let kind = r.kind;
         if reading::is_end(kind) {
             return;
@@ -152,8 +156,8 @@ fn run(
         let step = step_of(j, item, heard);
         call = port::moved(call, step, numbers, lent, p.sent, rx, got);
         let n = port::line(call, is_step(step), p.read, lent, p.sent, rx, got, out);
-        told(p, j, line);
-        show(text::front(out, n));
+        told(stdout, stderr, p, j, line);
+        show(stdout, text::front(out, n));
         if turns < 1 {
             return;
         }
@@ -161,7 +165,7 @@ fn run(
     }
 }
 
-fn main() {
+fn main(rt: HostRuntime) {
     let mut piece = io::large_buffer();
     let mut buf = [0u8; 8192];
     let mut lent = [0u8; 4200];
@@ -169,6 +173,9 @@ fn main() {
     let mut out = [0u8; 8192];
     let mut numbers = [0u64; 24];
     run(
+        rt.stdin(),
+        rt.stdout(),
+        rt.stderr(),
         &mut piece,
         &mut buf,
         &mut lent,

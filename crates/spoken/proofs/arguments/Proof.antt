@@ -7,15 +7,15 @@ use lib.ListN.{length}
 use Rattle.spoken.proofs.arguments.Statement.{statement}
 use Rattle.spoken.proofs.arguments.Tie as tie
 
-abbrev invariant-loop : tie.invariant-loop
-invariant-loop line shape numbers₀ lent₀ n words last₀ i₀ numbers lent last i = (i ≤ n) × (n ≤ length shape) × (length numbers ≡ length numbers₀) × (length lent ≡ length lent₀)
+abbrev invariant-loop-i : tie.invariant-loop-i
+invariant-loop-i line shape numbers₀ lent₀ n words last₀ i₀ numbers lent last i = (i ≤ n) × (n ≤ length shape) × (length numbers ≡ length numbers₀) × (length lent ≡ length lent₀)
 
-abbrev decreases-loop : tie.decreases-loop
-decreases-loop line shape numbers₀ lent₀ n words last₀ i₀ numbers lent last i = n - i
+abbrev decreases-loop-i : tie.decreases-loop-i
+decreases-loop-i line shape numbers₀ lent₀ n words last₀ i₀ numbers lent last i = n - i
 
 pub arguments_spec : {M : Type 1} → statement M
 arguments_spec =
     tie.close
-    (tie.spec invariant-loop decreases-loop (λ c κs. search rules) (λ c κs. search rules) (search rules) (search rules) (search rules) (search rules)
+    (tie.spec invariant-loop-i decreases-loop-i (λ c κs. search rules) (λ c κs. search rules) (search rules) (search rules) (search rules) (search rules)
     (search rules) (λ c κs. search rules) (λ c κs. search rules) (search rules) (search rules) (search rules) (search rules) (search rules)
     (search rules) (λ c κs. search rules) (search rules) (search rules) (search rules) (search rules) (search rules) (search rules))

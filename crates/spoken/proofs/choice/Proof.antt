@@ -5,14 +5,14 @@ use borrow.Author.Rules.{rules}
 use Rattle.spoken.proofs.choice.Statement.{statement}
 use Rattle.spoken.proofs.choice.Tie as tie
 
-abbrev invariant-loop : tie.invariant-loop
-invariant-loop w list n i₀ i = (i ≤ n)
+abbrev invariant-loop-i : tie.invariant-loop-i
+invariant-loop-i w list n i₀ i = (i ≤ n)
 
-abbrev decreases-loop : tie.decreases-loop
-decreases-loop w list n i₀ i = n - i
+abbrev decreases-loop-i : tie.decreases-loop-i
+decreases-loop-i w list n i₀ i = n - i
 
 pub choice_spec : {M : Type 1} → statement M
 choice_spec =
     tie.close
-    (tie.spec invariant-loop decreases-loop (λ c κs. search rules) (search rules) (λ c κs. search rules) (search rules) (search rules) (search rules) (search rules)
+    (tie.spec invariant-loop-i decreases-loop-i (λ c κs. search rules) (search rules) (λ c κs. search rules) (search rules) (search rules) (search rules) (search rules)
     (search rules))
