@@ -11,5 +11,5 @@ pub base_spec : {M : Type 1} → statement M
 unfolding base end
 base_spec =
     tie.close
-    (tie.spec (λ c. (rw c.if1.true, search rules)) (search rules) (λ c κs. search rules)
-    (λ c. (rw (ne_eqb c.before.before.args.n 0 (λ e. c.before.if1.false e)) c.end.ensures.0, omega arith)))
+    (tie.spec (λ c. (rw c.if-n-eq0.true, search rules)) (search rules) (λ c κs. search rules)
+    (λ c. (rw (ne_eqb c.before.before.args.n 0 (λ e. c.before.if-n-eq0.false e)) c.end.ensures.0, omega arith)))

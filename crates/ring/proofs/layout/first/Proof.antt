@@ -11,5 +11,5 @@ unfolding end
 first_spec =
     tie.close
     (tie.spec (λ c κs. search rules) (λ c κs. search rules)
-    (λ c. (rw (c.room.ensures.0, c.before.word.ensures, c.before.before.if1.true), omega arith))
-    (λ c. (rw c.if1.false, omega arith)))
+    (λ c. (rw (c.room.ensures.0, c.before.word.ensures, c.before.before.if-queue.true), omega arith))
+    (λ c. (rw c.if-queue.false, omega arith)))

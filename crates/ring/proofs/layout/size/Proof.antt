@@ -14,6 +14,6 @@ size_spec =
     tie.close
     (tie.spec (λ c κs. search rules) (λ c κs. search rules)
     (λ c. omega (arith, payload_most c.before.before.before.args.frozen))
-    (λ c. (simp (c.before.before.payload_size.ensures, sym c.before.stamped.ensures ∙ c.if1.true), omega (arith, payload_most c.before.before.before.args.frozen)))
+    (λ c. (simp (c.before.before.payload_size-payload.ensures, sym c.before.stamped.ensures ∙ c.if-stamped.true), omega (arith, payload_most c.before.before.before.args.frozen)))
     (λ c. omega (arith, payload_most c.before.before.before.args.frozen))
-    (λ c. (simp (c.before.before.payload_size.ensures, sym c.before.stamped.ensures ∙ c.if1.false), omega (arith, payload_most c.before.before.before.args.frozen))))
+    (λ c. (simp (c.before.before.payload_size-payload.ensures, sym c.before.stamped.ensures ∙ c.if-stamped.false), omega (arith, payload_most c.before.before.before.args.frozen))))

@@ -11,6 +11,6 @@ unfolding stamped
 stamped_spec =
     tie.close
     (tie.spec (λ c κs. search rules)
-    (λ c. simp (sym c.before.sending.ensures ∙ c.if1.true))
+    (λ c. simp (sym c.before.sending.ensures ∙ c.if-sending.true))
     (λ c κs. search rules)
-    (λ c. simp (c.rxtsen.ensures, sym c.before.before.sending.ensures ∙ c.before.if1.false)))
+    (λ c. simp (c.rxtsen.ensures, sym c.before.before.sending.ensures ∙ c.before.if-sending.false)))

@@ -10,4 +10,4 @@ pub word_spec : {M : Type 1} → statement M
 word_spec =
     tie.close
     (tie.spec (search rules) (search rules) (search rules)
-    (λ c. sym (get_or-eq_default c.before.args.t1 0 (search rules))))
+    (λ c. sym (get_or-eq_default c.before.args.ws 0 (search rules))))

@@ -11,12 +11,12 @@ unfolding claimed
 claimed_spec =
     tie.close
     (tie.spec (λ c κs. search rules)
-    (λ c. rw (sym c.before.full.ensures ∙ c.if1.true))
+    (λ c. rw (sym c.before.full.ensures ∙ c.if-full.true))
     (λ c κs. search rules) (λ c κs. search rules)
     (λ c.
     let p = c.before.before in
-    rw (p.marked.ensures, sym p.before.before.full.ensures ∙ p.before.if1.false, rw p.marked.ensures at (sym c.before.full2.ensures ∙ c.if2.true)))
+    rw (p.marked-m.ensures, sym p.before.before.full.ensures ∙ p.before.if-full.false, rw p.marked-m.ensures at (sym c.before.full-2.ensures ∙ c.if-full-2.true)))
     (λ c κs. search rules) (λ c κs. search rules)
     (λ c.
     let p = c.before.before.before.before in
-    rw (c.showing.ensures, c.before.free.ensures.0, p.marked.ensures, sym p.before.before.full.ensures ∙ p.before.if1.false, rw p.marked.ensures at (sym c.before.before.before.full2.ensures ∙ c.before.before.if2.false))))
+    rw (c.showing.ensures, c.before.free.ensures.0, p.marked-m.ensures, sym p.before.before.full.ensures ∙ p.before.if-full.false, rw p.marked-m.ensures at (sym c.before.before.before.full-2.ensures ∙ c.before.before.if-full-2.false))))

@@ -8,5 +8,5 @@ pub claimed_if_spec : {M : Type 1} → statement M
 claimed_if_spec =
     tie.close
     (tie.spec (λ c κs. search rules)
-    (λ c. rw (c.claimed.ensures, c.before.if1.true))
-    (λ c. rw c.if1.false))
+    (λ c. rw (c.claimed.ensures, c.before.if-claims.true))
+    (λ c. rw c.if-claims.false))

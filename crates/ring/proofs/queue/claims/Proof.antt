@@ -8,5 +8,5 @@ pub claims_spec : {M : Type 1} → statement M
 claims_spec =
     tie.close
     (tie.spec (λ c κs. search rules)
-    (λ c. simp (c.uinc.ensures, c.before.if1.true))
+    (λ c. simp (c.uinc.ensures, c.before.if-on.true))
     (λ c. search rules))

@@ -10,4 +10,4 @@ unfolding empty
 empty_spec =
     tie.close
     (tie.spec (λ c κs. search rules) (λ c κs. search rules)
-    (λ c. rw (c.run.ensures.0, c.before.depth.ensures.0)))
+    (λ c. rw (c.run.ensures.0, c.before.depth-d.ensures.0)))

@@ -8,6 +8,6 @@ pub is_spec : {M : Type 1} → statement M
 is_spec =
     tie.close
     (tie.spec (search rules)
-    (λ c. rw c.if1.true)
+    (λ c. rw c.if-on.true)
     (search rules)
-    (λ c. rw c.if1.false))
+    (λ c. rw c.if-on.false))

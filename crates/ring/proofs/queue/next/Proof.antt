@@ -9,5 +9,5 @@ pub next_spec : {M : Type 1} → statement M
 next_spec =
     tie.close
     (tie.spec (λ c κs. search rules)
-    (λ c. rw (sym c.before.full.ensures ∙ c.if1.true))
-    (λ c. rw (sym c.before.full.ensures ∙ c.if1.false)))
+    (λ c. rw (sym c.before.full.ensures ∙ c.if-full.true))
+    (λ c. rw (sym c.before.full.ensures ∙ c.if-full.false)))

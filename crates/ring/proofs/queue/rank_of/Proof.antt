@@ -12,5 +12,5 @@ unfolding rank_of
 rank_of_spec =
     tie.close
     (tie.spec (λ c κs. search rules) (search rules) (λ c κs. search rules) (search rules) (λ c κs. search rules) (search rules)
-    (λ c. rw (c.get2.ensures, c.before.before.before.get.ensures, sym c.before.before.bit.ensures ∙ c.before.if1.true) (add_assoc _ _ _))
-    (λ c. rw (c.before.before.get.ensures, sym c.before.bit.ensures ∙ c.if1.false) (sym (add-zero _))))
+    (λ c. rw (c.get.ensures, c.before.before.before.get-base.ensures, sym c.before.before.bit.ensures ∙ c.before.if-bit.true) (add_assoc _ _ _))
+    (λ c. rw (c.before.before.get-base.ensures, sym c.before.bit.ensures ∙ c.if-bit.false) (sym (add-zero _))))

@@ -13,7 +13,7 @@ sent_spec =
     (tie.spec (λ c κs. search rules) (λ c κs. search rules) (λ c κs. search rules) (λ c κs. search rules)
     (λ c.
     let p = c.before.before.before in
-    rw (c.controlled.ensures, c.before.without_txreq.ensures, p.before.freed.ensures, rw p.before.freed.ensures at (sym p.empty.ensures ∙ c.before.before.if1.true)))
+    rw (c.controlled.ensures, c.before.without_txreq.ensures, p.before.freed-f.ensures, rw p.before.freed-f.ensures at (sym p.empty.ensures ∙ c.before.before.if-empty.true)))
     (λ c.
     let p = c.before in
-    rw (p.before.freed.ensures, rw p.before.freed.ensures at (sym p.empty.ensures ∙ c.if1.false))))
+    rw (p.before.freed-f.ensures, rw p.before.freed-f.ensures at (sym p.empty.ensures ∙ c.if-empty.false))))

@@ -10,4 +10,4 @@ unfolding status
 status_spec =
     tie.close
     (tie.spec (λ c κs. search rules) (λ c κs. search rules) (λ c κs. search rules) (λ c κs. search rules)
-    (λ c. rw (c.with_tferffif.ensures, c.before.empty.ensures, c.before.before.with_tfnrfnif.ensures, c.before.before.before.full.ensures)))
+    (λ c. rw (c.with_tferffif.ensures, c.before.empty.ensures, c.before.before.with_tfnrfnif-a.ensures, c.before.before.before.full.ensures)))

@@ -8,6 +8,6 @@ pub turned_spec : {M : Type 1} → statement M
 turned_spec =
     tie.close
     (tie.spec (λ c κs. search rules)
-    (λ c. simp (c.emptied.ensures, c.before.if1.true))
+    (λ c. simp (c.emptied.ensures, c.before.if-entering.true))
     (λ c κs. search rules) (λ c κs. search rules)
-    (λ c. simp (c.controlled.ensures, c.before.with_freset.ensures, c.before.before.if1.false)))
+    (λ c. simp (c.controlled.ensures, c.before.with_freset.ensures, c.before.before.if-entering.false)))

@@ -14,4 +14,4 @@ control_word_spec =
     (λ c κs. rw c.plsize.ensures (field_lt _ 29 3))
     (λ c.
     let q = c.before.before.before.before in
-    rw (c.with_plsize.ensures, c.before.plsize.ensures, c.before.before.with_fsize.ensures, c.before.before.before.fsize.ensures, q.with_txen.ensures, q.before.txen.ensures, q.before.before.with_rxtsen.ensures, q.before.before.before.rxtsen.ensures, digit_bit, digit_bit)))
+    rw (c.with_plsize.ensures, c.before.plsize.ensures, c.before.before.with_fsize.ensures, c.before.before.before.fsize.ensures, q.with_txen.ensures, q.before.txen.ensures, q.before.before.with_rxtsen-a.ensures, q.before.before.before.rxtsen.ensures, digit_bit, digit_bit)))

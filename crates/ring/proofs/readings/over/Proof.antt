@@ -9,5 +9,5 @@ pub over_spec : {M : Type 1} → statement M
 over_spec =
     tie.close
     (tie.spec (λ c κs. search rules)
-    (λ c. simp (sym c.before.sending.ensures ∙ c.if1.true))
-    (λ c. simp (sym c.before.sending.ensures ∙ c.if1.false)))
+    (λ c. simp (sym c.before.sending.ensures ∙ c.if-sending.true))
+    (λ c. simp (sym c.before.sending.ensures ∙ c.if-sending.false)))

@@ -11,5 +11,5 @@ unfolding ready
 ready_spec =
     tie.close
     (tie.spec (λ c κs. search rules) (search rules) (λ c κs. search rules)
-    (λ c. simp (c.depth.ensures.0, sym c.before.before.before.sending.ensures ∙ c.before.before.if1.true))
-    (λ c. simp (sym c.before.before.sending.ensures ∙ c.before.if1.false)))
+    (λ c. simp (c.depth.ensures.0, sym c.before.before.before.sending.ensures ∙ c.before.before.if-sending.true))
+    (λ c. simp (sym c.before.before.sending.ensures ∙ c.before.if-sending.false)))

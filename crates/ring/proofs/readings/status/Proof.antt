@@ -10,4 +10,4 @@ unfolding status
 status_spec =
     tie.close
     (tie.spec (λ c κs. search rules) (λ c κs. search rules) (λ c κs. search rules) (λ c κs. search rules) (λ c κs. search rules) (λ c κs. search rules)
-    (λ c. rw (c.with_rxovif.ensures, c.before.over.ensures, c.before.before.with_tferffif.ensures, c.before.before.before.edge.ensures, c.before.before.before.before.with_tfnrfnif.ensures, c.before.before.before.before.before.ready.ensures)))
+    (λ c. rw (c.with_rxovif.ensures, c.before.over.ensures, c.before.before.with_tferffif-b.ensures, c.before.before.before.edge.ensures, c.before.before.before.before.with_tfnrfnif-a.ensures, c.before.before.before.before.before.ready.ensures)))

@@ -13,7 +13,7 @@ commanded_spec =
     (tie.spec (λ c κs. search rules) (λ c κs. search rules) (λ c κs. search rules) (λ c κs. search rules) (λ c κs. search rules) (λ c κs. search rules)
     (λ c.
     let p = c.before.before.before in
-    rw (c.emptied.ensures, p.increased_if.ensures, p.before.controlled.ensures, p.before.before.kept.ensures, p.before.before.before.uinc.ensures, sym c.before.before.freset.ensures ∙ c.before.if1.true))
+    rw (c.emptied.ensures, p.increased_if-g.ensures, p.before.controlled.ensures, p.before.before.kept.ensures, p.before.before.before.uinc.ensures, sym c.before.before.freset.ensures ∙ c.before.if-freset.true))
     (λ c.
     let p = c.before.before in
-    rw (p.increased_if.ensures, p.before.controlled.ensures, p.before.before.kept.ensures, p.before.before.before.uinc.ensures, sym c.before.freset.ensures ∙ c.if1.false)))
+    rw (p.increased_if-g.ensures, p.before.controlled.ensures, p.before.before.kept.ensures, p.before.before.before.uinc.ensures, sym c.before.freset.ensures ∙ c.if-freset.false)))

@@ -8,5 +8,5 @@ pub increased_if_spec : {M : Type 1} → statement M
 increased_if_spec =
     tie.close
     (tie.spec (λ c κs. search rules)
-    (λ c. simp (c.increased.ensures, c.before.if1.true))
-    (λ c. simp c.if1.false))
+    (λ c. simp (c.increased.ensures, c.before.if-on.true))
+    (λ c. simp c.if-on.false))

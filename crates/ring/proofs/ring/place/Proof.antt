@@ -11,5 +11,5 @@ unfolding place
 place_spec =
     tie.close
     (tie.spec (search rules)
-    (λ c. (simp (lt-ltb _ _ c.if1.true), search rules))
-    (λ c. (simp (le-ltb _ _ c.if1.false), search rules)))
+    (λ c. (simp (lt-ltb _ _ c.if-p-depth.true), search rules))
+    (λ c. (simp (le-ltb _ _ c.if-p-depth.false), search rules)))

@@ -11,5 +11,5 @@ unfolding sent
 sent_spec =
     tie.close
     (tie.spec (λ c κs. search rules) (λ c κs. search rules) (λ c κs. search rules)
-    (λ c. simp (c.controlled.ensures, c.before.without_txreq.ensures, c.before.before.before.before.taken.ensures, eq-eqb _ _ c.before.before.if1.true))
-    (λ c. simp (c.before.before.taken.ensures, ne_eqb _ _ c.if1.false)))
+    (λ c. simp (c.controlled.ensures, c.before.without_txreq.ensures, c.before.before.before.before.taken-g.ensures, eq-eqb _ _ c.before.before.if-f-eq1.true))
+    (λ c. simp (c.before.before.taken-g.ensures, ne_eqb _ _ c.if-f-eq1.false)))

@@ -12,6 +12,6 @@ unfolding shown
 shown_spec =
     tie.close
     (tie.spec (λ c κs. search rules) (λ c κs. search rules) (λ c κs. search rules)
-    (λ c. (simp (c.place.ensures.0, c.before.before.before.depth.ensures.0, sym c.before.before.sending.ensures ∙ c.before.if1.true), omega arith))
+    (λ c. (simp (c.place.ensures.0, c.before.before.before.depth-d.ensures.0, sym c.before.before.sending.ensures ∙ c.before.if-sending.true), omega arith))
     (λ c κs. search rules)
-    (λ c. (simp (c.place2.ensures.0, c.before.before.before.depth.ensures.0, sym c.before.before.sending.ensures ∙ c.before.if1.false), omega arith)))
+    (λ c. (simp (c.place-2.ensures.0, c.before.before.before.depth-d.ensures.0, sym c.before.before.sending.ensures ∙ c.before.if-sending.false), omega arith)))
