@@ -10,17 +10,17 @@ use Rattle.parts.proofs.Turns.{none_copied, copied}
 use Rattle.parts.proofs.copy.Statement.{statement}
 use Rattle.parts.proofs.copy.Tie as tie
 
-abbrev invariant-loop : tie.invariant-loop
-invariant-loop src dst₀ left₀ dst left =
+abbrev invariant-loop-left : tie.invariant-loop-left
+invariant-loop-left src dst₀ left₀ dst left =
     (left ≤ length src) × (length dst ≡ length dst₀) × (dst ≡ take left dst₀ ++ (drop left src ++ drop (length src) dst₀))
 
-abbrev decreases-loop : tie.decreases-loop
-decreases-loop src dst₀ left₀ dst left = left
+abbrev decreases-loop-left : tie.decreases-loop-left
+decreases-loop-left src dst₀ left₀ dst left = left
 
 pub copy_spec : {M : Type 1} → statement M
 copy_spec =
     tie.close
-    (tie.spec invariant-loop decreases-loop
+    (tie.spec invariant-loop-left decreases-loop-left
     (λ c. (search rules, search rules, none_copied c.args.src.now c.args.dst.now))
     (search rules) (search rules) (search rules) (search rules)
     (λ c.

@@ -10,4 +10,4 @@ put_at_spec =
     tie.close
     (tie.spec (search rules) (search rules) (search rules) (search rules)
     (λ c κs. search rules) (search rules)
-    (λ c. let s = c.before.before.before.before.before.before.args in middle s.buf-1.now s.src.now _ s.at c.before.before.copy.ensures))
+    (λ c. let s = c.before.before.before.before.before.before.args in middle s.buf.now s.src.now _ s.at c.before.before.copy.ensures))
