@@ -17,4 +17,4 @@ byte_spec =
     (λ c. record { fits = omega (arith, mask_lt c.args.b 4) })
     (λ c κs. omega (arith, mask_lt c.args.b 4, c.ranges.b.fits))
     (λ c κs. omega (arith, mask_lt c.before.args.b 4, c.before.ranges.b.fits))
-    (λ c. c.nibble2.ensures ∙ ap₂ (λ (x y : ℕ). shifts 4 (bit_xor x (y * 2 ^ 12))) c.before.nibble.ensures (and_mask _ 4) ∙ two_nibbles _ _))
+    (λ c. c.nibble-2.ensures ∙ ap₂ (λ (x y : ℕ). shifts 4 (bit_xor x (y * 2 ^ 12))) c.before.nibble.ensures (and_mask _ 4) ∙ two_nibbles _ _))

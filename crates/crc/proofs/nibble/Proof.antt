@@ -18,5 +18,7 @@ pub nibble_spec : {M : Type 1} → statement M
 unfolding shift1 shifts
 nibble_spec =
     tie.close
-    (tie.spec (λ c. record { fits = omega (arith, below c) }) (λ c. record { fits = omega (arith, below c) }) below
-    (λ c. ap (bit_xor (c.args.c * 2 ^ 4 % 2 ^ 16)) (at entry 16 _ (below c)) ∙ entered c.args.c c.args.n))
+    (tie.spec (λ c. record { fits = omega (arith, below c.before) }) (λ c. record { fits = omega (arith, below c.before) }) (λ c. below c.before)
+    (λ c.
+    let s = c.before.before in
+    ap (bit_xor (s.args.c * 2 ^ 4 % 2 ^ 16)) (at entry 16 _ (below s)) ∙ entered s.args.c s.args.n))

@@ -9,15 +9,15 @@ use Rattle.crc.proofs.Steps.{again, at_end}
 use Rattle.crc.proofs.update.Statement.{statement}
 use Rattle.crc.proofs.update.Tie as tie
 
-abbrev invariant-loop : tie.invariant-loop
-invariant-loop c s x₀ i₀ x i = (i ≤ length s) × (crc_from x (drop i s) ≡ crc_from c s)
+abbrev invariant-loop-i : tie.invariant-loop-i
+invariant-loop-i c s x₀ i₀ x i = (i ≤ length s) × (crc_from x (drop i s) ≡ crc_from c s)
 
-abbrev decreases-loop : tie.decreases-loop
-decreases-loop c s x₀ i₀ x i = length s - i
+abbrev decreases-loop-i : tie.decreases-loop-i
+decreases-loop-i c s x₀ i₀ x i = length s - i
 
 pub update_spec : {M : Type 1} → statement M
 update_spec =
     tie.close
-    (tie.spec invariant-loop decreases-loop (search rules) (search rules) (search rules) (search rules) (search rules)
-    (λ c. (search rules, again _ _ _ c.before.before.loop_test.true c.byte.ensures c.before.before.before.loop.invariant.1))
-    (λ c. sym (at_end _ _ _ c.before.loop.invariant.0 c.loop_test.false) ∙ c.before.loop.invariant.1))
+    (tie.spec invariant-loop-i decreases-loop-i (search rules) (search rules) (search rules) (search rules) (search rules)
+    (λ c. (search rules, again _ _ _ c.before.before.loop-i-test.true c.byte-x.ensures c.before.before.before.loop-i.invariant.1))
+    (λ c. sym (at_end _ _ _ c.before.loop-i.invariant.0 c.loop-i-test.false) ∙ c.before.loop-i.invariant.1))
