@@ -7,14 +7,14 @@ use lib.ListN.{length}
 use Rattle.faults.proofs.put_plain.Statement.{statement}
 use Rattle.faults.proofs.put_plain.Tie as tie
 
-abbrev invariant-loop : tie.invariant-loop
-invariant-loop w out₀ n₀ out n = (n ≤ length w) × (length out ≡ length out₀)
+abbrev invariant-loop-n : tie.invariant-loop-n
+invariant-loop-n w out₀ n₀ out n = (n ≤ length w) × (length out ≡ length out₀)
 
-abbrev decreases-loop : tie.decreases-loop
-decreases-loop w out₀ n₀ out n = length w - n
+abbrev decreases-loop-n : tie.decreases-loop-n
+decreases-loop-n w out₀ n₀ out n = length w - n
 
 pub put_plain_spec : {M : Type 1} → statement M
 put_plain_spec =
     tie.close
-    (tie.spec invariant-loop decreases-loop (search rules) (search rules) (search rules) (search rules) (λ c κs. search rules) (λ c κs. search rules)
+    (tie.spec invariant-loop-n decreases-loop-n (search rules) (search rules) (search rules) (search rules) (λ c κs. search rules) (λ c κs. search rules)
     (search rules) (search rules) (search rules) (search rules) (search rules))
