@@ -19,7 +19,7 @@ impl DataBitTimeConfiguration {
     }
 
     pub fn reset() -> DataBitTimeConfiguration
-        ensures* { do ⌜ Carries CiDBTCFG 0 result.0 (← (⟦Self::RESET⟧).entry) (← (⟦Self::ADDRESS⟧).entry) ⌝ }
+        ensures { Carries CiDBTCFG 0 result.0 Self.RESET Self.ADDRESS }
     {
         DataBitTimeConfiguration(Self::RESET)
     }

@@ -22,7 +22,7 @@ impl TransmitterDelayCompensation {
     }
 
     pub fn reset() -> TransmitterDelayCompensation
-        ensures* { do ⌜ Carries CiTDC 0 result.0 (← (⟦Self::RESET⟧).entry) (← (⟦Self::ADDRESS⟧).entry) ⌝ }
+        ensures { Carries CiTDC 0 result.0 Self.RESET Self.ADDRESS }
     {
         TransmitterDelayCompensation(Self::RESET)
     }

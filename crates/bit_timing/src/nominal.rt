@@ -19,7 +19,7 @@ impl NominalBitTimeConfiguration {
     }
 
     pub fn reset() -> NominalBitTimeConfiguration
-        ensures* { do ⌜ Carries CiNBTCFG 0 result.0 (← (⟦Self::RESET⟧).entry) (← (⟦Self::ADDRESS⟧).entry) ⌝ }
+        ensures { Carries CiNBTCFG 0 result.0 Self.RESET Self.ADDRESS }
     {
         NominalBitTimeConfiguration(Self::RESET)
     }

@@ -19,7 +19,7 @@ impl IoControl {
     }
 
     pub fn reset() -> IoControl
-        ensures* { do ⌜ Carries IOCON 0 result.0 (← (⟦Self::RESET⟧).entry) (← (⟦Self::ADDRESS⟧).entry) ⌝ }
+        ensures { Carries IOCON 0 result.0 Self.RESET Self.ADDRESS }
     {
         IoControl(Self::RESET)
     }

@@ -19,7 +19,7 @@ impl OscillatorControl {
     }
 
     pub fn reset() -> OscillatorControl
-        ensures* { do ⌜ Carries OSC 0 result.0 (← (⟦Self::RESET⟧).entry) (← (⟦Self::ADDRESS⟧).entry) ⌝ }
+        ensures { Carries OSC 0 result.0 Self.RESET Self.ADDRESS }
     {
         OscillatorControl(Self::RESET)
     }

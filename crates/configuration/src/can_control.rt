@@ -19,7 +19,7 @@ impl CanControl {
     }
 
     pub fn reset() -> CanControl
-        ensures* { do ⌜ Carries CiCON 0 result.0 (← (⟦Self::RESET⟧).entry) (← (⟦Self::ADDRESS⟧).entry) ⌝ }
+        ensures { Carries CiCON 0 result.0 Self.RESET Self.ADDRESS }
     {
         CanControl(Self::RESET)
     }

@@ -19,7 +19,7 @@ impl TimeStampControl {
     }
 
     pub fn reset() -> TimeStampControl
-        ensures* { do ⌜ Carries CiTSCON 0 result.0 (← (⟦Self::RESET⟧).entry) (← (⟦Self::ADDRESS⟧).entry) ⌝ }
+        ensures { Carries CiTSCON 0 result.0 Self.RESET Self.ADDRESS }
     {
         TimeStampControl(Self::RESET)
     }

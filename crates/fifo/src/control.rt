@@ -2,7 +2,7 @@
 ghost use Rattle.std.specs.Prelude.{◌≡◌, ◌+◌, ◌<◌, min, get_or};
 ghost use Rattle.field.specs.Field.{read, write, Fits, flag, mark};
 ghost use Rattle.field.specs.Register.{Carries};
-ghost use Rattle.fifo.specs.Control.{CiFIFOCON, TFNRFNIE, TFHRFHIE, TFERFFIE, RXOVIE, TXATIE, RXTSEN, RTREN, TXEN, UINC, TXREQ, FRESET, TXPRI, TXAT, FSIZE, PLSIZE, payloads, payload_of, stored_size, is_fifo};
+ghost use Rattle.fifo.specs.Control.{CiFIFOCON, TFNRFNIE, TFHRFHIE, TFERFFIE, RXOVIE, TXATIE, RXTSEN, RTREN, TXEN, UINC, TXREQ, FRESET, TXPRI, TXAT, FSIZE, PLSIZE as PLSIZE_FIELD, payloads, payload_of, stored_size, is_fifo};
 
 // What PLSIZE means, in bytes.
 pub const PLSIZE: [usize; 8] = [8, 12, 16, 20, 24, 32, 48, 64];
@@ -40,7 +40,7 @@ impl FifoControl {
     }
 
     pub fn reset() -> FifoControl
-        ensures* { do ⌜ Carries CiFIFOCON 1 result.0 (← (⟦Self::RESET⟧).entry) (← (⟦Self::FIRST⟧).entry) ⌝ }
+        ensures { Carries CiFIFOCON 1 result.0 Self.RESET Self.FIRST }
     {
         FifoControl(Self::RESET)
     }
@@ -218,14 +218,14 @@ impl FifoControl {
     }
 
     pub fn plsize(self) -> u32
-        ensures { result ≡ read PLSIZE self.0 }
+        ensures { result ≡ read PLSIZE_FIELD self.0 }
     {
         field::get(self.0, 29, 3)
     }
 
     pub fn with_plsize(self, v: u32) -> FifoControl
-        requires { Fits PLSIZE v }
-        ensures { result.0 ≡ write PLSIZE v self.0 }
+        requires { Fits PLSIZE_FIELD v }
+        ensures { result.0 ≡ write PLSIZE_FIELD v self.0 }
     {
         FifoControl(field::set(self.0, 29, 3, v))
     }

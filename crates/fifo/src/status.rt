@@ -20,7 +20,7 @@ impl FifoStatus {
     }
 
     pub fn reset() -> FifoStatus
-        ensures* { do ⌜ Carries CiFIFOSTA 1 result.0 (← (⟦Self::RESET⟧).entry) (← (⟦Self::FIRST⟧).entry) ⌝ }
+        ensures { Carries CiFIFOSTA 1 result.0 Self.RESET Self.FIRST }
     {
         FifoStatus(Self::RESET)
     }

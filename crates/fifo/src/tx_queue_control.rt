@@ -22,7 +22,7 @@ impl TxQueueControl {
     }
 
     pub fn reset() -> TxQueueControl
-        ensures* { do ⌜ Carries CiTXQCON 0 result.0 (← (⟦Self::RESET⟧).entry) (← (⟦Self::ADDRESS⟧).entry) ⌝ }
+        ensures { Carries CiTXQCON 0 result.0 Self.RESET Self.ADDRESS }
     {
         TxQueueControl(Self::RESET)
     }

@@ -20,7 +20,7 @@ impl TxQueueStatus {
     }
 
     pub fn reset() -> TxQueueStatus
-        ensures* { do ⌜ Carries CiTXQSTA 0 result.0 (← (⟦Self::RESET⟧).entry) (← (⟦Self::ADDRESS⟧).entry) ⌝ }
+        ensures { Carries CiTXQSTA 0 result.0 Self.RESET Self.ADDRESS }
     {
         TxQueueStatus(Self::RESET)
     }

@@ -20,7 +20,7 @@ impl TxQueueUserAddress {
     }
 
     pub fn reset() -> TxQueueUserAddress
-        ensures* { do ⌜ Carries CiTXQUA 0 result.0 (← (⟦Self::RESET⟧).entry) (← (⟦Self::ADDRESS⟧).entry) ⌝ }
+        ensures { Carries CiTXQUA 0 result.0 Self.RESET Self.ADDRESS }
     {
         TxQueueUserAddress(Self::RESET)
     }

@@ -20,7 +20,7 @@ impl UserAddress {
     }
 
     pub fn reset() -> UserAddress
-        ensures* { do ⌜ Carries CiFIFOUA 1 result.0 (← (⟦Self::RESET⟧).entry) (← (⟦Self::FIRST⟧).entry) ⌝ }
+        ensures { Carries CiFIFOUA 1 result.0 Self.RESET Self.FIRST }
     {
         UserAddress(Self::RESET)
     }

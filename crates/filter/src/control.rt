@@ -20,7 +20,7 @@ impl FilterControl {
     }
 
     pub fn reset() -> FilterControl
-        ensures* { do ⌜ Carries CiFLTCON 0 result.0 (← (⟦Self::RESET⟧).entry) (← (⟦Self::FIRST⟧).entry) ⌝ }
+        ensures { Carries CiFLTCON 0 result.0 Self.RESET Self.FIRST }
     {
         FilterControl(Self::RESET)
     }

@@ -20,7 +20,7 @@ impl FilterMask {
     }
 
     pub fn reset() -> FilterMask
-        ensures* { do ⌜ Carries CiMASK 0 result.0 (← (⟦Self::RESET⟧).entry) (← (⟦Self::FIRST⟧).entry) ⌝ }
+        ensures { Carries CiMASK 0 result.0 Self.RESET Self.FIRST }
     {
         FilterMask(Self::RESET)
     }

@@ -20,7 +20,7 @@ impl FilterObject {
     }
 
     pub fn reset() -> FilterObject
-        ensures* { do ⌜ Carries CiFLTOBJ 0 result.0 (← (⟦Self::RESET⟧).entry) (← (⟦Self::FIRST⟧).entry) ⌝ }
+        ensures { Carries CiFLTOBJ 0 result.0 Self.RESET Self.FIRST }
     {
         FilterObject(Self::RESET)
     }

@@ -59,7 +59,7 @@ impl Interrupt {
     }
 
     pub fn reset() -> Interrupt
-        ensures* { do ⌜ Carries CiINT 0 result.0 (← (⟦Self::RESET⟧).entry) (← (⟦Self::ADDRESS⟧).entry) ⌝ }
+        ensures { Carries CiINT 0 result.0 Self.RESET Self.ADDRESS }
     {
         Interrupt(Self::RESET)
     }

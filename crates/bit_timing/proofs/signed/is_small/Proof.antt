@@ -10,5 +10,5 @@ pub is_small_spec : {M : Type 1} → statement M
 is_small_spec =
     tie.close
     (tie.spec
-    (λ c. sym (below c.before.args.t (rw (to_z-of_z c.before.ranges.t) at c.if1.true)))
-    (λ c. rw (to_z-of_z c.before.ranges.t) (not_below c.before.args.t (rw (to_z-of_z c.before.ranges.t) at c.if1.false))))
+    (λ c. sym (below c.before.args.t (rw (to_z-of_z c.before.ranges.t) at c.if-t-ltminus64.true)))
+    (λ c. rw (to_z-of_z c.before.ranges.t) (not_below c.before.args.t (rw (to_z-of_z c.before.ranges.t) at c.if-t-ltminus64.false))))

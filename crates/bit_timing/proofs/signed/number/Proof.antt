@@ -14,5 +14,5 @@ number_spec =
     tie.close
     (tie.spec (search rules) (search rules)
     (λ c. rw (to_z_pos w32 {n = c.before.args.x} (omega arith)) (less_fits _ c.before.requires))
-    (λ c. rw (to_z_pos w32 {n = c.before.args.x} (omega arith), lt-ltb _ _ c.if1.true))
-    (λ c. rw (to_z_pos w32 {n = c.before.args.x} (omega arith), to_z-of_z (less_fits _ c.before.requires), le-ltb _ _ c.if1.false)))
+    (λ c. rw (to_z_pos w32 {n = c.before.args.x} (omega arith), lt-ltb _ _ c.if-x-lt64.true))
+    (λ c. rw (to_z_pos w32 {n = c.before.args.x} (omega arith), to_z-of_z (less_fits _ c.before.requires), le-ltb _ _ c.if-x-lt64.false)))

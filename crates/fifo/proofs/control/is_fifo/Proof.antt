@@ -10,5 +10,5 @@ unfolding is_fifo
 is_fifo_spec =
     tie.close
     (tie.spec
-    (λ c. simp (lt-leb _ _ c.if1.true))
-    (λ c. simp (le-leb _ _ c.if1.false)))
+    (λ c. simp (lt-leb _ _ c.if-n-lt1.true))
+    (λ c. simp (le-leb _ _ c.if-n-lt1.false)))
