@@ -1,12 +1,11 @@
 -- How an object is put together in bytes that are 0.
 -- Assumes nothing.
-use mathlib.Core.Path.{◌≡◌, refl, sym, ap, ap₂, ◌∙◌}
-use mathlib.Core.List.{List, [], ◌∷◌, ◌++◌, append_assoc}
-use Prim.Native.Nat.{ℕ, zero, suc, ◌+◌, ◌-◌, ◌≤◌}
+use mathlib.Core.Path.{◌≡◌, refl, sym, ap, ◌∙◌}
+use mathlib.Core.List.{List, [], ◌++◌, append_assoc}
+use Prim.Native.Nat.{ℕ, ◌+◌, ◌-◌, ◌≤◌}
 use native.Mathlib.Nat.{add-zero}
 use native.Mathlib.Omega.{arith}
-use lib.ListN.{length, take, replicate, take-append-drop, length-append, length-replicate, replicate-append-replicate}
-use lib.Seq.{length-take-le}
+use lib.ListN.{length, replicate, take-append-drop, length-append, length-replicate, replicate-append-replicate}
 use Rattle.words.specs.Words.{le_bytes, round_up}
 use Rattle.words.proofs.Laws.{le_length}
 use Rattle.parts.specs.Parts.{put, zeroed}

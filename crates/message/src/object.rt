@@ -20,6 +20,7 @@ pub fn clear(body: &mut [u8; 76])
 }
 
 // A timestamp, where there is one, behind two words; where the payload goes.
+#[tactic(auto, using(words::proofs::Laws::le_length, crate::proofs::Objects::put_nothing))]
 fn put_stamp(stamp: Stamp, body: &mut [u8; 76]) -> usize
     ensures { (result ≡ 8 + length (stamp_bytes stamp)) × (result ≤ 12) × (body.new ≡ put body.old 8 (stamp_bytes stamp)) }
 {

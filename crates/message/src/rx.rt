@@ -144,6 +144,7 @@ fn length_in(sending: bool, w: u32) -> Length
 }
 
 // An object to send or received, with a timestamp or without; any bytes may follow it.
+#[tactic(auto, using(crate::proofs::Checks::in_le), unfolding(crate::specs::Message::decoding))]
 pub fn decode(sending: bool, stamped: bool, b: &[u8]) -> Decoded
     ensures { result ≡ decoded_as (decoding sending stamped b.now) }
 {

@@ -28,6 +28,7 @@ pub fn top_id(extended: bool) -> u32
 }
 
 // The DLC of a message with a payload of n bytes, or its refusal.
+#[tactic(auto, unfolding(crate::specs::Message::check_of))]
 fn check(h: Header, seq: u32, n: usize) -> Checked
     ensures { result ≡ check_of h seq n }
 {
@@ -44,6 +45,7 @@ fn check(h: Header, seq: u32, n: usize) -> Checked
 }
 
 // The object into lent bytes.
+#[tactic(auto, using(crate::proofs::Checks::sound, header::proofs::Dlcs::dlc_16, header::proofs::Dlcs::payload_le), unfolding(crate::specs::Message::encoding))]
 pub fn encode(
     header: Header,
     seq: u32,

@@ -10,4 +10,4 @@ unfolding arriving
 arrive_spec =
     tie.close
     (tie.spec (λ c κs. search rules) (λ c κs. search rules) (λ c κs. search rules)
-    (λ c. rw (← c.before.before.received_word.ensures, ← c.before.before.before.first_word.ensures) c.put_object.ensures))
+    (λ c. rw (← c.before.before.received_word-b.ensures, ← c.before.before.before.first_word-a.ensures) c.put_object.ensures))

@@ -11,8 +11,8 @@ unfolding arrival_check
 check_arrival_spec =
     tie.close
     (tie.spec (search rules)
-    (λ c. simp (lt-ltb _ _ (rw c.before.before.top_id.ensures at c.if1.true)))
-    (λ c. simp (le-ltb _ _ (rw c.before.before.before.top_id.ensures at c.before.if1.false), lt-ltb _ _ c.if2.true))
+    (λ c. simp (lt-ltb _ _ (rw c.before.before.top_id.ensures at c.if-top_id-h.true)))
+    (λ c. simp (le-ltb _ _ (rw c.before.before.before.top_id.ensures at c.before.if-top_id-h.false), lt-ltb _ _ c.if-dlc-gt15.true))
     (search rules)
-    (λ c. let s = c.before.before in simp (le-ltb _ _ (rw s.before.before.before.top_id.ensures at s.before.if1.false), le-ltb _ _ s.if2.false, eq-eqb _ _ (rw c.before.received_len.ensures.0 at c.if3.true)))
-    (λ c. let s = c.before.before in simp (le-ltb _ _ (rw s.before.before.before.top_id.ensures at s.before.if1.false), le-ltb _ _ s.if2.false, ne_eqb _ _ (rw c.before.received_len.ensures.0 at c.if3.false))))
+    (λ c. let s = c.before.before in simp (le-ltb _ _ (rw s.before.before.before.top_id.ensures at s.before.if-top_id-h.false), le-ltb _ _ s.if-dlc-gt15.false, eq-eqb _ _ (rw c.before.received_len.ensures.0 at c.if-received_len-n.true)))
+    (λ c. let s = c.before.before in simp (le-ltb _ _ (rw s.before.before.before.top_id.ensures at s.before.if-top_id-h.false), le-ltb _ _ s.if-dlc-gt15.false, ne_eqb _ _ (rw c.before.received_len.ensures.0 at c.if-received_len-n.false))))

@@ -16,4 +16,4 @@ frame_in_spec =
     (λ c κs. search rules) (search rules) (search rules) (search rules)
     (λ c κs. search rules) (λ c κs. search rules)
     (λ c κs. search rules) (λ c κs. search rules)
-    (λ c. let p = c.before.before.before in let a = p.before.before.before.before.before.before.before in simp (c.seq_in.ensures, c.before.filter_in.ensures, c.before.before.dlc_of.ensures.0, p.hold.ensures, p.before.before.stamp_in.ensures, p.before.before.before.header_of.ensures, p.before.before.before.before.le_at2.ensures, p.before.before.before.before.before.le_at.ensures, add-sub_cancel_left (body_at a.args.stamped) a.args.n, a.requires.0)))
+    (λ c. let p = c.before.before.before in let a = p.before.before.before.before.before.before.before in simp (c.seq_in.ensures, c.before.filter_in.ensures, c.before.before.dlc_of.ensures.0, p.hold-p.ensures, p.before.before.stamp_in-s.ensures, p.before.before.before.header_of-h.ensures, p.before.before.before.before.le_at.ensures, p.before.before.before.before.before.le_at-w.ensures, add-sub_cancel_left (body_at a.args.stamped) a.args.n, a.requires.0)))

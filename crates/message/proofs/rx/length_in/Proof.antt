@@ -12,5 +12,5 @@ unfolding length_in
 length_in_spec =
     tie.close
     (tie.spec (search rules)
-    (λ c. rw c.before.if1.true c.length_of.ensures)
-    (search rules) (λ c. rw c.before.if1.false (ap Length.Is c.received_length_of.ensures.0)))
+    (λ c. rw c.before.if-sending.true c.length_of.ensures)
+    (search rules) (λ c. rw c.before.if-sending.false (ap Length.Is c.received_length_of.ensures.0)))

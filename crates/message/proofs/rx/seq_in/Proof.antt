@@ -5,4 +5,4 @@ use Rattle.message.proofs.rx.seq_in.Statement.{statement}
 use Rattle.message.proofs.rx.seq_in.Tie as tie
 
 pub seq_in_spec : {M : Type 1} → statement M
-seq_in_spec = tie.close (tie.spec (search rules) (λ c. rw c.before.if1.true c.get.ensures) (λ c. rw c.if1.false))
+seq_in_spec = tie.close (tie.spec (search rules) (λ c. rw c.before.if-sending.true c.get.ensures) (λ c. rw c.if-sending.false))

@@ -7,5 +7,5 @@ use Rattle.message.proofs.rx.stamp_in.Tie as tie
 pub stamp_in_spec : {M : Type 1} → statement M
 stamp_in_spec =
     tie.close
-    (tie.spec (λ c κs. let h = rw c.if1.true at c.before.before.requires in omega arith)
-    (λ c. rw (c.before.if1.true, c.le_at.ensures)) (λ c. rw c.if1.false))
+    (tie.spec (λ c κs. let h = rw c.if-stamped.true at c.before.before.requires in omega arith)
+    (λ c. rw (c.before.if-stamped.true, c.le_at.ensures)) (λ c. rw c.if-stamped.false))
