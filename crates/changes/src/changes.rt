@@ -122,6 +122,7 @@ fn data_fits(d: DataBitTime) -> bool
     true
 }
 
+#[tactic(auto, unfolding(crate::specs::Changes::timing_fits))]
 pub fn timing_fits(b: BitTimeConfiguration) -> bool
     ensures { result ≡ timing_fits b }
 {

@@ -9,5 +9,5 @@ pub settings_fit_spec : {M : Type 1} → statement M
 settings_fit_spec =
     tie.close
     (tie.spec (λ c κs. search rules)
-    (λ c. simp (sym c.before.before.timing_fits.ensures ∙ c.before.if1.true))
-    (λ c. simp (sym c.before.timing_fits.ensures ∙ c.if1.false)))
+    (λ c. simp (sym c.before.before.timing_fits.ensures ∙ c.before.if-timing_fits.true))
+    (λ c. simp (sym c.before.timing_fits.ensures ∙ c.if-timing_fits.false)))
