@@ -17,5 +17,5 @@ fifo_at_spec =
     (tie.spec (search rules) (search rules) (search rules) (λ c κs. search rules)
     (λ c.
     let a = c.before.before.args in
-    let e : length a.t1.fifo ≡ 32 = search (rules, length_kept) in
-    c.fresh.ensures ∙ sym (get_or-eq_default a.t1.fifo blank {n = a.n} (omega (arith, e)))))
+    let e : length a.m.fifo ≡ 32 = search (rules, length_kept) in
+    c.fresh.ensures ∙ sym (get_or-eq_default a.m.fifo blank {n = a.n} (omega (arith, e)))))

@@ -10,4 +10,4 @@ unfolding reset
 reset_spec =
     tie.close
     (tie.spec (λ c κs. search rules) (λ c κs. search rules) (λ c κs. search rules) (λ c κs. search rules)
-    (λ c. rw (c.fresh2.ensures, c.before.fresh.ensures, c.before.before.setup_reset.ensures, c.before.before.before.fixed_reset.ensures)))
+    (λ c. rw (c.fresh-2.ensures, c.before.fresh.ensures, c.before.before.setup_reset.ensures, c.before.before.before.fixed_reset.ensures)))

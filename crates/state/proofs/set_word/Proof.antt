@@ -8,4 +8,4 @@ use Rattle.state.proofs.set_word.Tie as tie
 
 pub set_word_spec : {M : Type 1} → statement M
 set_word_spec =
-    tie.close (tie.spec (search rules) (search rules) (search rules) (search rules) (λ c. sym (set_out _ _ _ c.if1.false)))
+    tie.close (tie.spec (search rules) (search rules) (search rules) (search rules) (λ c. sym (set_out _ _ _ c.if-k-words.false)))

@@ -8,4 +8,4 @@ use Rattle.state.proofs.word_at.Tie as tie
 
 pub word_at_spec : {M : Type 1} → statement M
 word_at_spec =
-    tie.close (tie.spec (search rules) (search rules) (search rules) (λ c. sym (get_or-eq_default c.before.args.words.now 0 c.if1.false)))
+    tie.close (tie.spec (search rules) (search rules) (search rules) (λ c. sym (get_or-eq_default c.before.args.words.now 0 c.if-k-words.false)))

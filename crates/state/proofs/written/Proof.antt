@@ -5,4 +5,4 @@ use Rattle.state.proofs.written.Statement.{statement}
 use Rattle.state.proofs.written.Tie as tie
 
 pub written_spec : {M : Type 1} → statement M
-written_spec = tie.close (tie.spec (λ c κs. search rules) (λ c. rw c.put_bytes.ensures))
+written_spec = tie.close (tie.spec (λ c κs. search rules) (λ c. rw c.put_bytes-next.ensures))
