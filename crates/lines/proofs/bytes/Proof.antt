@@ -7,14 +7,14 @@ use lib.ListN.{length}
 use Rattle.lines.proofs.bytes.Statement.{statement}
 use Rattle.lines.proofs.bytes.Tie as tie
 
-abbrev invariant-loop : tie.invariant-loop
-invariant-loop out₀ at s n₀ i₀ out n i = (i ≤ length s) × (length out ≡ length out₀)
+abbrev invariant-loop-i : tie.invariant-loop-i
+invariant-loop-i out₀ at s n₀ i₀ out n i = (i ≤ length s) × (length out ≡ length out₀)
 
-abbrev decreases-loop : tie.decreases-loop
-decreases-loop out₀ at s n₀ i₀ out n i = length s - i
+abbrev decreases-loop-i : tie.decreases-loop-i
+decreases-loop-i out₀ at s n₀ i₀ out n i = length s - i
 
 pub bytes_spec : {M : Type 1} → statement M
 bytes_spec =
     tie.close
-    (tie.spec invariant-loop decreases-loop (λ c κs. search rules) (search rules) (search rules) (search rules) (search rules) (λ c κs. search rules) (search rules)
+    (tie.spec invariant-loop-i decreases-loop-i (λ c κs. search rules) (search rules) (search rules) (search rules) (search rules) (λ c κs. search rules) (search rules)
     (search rules) (search rules) (search rules) (search rules))
