@@ -80,6 +80,7 @@ fn with_receive(control: FifoControl, f: RxFifo) -> FifoControl
         .with_tfnrfnie(f.notempty)
 }
 
+#[tactic(auto, using(crate::proofs::Tests::transmit_told))]
 fn with_direction(control: FifoControl, mode: FifoMode) -> FifoControl
     requires { direction_fits mode ≡ true }
     ensures { result.0 ≡ settings (direction_settings mode) control.0 }

@@ -8,7 +8,7 @@ pub checked_spec : {M : Type 1} → statement M
 checked_spec =
     tie.close
     (tie.spec (λ c. search rules)
-    (λ c. simp (c.if4.false, c.before.if3.true, c.before.before.if2.true, c.before.before.before.if1.true))
-    (λ c. simp (c.if3.false, c.before.if2.true, c.before.before.if1.true))
-    (λ c. simp (c.if2.false, c.before.if1.true))
-    (λ c. simp c.if1.false))
+    (λ c. simp (c.if-mask.false, c.before.if-object.true, c.before.before.if-fifo.true, c.before.before.before.if-filter.true))
+    (λ c. simp (c.if-object.false, c.before.if-fifo.true, c.before.before.if-filter.true))
+    (λ c. simp (c.if-fifo.false, c.before.if-filter.true))
+    (λ c. simp c.if-filter.false))

@@ -11,6 +11,6 @@ unfolding fifo_fits
 fifo_fits_spec =
     tie.close
     (tie.spec
-    (λ c. simp (lt-leb _ _ c.if1.true))
-    (λ c. simp (le-ltb _ _ c.if2.true, le-leb _ _ c.before.before.if1.false)) (λ c κs. search rules)
-    (λ c. simp (c.direction_fits.ensures, lt-ltb _ _ c.before.if2.false, le-leb _ _ c.before.before.before.if1.false)))
+    (λ c. simp (lt-leb _ _ c.if-c-lt1.true))
+    (λ c. simp (le-ltb _ _ c.if-c-ge8.true, le-leb _ _ c.before.before.if-c-lt1.false)) (λ c κs. search rules)
+    (λ c. simp (c.direction_fits.ensures, lt-ltb _ _ c.before.if-c-ge8.false, le-leb _ _ c.before.before.before.if-c-lt1.false)))
