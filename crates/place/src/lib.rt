@@ -51,6 +51,7 @@ fn of_filter(m: usize, word: u32) -> Register
     Register::Mask(m)
 }
 
+#[tactic(auto, unfolding(crate::specs::Place::single))]
 fn single(a: u32) -> Place
     ensures { result ≡ single a }
 {
@@ -92,6 +93,7 @@ pub fn register_at(a: u32) -> Place
 }
 
 // Whether an address is that of a register that is carried. None is cut: one of more than 12 bits is no register's.
+#[tactic(auto, unfolding(crate::specs::Place::is_carried))]
 pub fn is_carried(a: u32) -> bool
     ensures { result ≡ is_carried a }
 {

@@ -15,5 +15,5 @@ third n (suc (suc k)) h j = refl
 pub of_fifo_spec : {M : Type 1} → statement M
 of_fifo_spec =
     tie.close
-    (tie.spec (λ c. rw c.if1.true) (λ c. rw c.if2.true)
-    (λ c. third _ _ c.before.if1.false c.if2.false))
+    (tie.spec (λ c. rw c.if-word-eq0.true) (λ c. rw c.if-word-eq1.true)
+    (λ c. third _ _ c.before.if-word-eq0.false c.if-word-eq1.false))

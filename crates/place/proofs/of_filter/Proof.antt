@@ -14,5 +14,5 @@ second m (suc k) h = refl
 pub of_filter_spec : {M : Type 1} → statement M
 of_filter_spec =
     tie.close
-    (tie.spec (λ c. rw c.if1.true)
-    (λ c. second _ _ c.if1.false))
+    (tie.spec (λ c. rw c.if-word-eq0.true)
+    (λ c. second _ _ c.if-word-eq0.false))

@@ -10,14 +10,14 @@ pub register_at_spec : {M : Type 1} → statement M
 unfolding register_at
 register_at_spec =
     tie.close
-    (tie.spec (λ c. simp (lt-ltb _ _ c.if1.true))
+    (tie.spec (λ c. simp (lt-ltb _ _ c.if-a-gt0.true))
     (λ c κs. search rules)
-    (λ c. simp (c.single.ensures, lt-ltb _ _ c.before.if2.true, le-ltb _ _ c.before.before.if1.false))
+    (λ c. simp (c.single.ensures, lt-ltb _ _ c.before.if-a-lt92.true, le-ltb _ _ c.before.before.if-a-gt0.false))
     (search rules) (search rules) (search rules) (λ c κs. search rules)
-    (λ c. simp (c.of_fifo.ensures, lt-ltb _ _ c.before.if3.true, le-ltb _ _ c.before.before.if2.false, le-ltb _ _ c.before.before.before.if1.false))
+    (λ c. simp (c.of_fifo.ensures, lt-ltb _ _ c.before.if-a-lt464.true, le-ltb _ _ c.before.before.if-a-lt92.false, le-ltb _ _ c.before.before.before.if-a-gt0.false))
     (search rules)
-    (λ c. simp (lt-ltb _ _ c.if4.true, le-ltb _ _ c.before.if3.false, le-ltb _ _ c.before.before.if2.false, le-ltb _ _ c.before.before.before.if1.false))
+    (λ c. simp (lt-ltb _ _ c.if-a-lt496.true, le-ltb _ _ c.before.if-a-lt464.false, le-ltb _ _ c.before.before.if-a-lt92.false, le-ltb _ _ c.before.before.before.if-a-gt0.false))
     (search rules) (λ c κs. search rules)
-    (λ c. simp (c.of_filter.ensures, lt-ltb _ _ c.before.if5.true, le-ltb _ _ c.before.before.if4.false, le-ltb _ _ c.before.before.before.if3.false, le-ltb _ _ c.before.before.before.before.if2.false, le-ltb _ _ c.before.before.before.before.before.if1.false))
+    (λ c. simp (c.of_filter.ensures, lt-ltb _ _ c.before.if-a-lt752.true, le-ltb _ _ c.before.before.if-a-lt496.false, le-ltb _ _ c.before.before.before.if-a-lt464.false, le-ltb _ _ c.before.before.before.before.if-a-lt92.false, le-ltb _ _ c.before.before.before.before.before.if-a-gt0.false))
     (λ c κs. search rules)
-    (λ c. simp (c.single2.ensures, le-ltb _ _ c.before.if5.false, le-ltb _ _ c.before.before.if4.false, le-ltb _ _ c.before.before.before.if3.false, le-ltb _ _ c.before.before.before.before.if2.false, le-ltb _ _ c.before.before.before.before.before.if1.false)))
+    (λ c. simp (c.single-2.ensures, le-ltb _ _ c.before.if-a-lt752.false, le-ltb _ _ c.before.before.if-a-lt496.false, le-ltb _ _ c.before.before.before.if-a-lt464.false, le-ltb _ _ c.before.before.before.before.if-a-lt92.false, le-ltb _ _ c.before.before.before.before.before.if-a-gt0.false)))
