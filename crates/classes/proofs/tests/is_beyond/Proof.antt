@@ -12,7 +12,7 @@ pub is_beyond_spec : {M : Type 1} → statement M
 unfolding is_beyond
 is_beyond_spec =
     tie.close
-    (tie.spec (λ c. simp (lt-leb _ _ c.if1.true))
-    (λ c. let a = c.before.before.args in simp (le-leb _ _ c.before.if1.false, lt-ltb 0xFFFFFFFF (a.address + a.n) (omega arith)))
+    (tie.spec (λ c. simp (lt-leb _ _ c.if-a-lt1024.true))
+    (λ c. let a = c.before.before.args in simp (le-leb _ _ c.before.if-a-lt1024.false, lt-ltb 0xFFFFFFFF (a.address + a.n) (omega arith)))
     (search rules)
-    (λ c. simp (le-leb _ _ c.before.if1.false)))
+    (λ c. simp (le-leb _ _ c.before.if-a-lt1024.false)))

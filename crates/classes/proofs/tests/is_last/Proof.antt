@@ -12,7 +12,7 @@ pub is_last_spec : {M : Type 1} → statement M
 unfolding is_last
 is_last_spec =
     tie.close
-    (tie.spec (λ c. simp (lt-leb _ _ c.if1.true))
-    (λ c. let a = c.before.before.args in simp (le-leb _ _ c.before.if1.false, ne_eqb (a.address + a.n) 0xC00 (omega arith)))
+    (tie.spec (λ c. simp (lt-leb _ _ c.if-a-lt1024.true))
+    (λ c. let a = c.before.before.args in simp (le-leb _ _ c.before.if-a-lt1024.false, ne_eqb (a.address + a.n) 0xC00 (omega arith)))
     (search rules)
-    (λ c. simp (le-leb _ _ c.before.if1.false)))
+    (λ c. simp (le-leb _ _ c.before.if-a-lt1024.false)))
