@@ -170,6 +170,7 @@ fn refused(c: PushNumbers, why: Refusal) -> PushNumbers
     }
 }
 
+#[tactic(auto, unfolding(crate::specs::Step::after_enabled))]
 fn on_enabled(c: PushNumbers, reply: OneWord) -> PushNumbers
     ensures { PushMoves c (on_word PushAt.Refused reply after_enabled) result }
 {
@@ -196,6 +197,7 @@ fn sends(fifo: u8, w: u32) -> bool
     }
 }
 
+#[tactic(auto, unfolding(crate::specs::Step::after_control))]
 fn on_control(c: PushNumbers, reply: OneWord) -> PushNumbers
     ensures { PushMoves c (on_word PushAt.Refused reply (after_control c.fifo c.size)) result }
 {
@@ -215,6 +217,7 @@ fn on_control(c: PushNumbers, reply: OneWord) -> PushNumbers
     }
 }
 
+#[tactic(auto, unfolding(crate::specs::Step::after_status))]
 fn on_status(c: PushNumbers, reply: OneWord) -> PushNumbers
     ensures { PushMoves c (on_word PushAt.Refused reply (after_status c.w)) result }
 {
@@ -264,6 +267,7 @@ fn on_bare_control(c: PushNumbers, reply: OneWord) -> PushNumbers
     }
 }
 
+#[tactic(auto, unfolding(crate::specs::Step::step_of))]
 pub fn push_step(c: PushNumbers, answer: Answer, rx: &[u8]) -> PushNumbers
     ensures { PushSteps c answer rx.now result }
 {

@@ -12,7 +12,7 @@ unfolding after_address
 after_address_spec =
     tie.close
     (tie.spec (λ c κs. search rules)
-    (λ c body. c.refused.ensures body ∙ simp (lt-ltb _ _ c.before.if1.true))
+    (λ c body. c.refused.ensures body ∙ simp (lt-ltb _ _ c.before.if-u-gt64511.true))
     (search rules) (λ c κs. search rules) (search rules) (λ c κs. search rules) (λ c κs. search rules)
-    (λ c body. let b = c.before in simp (c.moved.ensures, sym b.before.in_range.ensures ∙ b.if2.true, le-ltb _ _ b.before.before.if1.false))
-    (λ c body. let b = c.before in c.refused2.ensures body ∙ simp (sym b.before.in_range.ensures ∙ b.if2.false, le-ltb _ _ b.before.before.if1.false)))
+    (λ c body. let b = c.before in simp (c.moved.ensures, sym b.before.in_range.ensures ∙ b.if-in_range.true, le-ltb _ _ b.before.before.if-u-gt64511.false))
+    (λ c body. let b = c.before in c.refused-else-in_range.ensures body ∙ simp (sym b.before.in_range.ensures ∙ b.if-in_range.false, le-ltb _ _ b.before.before.if-u-gt64511.false)))

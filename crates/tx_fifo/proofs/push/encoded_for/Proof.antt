@@ -11,5 +11,5 @@ unfolding encoding_for
 encoded_for_spec =
     tie.close
     (tie.spec (λ c κs. search rules) (λ c κs. search rules) (λ c κs. search rules)
-    (λ c. let b = c.before.before in c.encode.ensures ∙ simp (sym b.before.is_fifo.ensures ∙ b.if1.true))
-    (λ c. let b = c.before.before in simp (c.clear.ensures, sym b.before.is_fifo.ensures ∙ b.if1.false)))
+    (λ c. let b = c.before.before in c.encode.ensures ∙ simp (sym b.before.is_fifo.ensures ∙ b.if-is_fifo.true))
+    (λ c. let b = c.before.before in simp (c.clear.ensures, sym b.before.is_fifo.ensures ∙ b.if-is_fifo.false)))

@@ -12,4 +12,4 @@ unfolding start_of
 push_start_spec =
     tie.close
     (tie.spec (λ c κs. search rules) (λ c κs. search rules)
-    (λ c. c.begun.ensures _ ∙ ap (begun _ _ PushAt.Control) c.before.encoded_for.ensures))
+    (λ c. c.begun.ensures _ ∙ ap (begun _ _ PushAt.Control) c.before.encoded_for-e.ensures))

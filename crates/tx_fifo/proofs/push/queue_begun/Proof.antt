@@ -11,4 +11,4 @@ unfolding queue_start_at
 queue_begun_spec =
     tie.close
     (tie.spec (λ c κs. search rules) (λ c κs. search rules)
-    (λ c. c.begun.ensures _ ∙ ap (begun 0 _ _) c.before.encode.ensures))
+    (λ c. c.begun.ensures _ ∙ ap (begun 0 _ _) c.before.encode-e.ensures))

@@ -9,5 +9,5 @@ pub sends_spec : {M : Type 1} → statement M
 sends_spec =
     tie.close
     (tie.spec (λ c κs. search rules)
-    (λ c. simp (eq-eqb _ _ c.if1.true))
-    (λ c. simp (c.txen.ensures, ne_eqb _ _ c.before.if1.false)))
+    (λ c. simp (eq-eqb _ _ c.if-fifo-eq0.true))
+    (λ c. simp (c.txen.ensures, ne_eqb _ _ c.before.if-fifo-eq0.false)))
