@@ -26,6 +26,7 @@ fn in_ram(a: u32, n: usize) -> bool
     false
 }
 
+#[tactic(auto, unfolding(crate::specs::Operation::read_at))]
 fn read_at(a: u32, want: usize) -> Operation
     ensures { result ≡ read_at a want }
 {
@@ -41,6 +42,7 @@ fn read_at(a: u32, want: usize) -> Operation
     }
 }
 
+#[tactic(auto, unfolding(crate::specs::Operation::write_at))]
 fn write_at(a: u32, s: &[u8]) -> Operation
     requires { 2 ≤ length s.now }
     ensures { result ≡ write_at a s.now }
@@ -57,6 +59,7 @@ fn write_at(a: u32, s: &[u8]) -> Operation
     }
 }
 
+#[tactic(auto, unfolding(crate::specs::Operation::checked_at))]
 fn checked_at(a: u32, s: &[u8], want: usize) -> Operation
     ensures { result ≡ checked_at a s.now want }
 {

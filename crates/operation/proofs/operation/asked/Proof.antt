@@ -10,5 +10,5 @@ pub asked_spec : {M : Type 1} → statement M
 unfolding asked
 asked_spec =
     tie.close
-    (tie.spec (λ c. simp (lt-ltb _ _ c.if1.true))
+    (tie.spec (λ c. simp (lt-ltb _ _ c.if-s-lt2.true))
     (λ c κs. search rules) (search rules) (λ c κs. search rules) (λ c κs. search rules) (λ c κs. search rules) (λ c. search rules))

@@ -11,5 +11,5 @@ unfolding in_ram
 in_ram_spec =
     tie.close
     (tie.spec (λ c κs. search rules)
-    (λ c. simp (sym c.before.in_range.ensures ∙ c.if1.true))
-    (λ c. simp (sym c.before.in_range.ensures ∙ c.if1.false)))
+    (λ c. simp (sym c.before.in_range.ensures ∙ c.if-in_range.true))
+    (λ c. simp (sym c.before.in_range.ensures ∙ c.if-in_range.false)))

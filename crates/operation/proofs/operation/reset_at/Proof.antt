@@ -9,7 +9,7 @@ pub reset_at_spec : {M : Type 1} → statement M
 unfolding reset_at
 reset_at_spec =
     tie.close
-    (tie.spec (λ c. simp (ne_eqb _ _ c.if1.true))
-    (λ c. simp (ne_eqb _ _ c.if2.true, eq-eqb _ _ c.before.if1.false))
-    (λ c. simp (ne_eqb _ _ c.if3.true, eq-eqb _ _ c.before.if2.false, eq-eqb _ _ c.before.before.if1.false))
-    (λ c. simp (eq-eqb _ _ c.if3.false, eq-eqb _ _ c.before.if2.false, eq-eqb _ _ c.before.before.if1.false)))
+    (tie.spec (λ c. simp (ne_eqb _ _ c.if-a-ne0.true))
+    (λ c. simp (ne_eqb _ _ c.if-s-ne2.true, eq-eqb _ _ c.before.if-a-ne0.false))
+    (λ c. simp (ne_eqb _ _ c.if-want-ne0.true, eq-eqb _ _ c.before.if-s-ne2.false, eq-eqb _ _ c.before.before.if-a-ne0.false))
+    (λ c. simp (eq-eqb _ _ c.if-want-ne0.false, eq-eqb _ _ c.before.if-s-ne2.false, eq-eqb _ _ c.before.before.if-a-ne0.false)))
