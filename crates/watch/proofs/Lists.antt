@@ -1,13 +1,11 @@
--- Facts on lists that the walks use.
+-- What a step over a list begins with.
 -- Assumes nothing.
 use mathlib.Core.Path.{◌≡◌, refl, sym, subst}
-use Prim.Native.Nat.{ℕ, ◌+◌, ◌^◌, ◌≤◌, ◌<◌}
-use native.Mathlib.Numerals.{add-one}
-use mathlib.Core.Bool.{Bool, true, false, not, ◌&&◌}
+use Prim.Native.Nat.{ℕ, ◌+◌, ◌^◌, ◌<◌}
+use mathlib.Core.Bool.{Bool, true, false, ◌&&◌}
 use mathlib.Core.List.{List}
-use lib.Dec.{T, eqb, ltb, ltb→lt, nltb→le}
-use lib.ListN.{length, get_or, drop, get_or-eq_default, drop_of_length-le}
-use lib.Seq.{drop-cons}
+use lib.Dec.{T, eqb, ltb, ltb→lt}
+use lib.ListN.{length}
 use native.Mathlib.Omega.{arith}
 use borrow.Author.Tests.{eqb-false, lt-ltb}
 use Rattle.laws.specs.If.{if◌then◌else◌}
@@ -20,31 +18,8 @@ use Rattle.watch.specs.Watch.{blank, all_carried, place_in, entry_in, turned_dow
 use Rattle.watch.specs.declared.Watch.{Watch}
 use Rattle.watch.specs.declared.Begun.{Begun}
 
--- beyond the end stands the default
-pub beyond : {X : Type 0} (xs : List X) (i : ℕ) (d : X) → length xs ≤ i → d ≡ get_or xs i d
-beyond xs i d h = sym (get_or-eq_default xs d h)
-
-pub below : (i n : ℕ) → ltb i n ≡ true → i < n
+below : (i n : ℕ) → ltb i n ≡ true → i < n
 below i n e = ltb→lt i n (subst T (sym e) tt)
-
-pub above : (i n : ℕ) → ltb i n ≡ false → n ≤ i
-above i n e = nltb→le i n (subst (λ (z : Bool). T (not z)) (sym e) tt)
-
-assoc : (a b c : Bool) → ((a && b) && c) ≡ (a && (b && c))
-assoc true b c = refl
-assoc false b c = refl
-
-unit : (a : Bool) → (a && true) ≡ a
-unit true = refl
-unit false = refl
-
--- a turn of `all_carried`: the entry at i is tried
-pub turned : (ok : Bool) (ws : List Watch) (i : ℕ) → i < length ws → ((ok && is_carried (get_or ws i blank).address) && all_carried (drop (i + 1) ws)) ≡ (ok && all_carried (drop i ws))
-turned ok ws i l = rw (add-one, drop-cons ws i blank, assoc)
-
--- and its end
-pub ended : (ok : Bool) (ws : List Watch) (i : ℕ) → length ws ≤ i → (ok && all_carried (drop i ws)) ≡ ok
-ended ok ws i l = rw (drop_of_length-le ws l, unit)
 
 -- what `started` is asked for by `scrub_start`
 abbrev pub begun_of : ℕ → List Watch → Begun

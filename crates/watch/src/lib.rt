@@ -1,5 +1,5 @@
-// A lent list of watch entries, and where a scrub step begins in it. A function that has the slice is proved by hand, so these are few
-// and thin: an entry is read at a place, the addresses are tried one after the other, and a step begins. All else takes plain values.
+// A lent list of watch entries, and where a scrub step begins in it. The functions that have the slice are few and
+// thin: an entry is read at a place, the addresses are tried one after the other, and a step begins. All else takes plain values.
 #![tactic(auto)]
 
 ghost use Rattle.std.specs.Prelude.{◌≡◌, ◌+◌, ◌&&◌, get_or, eqb, ltb};
