@@ -116,6 +116,7 @@ pub fn refused(c: FetchNumbers, why: Refusal) -> FetchNumbers
 }
 
 // TXEN is looked at only here, in the first control word.
+#[tactic(auto, unfolding(crate::specs::Step::after_control))]
 fn after_control(c: FetchNumbers, reply: OneWord) -> FetchNumbers
     ensures { standing result ≡ (c.fifo, c.want, on_word FetchAt.Refused reply after_control) }
 {
@@ -151,6 +152,7 @@ fn to_address(c: FetchNumbers, next: bool) -> FetchNumbers
     }
 }
 
+#[tactic(auto, unfolding(crate::specs::Step::after_status))]
 fn after_status(c: FetchNumbers, reply: OneWord) -> FetchNumbers
     ensures { standing result ≡ (c.fifo, c.want, on_word FetchAt.Refused reply (after_status c.want)) }
 {
@@ -268,6 +270,7 @@ fn after_again(c: FetchNumbers, reply: OneWord) -> FetchNumbers
     }
 }
 
+#[tactic(auto, unfolding(crate::specs::Step::after_time))]
 fn after_time(c: FetchNumbers, reply: OneWord) -> FetchNumbers
     ensures { standing result ≡ (c.fifo, c.want, on_word FetchAt.Refused reply (after_time c.m (found_in c))) }
 {
@@ -333,6 +336,7 @@ fn word(answer: Answer, rx: &[u8]) -> OneWord
 }
 
 // After the end every answer is wrong.
+#[tactic(auto, using(crate::proofs::Others::takes_none))]
 pub fn next_at(c: FetchNumbers, answer: Answer, rx: &[u8]) -> FetchNumbers
     ensures { standing result ≡ (c.fifo, c.want, next_at c.want (fetch_at c) answer rx.now) }
 {

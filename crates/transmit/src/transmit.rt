@@ -121,6 +121,7 @@ fn requested(fifo: u8, w: u32) -> u32
     FifoControl(w).with_txreq(true).0
 }
 
+#[tactic(auto, using(crate::proofs::Requests::at_end), unfolding(plan::specs::Step::step_of))]
 fn request_step(p: PushNumbers, request: RequestStage, answer: Answer, rx: &[u8]) -> TransmitNumbers
     ensures { RequestSteps p request answer rx.now result }
 {

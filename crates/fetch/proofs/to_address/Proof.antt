@@ -8,5 +8,5 @@ pub to_address_spec : {M : Type 1} → statement M
 to_address_spec =
     tie.close
     (tie.spec (λ c κs. search rules) (λ c κs. search rules)
-    (λ c. simp (c.at_stage.ensures, c.before.if1.true))
-    (λ c. simp (c.at_stage2.ensures, c.before.if1.false)))
+    (λ c. simp (c.at_stage.ensures, c.before.if-next.true))
+    (λ c. simp (c.at_stage-else-next.ensures, c.before.if-next.false)))

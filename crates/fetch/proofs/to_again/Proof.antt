@@ -12,4 +12,4 @@ to_again_spec =
     tie.close
     (tie.spec (λ c κs. search rules) (λ c κs. search rules)
     (λ c. omega (arith, c.received_length_of.ensures.1))
-    (λ c. simp (c.before.at_stage.ensures, c.received_length_of.ensures.0)))
+    (λ c. simp (c.before.at_stage-n.ensures, c.received_length_of.ensures.0)))

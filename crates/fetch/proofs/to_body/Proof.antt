@@ -13,7 +13,7 @@ unfolding to_body
 to_body_spec =
     tie.close
     (tie.spec (search rules) (λ c κs. search rules) (λ c κs. search rules) (λ c κs. search rules)
-    (λ c. omega (arith, range_told c.before.before.before.before.before.args.x c.before.before.before.round_up.result (sym c.before.before.in_range.ensures ∙ c.before.if1.true)))
+    (λ c. omega (arith, range_told c.before.before.before.before.before.args.x c.before.before.before.round_up.result (sym c.before.before.in_range.ensures ∙ c.before.if-in_range.true)))
     (λ c κs. search rules)
-    (λ c. simp (c.at_stage.ensures, rw c.before.before.before.round_up.ensures at (sym c.before.before.in_range.ensures ∙ c.before.if1.true)))
-    (λ c. simp (c.refused.ensures, rw c.before.before.before.round_up.ensures at (sym c.before.before.in_range.ensures ∙ c.before.if1.false))))
+    (λ c. simp (c.at_stage-n.ensures, rw c.before.before.before.round_up.ensures at (sym c.before.before.in_range.ensures ∙ c.before.if-in_range.true)))
+    (λ c. simp (c.refused.ensures, rw c.before.before.before.round_up.ensures at (sym c.before.before.in_range.ensures ∙ c.before.if-in_range.false))))

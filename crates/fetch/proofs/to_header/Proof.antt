@@ -12,7 +12,7 @@ unfolding after_address
 to_header_spec =
     tie.close
     (tie.spec (λ c κs. search rules)
-    (λ c. simp (c.refused.ensures, lt-ltb _ _ c.before.if1.true))
+    (λ c. simp (c.refused.ensures, lt-ltb _ _ c.before.if-u-gt64511.true))
     (search rules) (λ c κs. search rules) (λ c κs. search rules) (search rules) (λ c κs. search rules)
-    (λ c. simp (c.at_stage.ensures, sym c.before.before.in_range.ensures ∙ c.before.if2.true, le-ltb _ _ c.before.before.before.if1.false))
-    (λ c. simp (c.refused2.ensures, sym c.before.before.in_range.ensures ∙ c.before.if2.false, le-ltb _ _ c.before.before.before.if1.false)))
+    (λ c. simp (c.at_stage-n.ensures, sym c.before.before.in_range.ensures ∙ c.before.if-in_range.true, le-ltb _ _ c.before.before.before.if-u-gt64511.false))
+    (λ c. simp (c.refused-else-in_range.ensures, sym c.before.before.in_range.ensures ∙ c.before.if-in_range.false, le-ltb _ _ c.before.before.before.if-u-gt64511.false)))

@@ -8,5 +8,5 @@ pub to_rest_spec : {M : Type 1} → statement M
 to_rest_spec =
     tie.close
     (tie.spec (search rules) (search rules) (λ c κs. search rules) (λ c κs. search rules)
-    (λ c. simp (c.to_time.ensures, c.before.if1.true))
-    (λ c. simp (c.to_body.ensures, c.before.if1.false)))
+    (λ c. simp (c.to_time.ensures, c.before.if-stamped.true))
+    (λ c. simp (c.to_body.ensures, c.before.if-stamped.false)))

@@ -13,7 +13,7 @@ unfolding to_time
 to_time_spec =
     tie.close
     (tie.spec (λ c κs. search rules) (λ c κs. search rules)
-    (λ c. omega (arith, range_told c.before.before.before.args.x 4 (sym c.before.before.in_range.ensures ∙ c.before.if1.true)))
+    (λ c. omega (arith, range_told c.before.before.before.args.x 4 (sym c.before.before.in_range.ensures ∙ c.before.if-in_range.true)))
     (λ c κs. search rules)
-    (λ c. simp (c.at_stage.ensures, sym c.before.before.in_range.ensures ∙ c.before.if1.true))
-    (λ c. simp (c.refused.ensures, sym c.before.before.in_range.ensures ∙ c.before.if1.false)))
+    (λ c. simp (c.at_stage-n.ensures, sym c.before.before.in_range.ensures ∙ c.before.if-in_range.true))
+    (λ c. simp (c.refused.ensures, sym c.before.before.in_range.ensures ∙ c.before.if-in_range.false)))

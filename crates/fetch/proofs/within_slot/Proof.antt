@@ -11,6 +11,6 @@ unfolding after_again
 within_slot_spec =
     tie.close
     (tie.spec (λ c κs. search rules) (search rules) (λ c κs. search rules)
-    (λ c. simp (c.refused.ensures, lt-ltb _ _ (rw c.before.before.before.payload_size.ensures at c.before.if1.true)))
+    (λ c. simp (c.refused.ensures, lt-ltb _ _ (rw c.before.before.before.payload_size.ensures at c.before.if-payload_size-c.true)))
     (λ c κs. search rules) (λ c κs. search rules)
-    (λ c. simp (c.to_rest.ensures, le-ltb _ _ (rw c.before.before.before.before.payload_size.ensures at c.before.before.if1.false), c.before.rxtsen.ensures)))
+    (λ c. simp (c.to_rest.ensures, le-ltb _ _ (rw c.before.before.before.before.payload_size.ensures at c.before.before.if-payload_size-c.false), c.before.rxtsen.ensures)))

@@ -8,8 +8,8 @@ pub request_ask_spec : {M : Type 1} → statement M
 request_ask_spec =
     tie.close
     (tie.spec (search rules) (λ c κs. search rules) (search rules) (λ c κs. search rules) (search rules) (search rules) (search rules)
-    (λ c. simp (c.address.ensures, c.before.enum_told.given.1))
-    (λ c. simp (c.address2.ensures, c.before.enum_told2.given.1))
-    (λ c. simp c.enum_told3.given.1)
-    (λ c. simp c.enum_told4.given.1)
-    (λ c. simp c.enum_told5.given.1))
+    (λ c. simp (c.address.ensures, c.before.in-Read.is))
+    (λ c. simp (c.address-in-Write.ensures, c.before.in-Write.is))
+    (λ c. simp c.in-Done.is)
+    (λ c. simp c.in-Late.is)
+    (λ c. simp c.in-Refused.is))

@@ -8,8 +8,8 @@ pub request_outcome_spec : {M : Type 1} → statement M
 request_outcome_spec =
     tie.close
     (tie.spec (search rules) (search rules) (search rules) (search rules) (search rules)
-    (λ c. simp c.enum_told.given.1)
-    (λ c. simp c.enum_told2.given.1)
-    (λ c. simp c.enum_told3.given.1)
-    (λ c. simp c.enum_told4.given.1)
-    (λ c. simp c.enum_told5.given.1))
+    (λ c. simp c.in-Read.is)
+    (λ c. simp c.in-Write.is)
+    (λ c. simp c.in-Done.is)
+    (λ c. simp c.in-Late.is)
+    (λ c. simp c.in-Refused.is))

@@ -11,5 +11,5 @@ unfolding transmit_outcome
 transmit_outcome_spec =
     tie.close
     (tie.spec (λ c κs. search rules) (λ c κs. search rules) (λ c κs. search rules)
-    (λ c. simp (c.request_outcome.ensures, sym c.before.before.push_done.ensures ∙ c.before.if1.true))
-    (λ c. simp (c.push_outcome.ensures, sym c.before.before.push_done.ensures ∙ c.before.if1.false)))
+    (λ c. simp (c.request_outcome.ensures, sym c.before.before.push_done.ensures ∙ c.before.if-push_done.true))
+    (λ c. simp (c.push_outcome.ensures, sym c.before.before.push_done.ensures ∙ c.before.if-push_done.false)))

@@ -13,4 +13,4 @@ unfolding transmit_start start_of
 transmit_start_spec =
     tie.close
     (tie.spec (λ c κs. search rules) (λ c κs. search rules)
-    (λ c. c.with_request.ensures _ ∙ ap begun c.before.push_start.ensures))
+    (λ c. c.with_request.ensures _ ∙ ap begun c.before.push_start-p.ensures))

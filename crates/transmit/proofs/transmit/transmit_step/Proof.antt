@@ -13,5 +13,5 @@ unfolding transmit_step step_of
 transmit_step_spec =
     tie.close
     (tie.spec (λ c κs. search rules) (λ c κs. search rules) (λ c κs. search rules) (λ c κs. search rules)
-    (λ c body. let b = c.before in c.request_step.ensures body ∙ simp (is_done_lem b.before.before.before.before.args.c.push (sym b.before.push_done.ensures ∙ b.if1.true)))
-    (λ c body. let b = c.before.before in c.with_request.ensures body ∙ ap begun (c.before.push_step.ensures body) ∙ simp (sym b.before.push_done.ensures ∙ b.if1.false)))
+    (λ c body. let b = c.before in c.request_step.ensures body ∙ simp (is_done_lem b.before.before.before.before.args.c.push (sym b.before.push_done.ensures ∙ b.if-push_done.true)))
+    (λ c body. let b = c.before.before in c.with_request.ensures body ∙ ap begun (c.before.push_step.ensures body) ∙ simp (sym b.before.push_done.ensures ∙ b.if-push_done.false)))

@@ -13,6 +13,6 @@ unfolding request_start arrived_at
 with_request_spec =
     tie.close
     (tie.spec (λ c κs. search rules) (search rules) (λ c κs. search rules) (λ c κs. search rules)
-    (λ c body. let b = c.before.before.before in simp (sym c.before.is_fifo.ensures ∙ c.if2.true, sym b.before.push_done.ensures ∙ b.if1.true))
-    (λ c body. let b = c.before.before.before.before in simp (c.requesting.ensures, sym c.before.before.is_fifo.ensures ∙ c.before.if2.false, is_done_lem b.before.before.args.p (sym b.before.push_done.ensures ∙ b.if1.true)))
-    (λ c body. simp (sym c.before.push_done.ensures ∙ c.if1.false)))
+    (λ c body. let b = c.before.before.before in simp (sym c.before.is_fifo.ensures ∙ c.if-is_fifo.true, sym b.before.push_done.ensures ∙ b.if-push_done.true))
+    (λ c body. let b = c.before.before.before.before in simp (c.requesting.ensures, sym c.before.before.is_fifo.ensures ∙ c.before.if-is_fifo.false, is_done_lem b.before.before.args.p (sym b.before.push_done.ensures ∙ b.if-push_done.true)))
+    (λ c body. simp (sym c.before.push_done.ensures ∙ c.if-push_done.false)))
