@@ -100,6 +100,7 @@ fn queue_address_word(m: Model) -> u32
     0
 }
 
+#[tactic(auto, unfolding(crate::specs::Registers::word_of))]
 pub fn word(m: Model, r: Register) -> u32
     ensures { result ≡ word_of m r }
 {

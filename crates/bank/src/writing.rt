@@ -193,6 +193,7 @@ fn with_mask(m: Model, k: usize, w: u32) -> Model
     with_setup(m, s)
 }
 
+#[tactic(auto, unfolding(crate::specs::Registers::register_written))]
 pub fn registered(m: Model, r: Register, w: u32) -> Written
     ensures { result ≡ register_written m r w }
 {

@@ -9,6 +9,6 @@ pub address_word_spec : {M : Type 1} → statement M
 unfolding word_of
 address_word_spec =
     tie.close
-    (tie.spec (λ c. simp c.if1.true)
+    (tie.spec (λ c. simp c.if-m.true)
     (λ c κs. search rules) (λ c. search rules)
-    (λ c. simp (c.shown_at.ensures.0, c.before.if1.false)))
+    (λ c. simp (c.shown_at.ensures.0, c.before.if-m.false)))

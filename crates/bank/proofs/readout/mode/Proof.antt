@@ -10,6 +10,6 @@ pub mode_spec : {M : Type 1} → statement M
 unfolding mode_of
 mode_spec =
     tie.close
-    (tie.spec (λ c. (rw c.if1.true, search rules))
+    (tie.spec (λ c. (rw c.if-m.true, search rules))
     (λ c κs. search rules)
-    (λ c. (rw c.before.if1.false c.reqop.ensures, rw c.reqop.ensures (field_lt c.before.before.args.m.setup.con 24 3))))
+    (λ c. (rw c.before.if-m.false c.reqop.ensures, rw c.reqop.ensures (field_lt c.before.before.args.m.setup.con 24 3))))

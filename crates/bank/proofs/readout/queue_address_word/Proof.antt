@@ -11,5 +11,5 @@ unfolding word_of
 queue_address_word_spec =
     tie.close
     (tie.spec (λ c κs. search rules) (λ c κs. search rules) (λ c. search rules)
-    (λ c. simp (c.queue_shown.ensures.0, sym c.before.before.queue_acts.ensures ∙ c.before.if1.true))
-    (λ c. simp (sym c.before.queue_acts.ensures ∙ c.if1.false)))
+    (λ c. simp (c.queue_shown.ensures.0, sym c.before.before.queue_acts.ensures ∙ c.before.if-queue_acts.true))
+    (λ c. simp (sym c.before.queue_acts.ensures ∙ c.if-queue_acts.false)))

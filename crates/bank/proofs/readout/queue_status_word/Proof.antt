@@ -11,5 +11,5 @@ unfolding word_of
 queue_status_word_spec =
     tie.close
     (tie.spec (λ c κs. search rules) (λ c κs. search rules) (λ c κs. search rules)
-    (λ c. simp (c.status.ensures, c.before.frozen_at.ensures, sym c.before.before.before.before.queue_acts.ensures ∙ c.before.before.before.if1.true))
-    (λ c. simp (sym c.before.queue_acts.ensures ∙ c.if1.false)))
+    (λ c. simp (c.status.ensures, c.before.frozen_at.ensures, sym c.before.before.before.before.queue_acts.ensures ∙ c.before.before.before.if-queue_acts.true))
+    (λ c. simp (sym c.before.queue_acts.ensures ∙ c.if-queue_acts.false)))

@@ -9,6 +9,6 @@ pub status_word_spec : {M : Type 1} → statement M
 unfolding word_of
 status_word_spec =
     tie.close
-    (tie.spec (λ c. simp c.if1.true)
+    (tie.spec (λ c. simp c.if-m.true)
     (λ c κs. search rules) (λ c κs. search rules) (λ c κs. search rules)
-    (λ c. simp (c.status.ensures, c.before.fifo_at.ensures, c.before.before.frozen_at.ensures, c.before.before.before.if1.false)))
+    (λ c. simp (c.status.ensures, c.before.fifo_at.ensures, c.before.before.frozen_at.ensures, c.before.before.before.if-m.false)))

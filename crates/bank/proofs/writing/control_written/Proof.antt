@@ -10,6 +10,6 @@ unfolding control_written
 control_written_spec =
     tie.close
     (tie.spec (λ c κs. search rules) (λ c κs. search rules) (λ c κs. search rules) (λ c κs. search rules)
-    (λ c. rw (c.with_fifo.ensures, c.before.configured.ensures, c.before.before.with_frozen.ensures, c.before.before.before.if1.true, c.before.before.before.before.fifo_at.ensures))
+    (λ c. rw (c.with_fifo.ensures, c.before.configured.ensures, c.before.before.with_frozen.ensures, c.before.before.before.if-m.true, c.before.before.before.before.fifo_at-f.ensures))
     (λ c κs. search rules) (λ c κs. search rules) (λ c κs. search rules)
-    (λ c. rw (c.with_fifo2.ensures, c.before.commanded.ensures, c.before.before.frozen_at.ensures, c.before.before.before.if1.false, c.before.before.before.before.fifo_at.ensures)))
+    (λ c. rw (c.with_fifo-2.ensures, c.before.commanded.ensures, c.before.before.frozen_at.ensures, c.before.before.before.if-m.false, c.before.before.before.before.fifo_at-f.ensures)))

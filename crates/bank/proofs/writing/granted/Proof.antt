@@ -11,6 +11,6 @@ unfolding granted
 granted_spec =
     tie.close
     (tie.spec (λ c κs. search rules)
-    (λ c. simp (sym c.before.stef.ensures ∙ c.if1.true))
+    (λ c. simp (sym c.before.stef.ensures ∙ c.if-stef.true))
     (λ c κs. search rules) (λ c κs. search rules)
-    (λ c. simp (c.end.ensures.0, c.before.txqen.ensures, sym c.before.before.before.before.stef.ensures ∙ c.before.before.before.if1.false)))
+    (λ c. simp (c.end.ensures.0, c.before.txqen.ensures, sym c.before.before.before.before.stef.ensures ∙ c.before.before.before.if-stef.false)))

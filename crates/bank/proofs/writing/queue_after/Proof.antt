@@ -8,5 +8,5 @@ pub queue_after_spec : {M : Type 1} → statement M
 queue_after_spec =
     tie.close
     (tie.spec (λ c κs. search rules)
-    (λ c. rw c.before.if1.true c.txqen.ensures)
-    (λ c. rw c.if1.false))
+    (λ c. rw c.before.if-configuring.true c.txqen.ensures)
+    (λ c. rw c.if-configuring.false))

@@ -10,6 +10,6 @@ unfolding queue_written
 queue_written_spec =
     tie.close
     (tie.spec (λ c κs. search rules) (λ c κs. search rules) (λ c κs. search rules) (λ c κs. search rules)
-    (λ c. rw (c.with_queue.ensures, c.before.configured.ensures, c.before.before.with_frozen.ensures, c.before.before.before.with_txen.ensures, c.before.before.before.before.if1.true))
+    (λ c. rw (c.with_queue.ensures, c.before.configured.ensures, c.before.before.with_frozen.ensures, c.before.before.before.with_txen-frozen.ensures, c.before.before.before.before.if-m.true))
     (λ c κs. search rules) (λ c κs. search rules) (λ c κs. search rules)
-    (λ c. rw (c.with_queue2.ensures, c.before.commanded.ensures, c.before.before.frozen_at.ensures, c.before.before.before.if1.false)))
+    (λ c. rw (c.with_queue-2.ensures, c.before.commanded.ensures, c.before.before.frozen_at.ensures, c.before.before.before.if-m.false)))

@@ -11,6 +11,6 @@ unfolding status_written
 status_written_spec =
     tie.close
     (tie.spec (λ c κs. search rules)
-    (λ c. simp (sym c.before.rxovif.ensures ∙ c.if1.true))
+    (λ c. simp (sym c.before.rxovif.ensures ∙ c.if-rxovif.true))
     (λ c κs. search rules) (λ c κs. search rules) (λ c κs. search rules)
-    (λ c. simp (c.with_fifo.ensures, c.before.overflowed.ensures, c.before.before.fifo_at.ensures, sym c.before.before.before.before.rxovif.ensures ∙ c.before.before.before.if1.false)))
+    (λ c. simp (c.with_fifo.ensures, c.before.overflowed.ensures, c.before.before.fifo_at.ensures, sym c.before.before.before.before.rxovif.ensures ∙ c.before.before.before.if-rxovif.false)))

@@ -8,4 +8,4 @@ pub with_con_spec : {M : Type 1} → statement M
 with_con_spec =
     tie.close
     (tie.spec (λ c κs. search rules)
-    (λ c. rw c.before.before.before.queue_after.ensures))
+    (λ c. rw c.before.before.before.queue_after-queue.ensures))
