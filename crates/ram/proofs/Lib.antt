@@ -1,4 +1,3 @@
-mod Arms
 mod Tests
 mod Pattern
 pub mod Laws

@@ -76,6 +76,7 @@ fn is_inside(place: usize, count: usize, room: usize) -> bool
 }
 
 // The buffer is tested before the address.
+#[tactic(auto, using(crate::proofs::Tests::access_fits), unfolding(crate::specs::Step::read_start))]
 pub fn read_ram_start(address: u32, room: usize, place: usize, count: usize) -> RamNumbers
     ensures { ram_of result ≡ read_start address room place count }
 {
@@ -90,6 +91,7 @@ pub fn read_ram_start(address: u32, room: usize, place: usize, count: usize) -> 
 }
 
 // The bytes to write are the call's body: the caller lends them when they are sent.
+#[tactic(auto, using(crate::proofs::Tests::access_fits), unfolding(crate::specs::Step::write_start))]
 pub fn write_ram_start(address: u32, count: usize) -> RamNumbers
     ensures { ram_of result ≡ write_start address count }
 {
@@ -127,6 +129,7 @@ pub fn echo_pattern() -> [u8; 128]
     p
 }
 
+#[tactic(auto, unfolding(crate::specs::Step::ask_of))]
 pub fn ram_ask(c: RamNumbers) -> Ask
     ensures { result ≡ ask_of (ram_of c) }
 {
@@ -205,6 +208,7 @@ fn when_echoed(reply: Done, rx: &[u8]) -> RamNumbers
 }
 
 // A failed read is told as 1, a failed write as 2.
+#[tactic(auto, unfolding(crate::specs::Step::step_of))]
 pub fn ram_step(c: RamNumbers, answer: Answer, rx: &[u8]) -> RamNumbers
     ensures { ram_of result ≡ step_of (ram_of c) answer rx.now }
 {
@@ -228,6 +232,7 @@ pub fn ram_step(c: RamNumbers, answer: Answer, rx: &[u8]) -> RamNumbers
     }
 }
 
+#[tactic(auto, unfolding(crate::specs::Step::outcome_of))]
 pub fn ram_outcome(c: RamNumbers) -> Outcome
     ensures { result ≡ outcome_of (ram_of c) }
 {
@@ -258,6 +263,7 @@ fn finish_part(place: usize, count: usize, rx: &[u8], buf: &mut [u8]) -> Outcome
 }
 
 // What a read received goes to its part of the lent buffer; any other call changes no byte.
+#[tactic(auto, unfolding(crate::specs::Step::outcome_of, crate::specs::Step::finished_as, crate::specs::Step::filled_by))]
 pub fn ram_finish(c: RamNumbers, rx: &[u8], buf: &mut [u8]) -> Outcome
     ensures { (result ≡ finished_as (ram_of c) (length rx.now) (length buf.old)) × (buf.new ≡ filled_by (ram_of c) rx.now buf.old) }
 {

@@ -11,5 +11,5 @@ unfolding after_echo
 after_echo_spec =
     tie.close
     (tie.spec (λ c κs. search rules) (λ c κs. search rules) (λ c κs. search rules)
-    (λ c. simp (c.at_stage.ensures, sym c.before.before.is_echo.ensures ∙ c.before.if1.true))
-    (λ c. simp (c.refused.ensures, sym c.before.before.is_echo.ensures ∙ c.before.if1.false)))
+    (λ c. simp (c.at_stage.ensures, sym c.before.before.is_echo.ensures ∙ c.before.if-is_echo.true))
+    (λ c. simp (c.refused.ensures, sym c.before.before.is_echo.ensures ∙ c.before.if-is_echo.false)))

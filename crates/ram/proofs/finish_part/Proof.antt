@@ -21,17 +21,17 @@ finish_part_spec =
     (λ c κs.
     let i = c.before.before.before in
     let a = i.before.before.before.args in
-    omega (arith, leb-true (a.place + a.count) (length a.buf.now) (sym i.is_inside.ensures ∙ c.before.before.if1.true)))
+    omega (arith, leb-true (a.place + a.count) (length a.buf.now) (sym i.is_inside.ensures ∙ c.before.before.if-is_inside.true)))
     (search rules)
     (λ c.
     let b = c.before.before.before.before in
-    let in_it = sym b.before.before.is_inside.ensures ∙ b.before.if1.true in
-    let all = eq-eqb _ _ b.if2.true in
+    let in_it = sym b.before.before.is_inside.ensures ∙ b.before.if-is_inside.true in
+    let all = eq-eqb _ _ b.if-rx-count.true in
     (simp (in_it, all), simp (c.before.before.put_at.ensures, in_it, all)))
     (λ c.
-    let in_it = sym c.before.before.is_inside.ensures ∙ c.before.if1.true in
-    (simp (in_it, ne_eqb _ _ c.if2.false), simp (ne_eqb _ _ c.if2.false)))
+    let in_it = sym c.before.before.is_inside.ensures ∙ c.before.if-is_inside.true in
+    (simp (in_it, ne_eqb _ _ c.if-rx-count.false), simp (ne_eqb _ _ c.if-rx-count.false)))
     (λ c.
     let a = c.before.before.before.before.args in
-    let out = sym c.before.is_inside.ensures ∙ c.if1.false in
+    let out = sym c.before.is_inside.ensures ∙ c.if-is_inside.false in
     (simp out, simp out (by_if (λ (l : List ℕ). a.buf.now ≡ l) (eqb (length a.rx.now) a.count) (λ e. refl) (λ e. refl)))))

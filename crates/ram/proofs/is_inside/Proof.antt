@@ -12,4 +12,4 @@ pub is_inside_spec : {M : Type 1} → statement M
 is_inside_spec =
     tie.close
     (tie.spec (λ c. let a = c.before.args in sym (lt-leb (a.place + a.count) a.room (omega arith)))
-    (λ c. let a = c.before.args in no_wrap a.place a.count a.room c.if1.false))
+    (λ c. let a = c.before.args in no_wrap a.place a.count a.room c.if-room-place.false))
