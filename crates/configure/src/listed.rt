@@ -45,6 +45,7 @@ pub fn put_words(body: &mut [u8; 76], k: usize, u: u32, v: u32, w: u32)
     put_word(body, k + 2, w);
 }
 
+#[tactic(auto, unfolding(crate::specs::Numbers::items_for))]
 pub fn count_of(c: PlanNumbers) -> u8
     ensures { Counts c result }
 {
@@ -103,6 +104,7 @@ fn oscillator_item(c: PlanNumbers, i: u8) -> Item
     }
 }
 
+#[tactic(auto, unfolding(crate::specs::Numbers::items_for))]
 fn timing_item(c: PlanNumbers, i: u8, body: &[u8; 76]) -> Item
     requires { i < 3 }
     ensures { result ≡ get_or (items_for PlanKind.Timing c.n (change_in c) body.now) i Item.Nothing }
@@ -114,6 +116,7 @@ fn timing_item(c: PlanNumbers, i: u8, body: &[u8; 76]) -> Item
     }
 }
 
+#[tactic(auto, unfolding(crate::specs::Numbers::items_for))]
 fn filter_item(c: PlanNumbers, i: u8, body: &[u8; 76]) -> Item
     requires { i < 4 }
     ensures { result ≡ get_or (items_for PlanKind.Filter c.n (change_in c) body.now) i Item.Nothing }
@@ -158,6 +161,7 @@ fn dncnt_item(bits: u32) -> Item
 }
 
 // Of `configure`: counter, DNCNT, RTXAT, interrupts.
+#[tactic(auto, unfolding(crate::specs::Numbers::items_for))]
 fn last_item(c: PlanNumbers, i: u8, body: &[u8; 76]) -> Item
     requires { (11 ≤ i) × (i < 15) }
     ensures { result ≡ get_or (items_for PlanKind.Configure c.n (change_in c) body.now) i Item.Nothing }
@@ -171,6 +175,7 @@ fn last_item(c: PlanNumbers, i: u8, body: &[u8; 76]) -> Item
 }
 
 // Bit timing, STEF and TXQEN off, and the last ones.
+#[tactic(auto, unfolding(crate::specs::Numbers::items_for))]
 fn later_item(c: PlanNumbers, i: u8, body: &[u8; 76]) -> Item
     requires { (6 ≤ i) × (i < 15) }
     ensures { result ≡ get_or (items_for PlanKind.Configure c.n (change_in c) body.now) i Item.Nothing }
@@ -186,6 +191,7 @@ fn later_item(c: PlanNumbers, i: u8, body: &[u8; 76]) -> Item
 }
 
 // Configuration mode, the echo, oscillator and IO, and the later ones.
+#[tactic(auto, unfolding(crate::specs::Numbers::items_for, field::specs::Field::with_field))]
 fn configure_item(c: PlanNumbers, i: u8, body: &[u8; 76]) -> Item
     requires { i < 15 }
     ensures { result ≡ get_or (items_for PlanKind.Configure c.n (change_in c) body.now) i Item.Nothing }
@@ -202,6 +208,7 @@ fn configure_item(c: PlanNumbers, i: u8, body: &[u8; 76]) -> Item
 }
 
 // The item at place i.
+#[tactic(auto, using(crate::proofs::Places::only, crate::proofs::Places::two), unfolding(crate::specs::Numbers::items_for))]
 pub fn item_of(c: PlanNumbers, i: u8, body: &[u8; 76]) -> Item
     requires { i < length (items_in c body.now) }
     ensures { result ≡ get_or (items_in c body.now) i Item.Nothing }

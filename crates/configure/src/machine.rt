@@ -24,6 +24,7 @@ const ECHO: u16 = 0x400;
 // How many items a plan has room for.
 const ITEMS: u8 = 15;
 
+#[tactic(auto, unfolding(crate::specs::Numbers::plan_in))]
 pub fn plan_ask(c: PlanNumbers) -> Ask
     ensures { result ≡ ask_of (plan_in c []) }
 {
@@ -131,6 +132,7 @@ fn when_done(c: PlanNumbers, reply: Done, then: PlanStage) -> PlanNumbers
     }
 }
 
+#[tactic(auto, using(crate::proofs::Stages::done_into))]
 fn next_phase(c: PlanNumbers, answer: Answer, rx: &[u8]) -> PlanNumbers
     ensures { result ≡ at_move c (next_at (failed_in c.kind) (place_in c) answer rx.now) }
 {
@@ -184,6 +186,7 @@ pub fn plan_step(c: PlanNumbers, answer: Answer, rx: &[u8], body: &[u8; 76]) -> 
     if is_next(stage) { arrive(p, body) } else { p }
 }
 
+#[tactic(auto, unfolding(crate::specs::Numbers::plan_in))]
 pub fn plan_outcome(c: PlanNumbers) -> Outcome
     ensures { result ≡ outcome_of (plan_in c []) }
 {

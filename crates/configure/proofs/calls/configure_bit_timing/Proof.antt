@@ -11,6 +11,6 @@ unfolding configure_bit_timing
 configure_bit_timing_spec =
     tie.close
     (tie.spec (λ c κs. search rules)
-    (λ c κs. sym c.before.before.timing_fits.ensures ∙ c.before.if1.true) (λ c κs. search rules)
-    (λ c. simp (c.timing_plan.ensures, sym c.before.before.before.timing_fits.ensures ∙ c.before.before.if1.true))
-    (λ c. simp (sym c.before.before.timing_fits.ensures ∙ c.before.if1.false) (c.refused_plan.ensures _)))
+    (λ c κs. sym c.before.before.timing_fits.ensures ∙ c.before.if-timing_fits.true) (λ c κs. search rules)
+    (λ c. simp (c.timing_plan.ensures, sym c.before.before.before.timing_fits.ensures ∙ c.before.before.if-timing_fits.true))
+    (λ c. simp (sym c.before.before.timing_fits.ensures ∙ c.before.if-timing_fits.false) (c.refused_plan.ensures _)))

@@ -11,12 +11,12 @@ use Rattle.configure.proofs.Begins.{begins_with, fifo_number_lem}
 use Rattle.configure.proofs.calls.configure_fifo.Statement.{statement}
 use Rattle.configure.proofs.calls.configure_fifo.Tie as tie
 
-returns : tie.Need_returns
+returns : tie.Need-returns-then-fifo_fits
 unfolding configure_fifo items_for
 returns c body =
     let fits = c.before.before in
     let known = fits.before.before in
-    simp (c.plan_with.ensures, c.before.fifo_change.ensures, sym fits.before.fifo_fits.ensures ∙ fits.if2.true, sym known.before.is_fifo.ensures ∙ known.if1.true)
+    simp (c.plan_with.ensures, c.before.fifo_change.ensures, sym fits.before.fifo_fits.ensures ∙ fits.if-fifo_fits.true, sym known.before.is_fifo.ensures ∙ known.if-is_fifo.true)
     (begins_with PlanKind.One 0 (fifo_change known.before.before.args.n known.before.before.args.c) body _ refl)
 
 pub configure_fifo_spec : {M : Type 1} → statement M
@@ -24,7 +24,7 @@ unfolding configure_fifo
 configure_fifo_spec =
     tie.close
     (tie.spec (λ c κs. search rules) (λ c κs. search rules)
-    (λ c. omega (arith, fifo_number_lem _ (sym c.before.before.before.is_fifo.ensures ∙ c.before.before.if1.true)))
-    (λ c κs. sym c.before.fifo_fits.ensures ∙ c.if2.true) (λ c κs. search rules) (λ c κs. search rules) (λ c κs. search rules) returns
-    (λ c body. simp (sym c.before.before.fifo_fits.ensures ∙ c.before.if2.false, sym c.before.before.before.before.is_fifo.ensures ∙ c.before.before.before.if1.true) (c.refused_plan.ensures body))
-    (λ c body. simp (sym c.before.before.is_fifo.ensures ∙ c.before.if1.false) (c.refused_plan2.ensures body)))
+    (λ c. omega (arith, fifo_number_lem _ (sym c.before.before.before.is_fifo.ensures ∙ c.before.before.if-is_fifo.true)))
+    (λ c κs. sym c.before.fifo_fits.ensures ∙ c.if-fifo_fits.true) (λ c κs. search rules) (λ c κs. search rules) (λ c κs. search rules) returns
+    (λ c body. simp (sym c.before.before.fifo_fits.ensures ∙ c.before.if-fifo_fits.false, sym c.before.before.before.before.is_fifo.ensures ∙ c.before.before.before.if-is_fifo.true) (c.refused_plan.ensures body))
+    (λ c body. simp (sym c.before.before.is_fifo.ensures ∙ c.before.if-is_fifo.false) (c.refused_plan-else-is_fifo.ensures body)))

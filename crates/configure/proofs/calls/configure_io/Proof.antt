@@ -10,7 +10,7 @@ use Rattle.configure.proofs.Begins.{begins_with, made}
 use Rattle.configure.proofs.calls.configure_io.Statement.{statement}
 use Rattle.configure.proofs.calls.configure_io.Tie as tie
 
-returns : tie.Need_returns
+returns : tie.Need-returns
 unfolding items_for
 returns c body =
     let i = c.before.before.before.args.c in

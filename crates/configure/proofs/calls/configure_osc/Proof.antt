@@ -13,11 +13,11 @@ use Rattle.configure.proofs.Begins.{begins_with, made, pll_asked}
 use Rattle.configure.proofs.calls.configure_osc.Statement.{statement}
 use Rattle.configure.proofs.calls.configure_osc.Tie as tie
 
-returns : tie.Need_returns
+returns : tie.Need-returns
 unfolding items_for
 returns c body =
     let o = c.before.before.before.args.o in
-    let x = c.before.oscillator_change.ensures ∙ made (OSC.address 0) (oscillator_settings o) _ c.before.before.oscillator_bits.ensures in
+    let x = c.before.oscillator_change-x.ensures ∙ made (OSC.address 0) (oscillator_settings o) _ c.before.before.oscillator_bits.ensures in
     simp (c.plan_with.ensures, x)
     (begins_with PlanKind.Oscillator 0 (oscillator_change o) body _ (ap (λ on. Item.Change (oscillator_change o) ∷ when_asked on (Item.Poll Poll.Pll 2) ∷ []) (pll_asked o)))
 

@@ -16,5 +16,5 @@ unfolding disable_filter items_for
 disable_filter_spec =
     tie.close
     (tie.spec (search rules) (λ c κs. search rules) (λ c κs. search rules) (λ c κs. search rules)
-    (λ c body. simp (c.plan_with.ensures, c.before.off_change.ensures, lt-ltb _ _ c.before.before.if1.true) (begins_with PlanKind.One 0 (off_change c.before.before.before.args.f) body _ refl))
-    (λ c body. simp (le-ltb _ _ c.before.if1.false) (c.refused_plan.ensures body)))
+    (λ c body. simp (c.plan_with.ensures, c.before.off_change.ensures, lt-ltb _ _ c.before.before.if-f-lt32.true) (begins_with PlanKind.One 0 (off_change c.before.before.before.args.f) body _ refl))
+    (λ c body. simp (le-ltb _ _ c.before.if-f-lt32.false) (c.refused_plan.ensures body)))

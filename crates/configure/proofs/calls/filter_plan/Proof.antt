@@ -11,7 +11,7 @@ use Rattle.configure.proofs.Begins.{begins_with, filter_number, filter_made}
 use Rattle.configure.proofs.calls.filter_plan.Statement.{statement}
 use Rattle.configure.proofs.calls.filter_plan.Tie as tie
 
-returns : tie.Need_returns
+returns : tie.Need-returns
 unfolding items_for
 returns c =
     let put = c.before.before in

@@ -16,5 +16,5 @@ unfolding modify items_for
 modify_spec =
     tie.close
     (tie.spec (search rules) (λ c κs. search rules) (λ c κs. search rules) (λ c κs. search rules)
-    (λ c body. simp (c.plan_with.ensures, c.before.keeping.ensures, lt-ltb _ _ c.before.before.if1.true) (begins_with PlanKind.One 0 _ body [] refl))
-    (λ c body. simp (le-ltb _ _ c.before.if1.false) (c.refused_plan.ensures body)))
+    (λ c body. simp (c.plan_with.ensures, c.before.keeping.ensures, lt-ltb _ _ c.before.before.if-address-lt4096.true) (begins_with PlanKind.One 0 _ body [] refl))
+    (λ c body. simp (le-ltb _ _ c.before.if-address-lt4096.false) (c.refused_plan.ensures body)))

@@ -10,7 +10,7 @@ use Rattle.configure.proofs.Begins.{begins_with, queue_made}
 use Rattle.configure.proofs.calls.queue_plan.Statement.{statement}
 use Rattle.configure.proofs.calls.queue_plan.Tie as tie
 
-returns : tie.Need_returns
+returns : tie.Need-returns
 unfolding items_for
 returns c =
     let put = c.before.before in

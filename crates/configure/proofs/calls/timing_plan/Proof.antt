@@ -11,12 +11,12 @@ use Rattle.configure.proofs.Begins.{begins_with, made, timing_made}
 use Rattle.configure.proofs.calls.timing_plan.Statement.{statement}
 use Rattle.configure.proofs.calls.timing_plan.Tie as tie
 
-returns : tie.Need_returns
+returns : tie.Need-returns
 unfolding items_for
 returns c =
     let put = c.before.before in
     let b = put.before.before.before.before.before.before.before.args.b in
-    let nominal = put.before.before.before.before.nominal_bits.ensures in
+    let nominal = put.before.before.before.before.nominal_bits-first.ensures in
     let x = c.before.nominal_change.ensures ∙ made (CiNBTCFG.address 0) (nominal_settings b.nominal) _ nominal in
     simp (c.plan_with.ensures, x)
     (begins_with PlanKind.Timing 0 (nominal_change b.nominal) _ _

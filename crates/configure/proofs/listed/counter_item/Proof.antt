@@ -9,5 +9,5 @@ pub counter_item_spec : {M : Type 1} → statement M
 counter_item_spec =
     tie.close
     (tie.spec (λ c κs. search rules) (λ c κs. search rules)
-    (λ c. simp (c.counter_change.ensures, sym c.before.before.enabled.ensures ∙ c.before.if1.true))
-    (λ c. simp (sym c.before.enabled.ensures ∙ c.if1.false)))
+    (λ c. simp (c.counter_change.ensures, sym c.before.before.enabled.ensures ∙ c.before.if-enabled.true))
+    (λ c. simp (sym c.before.enabled.ensures ∙ c.if-enabled.false)))

@@ -9,5 +9,5 @@ pub dncnt_item_spec : {M : Type 1} → statement M
 dncnt_item_spec =
     tie.close
     (tie.spec (λ c κs. search rules)
-    (λ c. simp (eq-eqb _ _ c.if1.true))
-    (λ c. simp (c.dncnt_change.ensures, ne_eqb _ _ c.before.if1.false)))
+    (λ c. simp (eq-eqb _ _ c.if-bits-eq0.true))
+    (λ c. simp (c.dncnt_change.ensures, ne_eqb _ _ c.before.if-bits-eq0.false)))

@@ -9,5 +9,5 @@ pub mode_item_spec : {M : Type 1} → statement M
 mode_item_spec =
     tie.close
     (tie.spec (λ c κs. search rules) (search rules)
-    (λ c. simp (c.change_of.ensures, eq-eqb _ _ c.before.if1.true))
-    (λ c. simp (ne_eqb _ _ c.before.if1.false)))
+    (λ c. simp (c.change_of.ensures, eq-eqb _ _ c.before.if-i-eq0.true))
+    (λ c. simp (ne_eqb _ _ c.before.if-i-eq0.false)))

@@ -9,5 +9,5 @@ pub oscillator_item_spec : {M : Type 1} → statement M
 oscillator_item_spec =
     tie.close
     (tie.spec (λ c κs. search rules) (λ c κs. search rules)
-    (λ c. simp (c.change_of.ensures, eq-eqb _ _ c.before.if1.true))
-    (λ c. simp (c.pll_poll.ensures, ne_eqb _ _ c.before.if1.false)))
+    (λ c. simp (c.change_of.ensures, eq-eqb _ _ c.before.if-i-eq0.true))
+    (λ c. simp (c.pll_poll.ensures, ne_eqb _ _ c.before.if-i-eq0.false)))

@@ -9,5 +9,5 @@ pub pll_poll_spec : {M : Type 1} → statement M
 pll_poll_spec =
     tie.close
     (tie.spec (λ c κs. search rules)
-    (λ c. simp (sym c.before.pllen.ensures ∙ c.if1.true))
-    (λ c. simp (sym c.before.pllen.ensures ∙ c.if1.false)))
+    (λ c. simp (sym c.before.pllen.ensures ∙ c.if-pllen.true))
+    (λ c. simp (sym c.before.pllen.ensures ∙ c.if-pllen.false)))

@@ -9,4 +9,4 @@ pub put_word_spec : {M : Type 1} → statement M
 put_word_spec =
     tie.close
     (tie.spec (λ c κs. search rules) (search rules) (search rules) (λ c κs. search rules)
-    (λ c. rw (c.put_at.ensures, c.before.before.before.le_bytes.ensures) (stored _ _ _ (search rules) (search rules))))
+    (λ c. rw (c.put_at.ensures, c.before.before.before.le_bytes-bytes.ensures) (stored _ _ _ (search rules) (search rules))))

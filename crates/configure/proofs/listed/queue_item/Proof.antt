@@ -9,5 +9,5 @@ pub queue_item_spec : {M : Type 1} → statement M
 queue_item_spec =
     tie.close
     (tie.spec (λ c κs. search rules) (λ c κs. search rules) (λ c κs. search rules)
-    (λ c. simp (c.enable_change.ensures, eq-eqb _ _ c.before.if1.true))
-    (λ c. simp (c.queue_change.ensures, c.before.word.ensures, ne_eqb _ _ c.before.before.if1.false)))
+    (λ c. simp (c.enable_change.ensures, eq-eqb _ _ c.before.if-i-eq0.true))
+    (λ c. simp (c.queue_change.ensures, c.before.word.ensures, ne_eqb _ _ c.before.before.if-i-eq0.false)))

@@ -11,6 +11,6 @@ unfolding after_echo
 after_echo_spec =
     tie.close
     (tie.spec (λ c κs. search rules) (λ c κs. search rules) (search rules) (λ c κs. search rules) (λ c κs. search rules)
-    (λ c. simp (c.turned.ensures, eq-eqb _ _ c.before.if2.true, eq-eqb _ _ (rw c.before.before.before.before.echo_word.ensures at c.before.before.before.if1.true)))
-    (λ c. simp (c.turned2.ensures, ne_eqb _ _ c.before.before.if2.false, eq-eqb _ _ (rw c.before.before.before.before.before.echo_word.ensures at c.before.before.before.before.if1.true)))
-    (λ c. simp (c.refuse.ensures, ne_eqb _ _ (rw c.before.before.echo_word.ensures at c.before.if1.false))))
+    (λ c. simp (c.turned.ensures, eq-eqb _ _ c.before.if-c-eq0.true, eq-eqb _ _ (rw c.before.before.before.before.echo_word.ensures at c.before.before.before.if-w-echo_word.true)))
+    (λ c. simp (c.turned-else-c-eq0.ensures, ne_eqb _ _ c.before.before.if-c-eq0.false, eq-eqb _ _ (rw c.before.before.before.before.before.echo_word.ensures at c.before.before.before.before.if-w-echo_word.true)))
+    (λ c. simp (c.refuse.ensures, ne_eqb _ _ (rw c.before.before.echo_word.ensures at c.before.if-w-echo_word.false))))

@@ -12,7 +12,7 @@ unfolding after_poll
 after_poll_spec =
     tie.close
     (tie.spec (λ c κs. search rules) (λ c κs. search rules)
-    (λ c. simp (c.turned.ensures, sym c.before.before.is_shown.ensures ∙ c.before.if1.true)) (λ c κs. search rules) (λ c κs. search rules)
+    (λ c. simp (c.turned.ensures, sym c.before.before.is_shown.ensures ∙ c.before.if-is_shown.true)) (λ c κs. search rules) (λ c κs. search rules)
     (λ c κs. search rules) (search rules) (λ c κs. search rules)
-    (λ c. simp (c.refuse.ensures, c.before.late.ensures, eq-eqb _ _ c.before.before.if2.true, sym c.before.before.before.before.before.is_shown.ensures ∙ c.before.before.before.before.if1.false))
-    (λ c. simp (c.turned2.ensures, c.before.before.waits.ensures, ne_eqb _ _ c.before.before.before.if2.false, sym c.before.before.before.before.before.before.is_shown.ensures ∙ c.before.before.before.before.before.if1.false)))
+    (λ c. simp (c.refuse.ensures, c.before.late.ensures, eq-eqb _ _ c.before.before.if-c-eq0.true, sym c.before.before.before.before.before.is_shown.ensures ∙ c.before.before.before.before.if-is_shown.false))
+    (λ c. simp (c.turned-else-c-eq0.ensures, c.before.before.waits.ensures, ne_eqb _ _ c.before.before.before.if-c-eq0.false, sym c.before.before.before.before.before.before.is_shown.ensures ∙ c.before.before.before.before.before.if-is_shown.false)))

@@ -10,5 +10,5 @@ pub plan_step_spec : {M : Type 1} → statement M
 plan_step_spec =
     tie.close
     (tie.spec (λ c κs. search rules) (λ c κs. search rules) (λ c κs. search rules)
-    (λ c. c.arrive.ensures ∙ step_next _ _ _ _ _ c.before.before.before.next_phase.ensures (sym c.before.before.is_next.ensures ∙ c.before.if1.true))
-    (λ c. step_rests _ _ _ _ _ c.before.before.next_phase.ensures (sym c.before.is_next.ensures ∙ c.if1.false)))
+    (λ c. c.arrive.ensures ∙ step_next _ _ _ _ _ c.before.before.before.next_phase-p.ensures (sym c.before.before.is_next.ensures ∙ c.before.if-is_next.true))
+    (λ c. step_rests _ _ _ _ _ c.before.before.next_phase-p.ensures (sym c.before.is_next.ensures ∙ c.if-is_next.false)))

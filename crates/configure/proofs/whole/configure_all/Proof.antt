@@ -13,6 +13,6 @@ unfolding configure_all
 configure_all_spec =
     tie.close
     (tie.spec (λ c κs. search rules)
-    (λ c κs. settings_told _ _ (sym c.before.before.settings_fit.ensures ∙ c.before.if1.true)) (λ c κs. search rules)
-    (λ c. simp (one_test, c.whole.ensures, sym c.before.before.before.settings_fit.ensures ∙ c.before.before.if1.true))
-    (λ c. simp (one_test, sym c.before.before.settings_fit.ensures ∙ c.before.if1.false) (c.refused_plan.ensures _)))
+    (λ c κs. settings_told _ _ (sym c.before.before.settings_fit.ensures ∙ c.before.if-settings_fit.true)) (λ c κs. search rules)
+    (λ c. simp (one_test, c.whole.ensures, sym c.before.before.before.settings_fit.ensures ∙ c.before.before.if-settings_fit.true))
+    (λ c. simp (one_test, sym c.before.before.settings_fit.ensures ∙ c.before.if-settings_fit.false) (c.refused_plan.ensures _)))
