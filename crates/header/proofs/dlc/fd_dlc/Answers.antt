@@ -1,5 +1,5 @@
 -- Each length past 8 by its arm, and all others by what the arms rule out.
-use Rattle.std.proofs.Common.{rules, arith, true}
+use Rattle.std.proofs.Common.{arith, true}
 use Rattle.header.specs.Dlc.{dlc_of}
 use Rattle.header.proofs.Search.{early, off, fd}
 use Rattle.header.proofs.dlc.fd_dlc.Goals as goal

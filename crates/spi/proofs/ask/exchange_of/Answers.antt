@@ -1,5 +1,4 @@
 -- Each arm's bytes are what the definition has for that ask.
-use Rattle.std.proofs.Common.{rules}
 use Rattle.spi.specs.Ask.{exchange_of}
 use Rattle.parts.specs.Parts.{zeroed}
 use Rattle.spi.specs.Instruction.{command_of}
