@@ -96,6 +96,7 @@ fn wrote_ram(m: Model, at: usize, sent: &[u8]) -> Model
     state::written(m, at, &sent[start..])
 }
 
+#[tactic(auto, unfolding(crate::specs::Exchange::lent, crate::specs::Exchange::exchange, crate::specs::Exchange::performed))]
 pub fn exchange(m: Model, sent: &[u8], want: usize, rx: &mut [u8]) -> Exchanged
     ensures { (result ≡ exchanged_as (lent rx.old sent.now want m)) × (rx.new ≡ filled_by (lent rx.old sent.now want m).reply rx.old) }
 {

@@ -9,4 +9,4 @@ pub crc_of_spec : {M : Type 1} → statement M
 crc_of_spec =
     tie.close
     (tie.spec (λ c κs. search rules) (λ c κs. search rules) (λ c. search rules) (λ c. search rules)
-    (λ c. simp (c.update2.ensures, c.before.before.update.ensures, c.before.before.before.le_bytes.ensures, of_parts)))
+    (λ c. simp (c.update-2.ensures, c.before.before.update.ensures, c.before.before.before.le_bytes-b.ensures, of_parts)))

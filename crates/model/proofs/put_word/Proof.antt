@@ -8,4 +8,4 @@ pub put_word_spec : {M : Type 1} → statement M
 put_word_spec =
     tie.close
     (tie.spec (λ c κs. search rules) (λ c. search rules) (λ c κs. search rules) (λ c. search rules)
-    (λ c. simp (c.before.before.put_at.ensures, c.before.before.before.before.before.le_bytes.ensures)))
+    (λ c. simp (c.before.before.put_at.ensures, c.before.before.before.before.before.le_bytes-b.ensures)))

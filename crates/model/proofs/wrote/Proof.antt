@@ -8,6 +8,6 @@ pub wrote_spec : {M : Type 1} → statement M
 wrote_spec =
     tie.close
     (tie.spec (λ c κs. search rules) (λ c κs. search rules)
-    (λ c. rw (c.told.ensures, ← c.before.before.registered.ensures, c.before.if1.true))
+    (λ c. rw (c.told.ensures, ← c.before.before.registered-x.ensures, c.before.if-x.true))
     (λ c. search rules)
-    (λ c. rw (c.told2.ensures, ← c.before.before.registered.ensures, c.before.if1.false)))
+    (λ c. rw (c.told-2.ensures, ← c.before.before.registered-x.ensures, c.before.if-x.false)))
