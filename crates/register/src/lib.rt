@@ -104,6 +104,7 @@ pub fn get_op_mode_start() -> RegisterNumbers
     at_stage(RegisterStage::Mode, 0, 0, 0)
 }
 
+#[tactic(auto, unfolding(crate::specs::Step::ask_of))]
 pub fn register_ask(c: RegisterNumbers) -> Ask
     ensures { result ≡ ask_of (register_of c) }
 {
@@ -176,6 +177,7 @@ fn when_checked(m: u16, seen: u8, reply: CheckedWord) -> RegisterNumbers
 }
 
 // A failed reset is told as 2, every other failed exchange as 1: a register write too.
+#[tactic(auto, unfolding(crate::specs::Step::step_of))]
 pub fn register_step(c: RegisterNumbers, answer: Answer, rx: &[u8]) -> RegisterNumbers
     ensures { register_of result ≡ step_of (register_of c) answer rx.now }
 {
@@ -194,6 +196,7 @@ pub fn register_step(c: RegisterNumbers, answer: Answer, rx: &[u8]) -> RegisterN
     }
 }
 
+#[tactic(auto, unfolding(crate::specs::Step::outcome_of))]
 pub fn register_outcome(c: RegisterNumbers) -> Outcome
     ensures { result ≡ outcome_of (register_of c) }
 {

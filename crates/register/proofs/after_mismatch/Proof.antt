@@ -11,6 +11,6 @@ pub after_mismatch_spec : {M : Type 1} → statement M
 unfolding after_mismatch
 after_mismatch_spec =
     tie.close
-    (tie.spec (λ c. omega (arith, c.if1.true)) (λ c κs. search rules) (λ c κs. search rules)
-    (λ c. simp (c.at_stage.ensures, lt-ltb _ _ c.before.if1.true))
-    (λ c. simp (c.refused.ensures, le-ltb _ _ c.before.if1.false)))
+    (tie.spec (λ c. omega (arith, c.if-seen-lt2.true)) (λ c κs. search rules) (λ c κs. search rules)
+    (λ c. simp (c.at_stage.ensures, lt-ltb _ _ c.before.if-seen-lt2.true))
+    (λ c. simp (c.refused.ensures, le-ltb _ _ c.before.if-seen-lt2.false)))
