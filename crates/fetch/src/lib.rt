@@ -336,7 +336,6 @@ fn word(answer: Answer, rx: &[u8]) -> OneWord
 }
 
 // After the end every answer is wrong.
-#[tactic(auto, using(crate::proofs::Others::takes_none))]
 pub fn next_at(c: FetchNumbers, answer: Answer, rx: &[u8]) -> FetchNumbers
     ensures { standing result ≡ (c.fifo, c.want, next_at c.want (fetch_at c) answer rx.now) }
 {

@@ -1,5 +1,4 @@
 mod Bytes
-mod Phases
 pub mod Runs
 pub mod Bounds
 pub mod Objects

@@ -38,7 +38,7 @@ use Rattle.call.specs.declared.Found.{Found}
 use Rattle.fetch.specs.declared.Want.{Want}
 use Rattle.fetch.specs.Step.{found_by, stamped}
 use Rattle.rx_fifo.specs.Outcome.{message_of}
-use Rattle.rx_fifo.specs.Talk.{Fetched, last_talk, body_talk, to_body_talk, time_talk, to_time_talk, rest_talk, slot_talk, again_talk, header_talk, to_header_talk, address_talk, held_talk, status_talk, control_talk, lent_talk}
+use Rattle.rx_fifo.specs.Talk.{Fetched, last_talk, body_talk, to_body_talk, time_talk, rest_talk, slot_talk, again_talk, header_talk, to_header_talk, address_talk, held_talk, status_talk, control_talk, lent_talk}
 use Rattle.rx_fifo.specs.Laws.{says, gives, parts, answers, Waits, up_to_again, Shows, PeekReads, GetReads, TooLong, LongRefused}
 
 -- ---- what the answers say
@@ -125,14 +125,14 @@ message_is stamped n b h =
 -- user address, header and control again
 again_reads : (want : Want) (fifo u w : ℕ) (b : List ℕ) (xs : List (Answer × List ℕ)) → w < 2 ^ 32 → in_range (u + 0x400) 8 ≡ true → 8 ≤ length b
     → run answered (address_talk want fifo) (says u ∷ gives b 0 8 ∷ says w ∷ xs) ≡ run answered (slot_talk want fifo (u + 0x400) (found_by (le_at b 0) (le_at b 4)) w) xs
-again_reads want fifo u w b xs hw in_ram_lem whole =
+again_reads want fifo u w b xs hw in_ram whole =
     let m : ℕ = u + 0x400 in
-    let (l, r) = range_told m 8 in_ram_lem in
+    let (l, r) = range_told m 8 in_ram in
     let rest : List (Answer × List ℕ) = says w ∷ xs in
     word_said (CiFIFOUA.address fifo) (gives b 0 8 ∷ rest) (to_header_talk want fifo) u (omega arith)
     ∙ ap (λ (t : Bool). run answered (if t then refused Refusal.BadUserAddress else if in_range m 8 then header_talk want fifo m else refused (Refusal.InvalidRamAddress m)) (gives b 0 8 ∷ rest))
     (le-ltb 0xFBFF u (omega arith))
-    ∙ ap (λ (t : Bool). run answered (if t then header_talk want fifo m else refused (Refusal.InvalidRamAddress m)) (gives b 0 8 ∷ rest)) in_ram_lem
+    ∙ ap (λ (t : Bool). run answered (if t then header_talk want fifo m else refused (Refusal.InvalidRamAddress m)) (gives b 0 8 ∷ rest)) in_ram
     ∙ pair_given m rest (λ a d. again_talk want fifo m (found_by a d)) b whole
     ∙ word_said (CiFIFOCON.address fifo) xs (slot_talk want fifo m (found_by (le_at b 0) (le_at b 4))) w hw
 
@@ -159,12 +159,12 @@ module _ (want : Want) (fifo n : ℕ) (b : List ℕ) (short : n ≤ 64) where
   parts_read false m l r h = body_reads false (m + 8) (omega arith) (omega arith) h
 
   module _ (u w : ℕ) (hw : w < 2 ^ 32) (whole : body_at (flag RXTSEN w) + round_up n ≤ length b)
-      (in_ram_lem : in_range (u + 0x400) (body_at (flag RXTSEN w) + round_up n) ≡ true)
+      (in_ram : in_range (u + 0x400) (body_at (flag RXTSEN w) + round_up n) ≡ true)
       (len : received_length (flag FDF (le_at b 4)) (read DLC (le_at b 4)) ≡ n) (slot : n ≤ payload_of w) where
     pub object_reads : run answered (address_talk want fifo) (says u ∷ gives b 0 8 ∷ says w ∷ parts (flag RXTSEN w) n b) ≡ last_talk want fifo (message_in false (flag RXTSEN w) n b)
     object_reads =
         let m : ℕ = u + 0x400 in
-        let (l, r) = range_told m (body_at (flag RXTSEN w) + round_up n) in_ram_lem in
+        let (l, r) = range_told m (body_at (flag RXTSEN w) + round_up n) in_ram in
         let e = eight (flag RXTSEN w) in
         let xs : List (Answer × List ℕ) = parts (flag RXTSEN w) n b in
         again_reads want fifo u w b xs hw (range_is m 8 l (omega arith)) (omega arith)

@@ -1,6 +1,6 @@
 -- A peek and a get read no RAM but that of the slot; has-next is never refused 35.
 -- Assumes nothing.
-use Prim.Native.Nat.{ℕ, zero, suc, ◌+◌, ◌≤◌, ◌<◌}
+use Prim.Native.Nat.{ℕ, zero, suc, ◌+◌, ◌≤◌}
 use native.Mathlib.Omega.{arith}
 use mathlib.Core.Path.{◌≡◌, refl, subst}
 use mathlib.Core.Bool.{Bool, true, false, ◌&&◌, true≢false}
@@ -32,7 +32,7 @@ use Rattle.call.specs.declared.Found.{Found}
 use Rattle.fetch.specs.declared.Want.{Want}
 use Rattle.fetch.specs.Step.{found_by, stamped}
 use Rattle.rx_fifo.specs.Outcome.{message_of}
-use Rattle.rx_fifo.specs.Talk.{Fetched, told, message, empty, commit_talk, last_talk, to_body_talk, rest_talk, again_talk, to_header_talk, address_talk, held_talk, has_next_talk, lent_talk}
+use Rattle.rx_fifo.specs.Talk.{Fetched, told, message, commit_talk, last_talk, to_body_talk, rest_talk, again_talk, to_header_talk, address_talk, held_talk, has_next_talk, lent_talk}
 use Rattle.rx_fifo.specs.Laws.{slot_size, ReadsIn, word_in, ReadsItsSlot, HasNextNever35}
 use Rattle.rx_fifo.proofs.Objects.{eight}
 

@@ -51,7 +51,7 @@ pub record Shows (c v u w : ℕ) (b : List ℕ) (m : Message) : Type 0 where
   pub decoded : decoding false (flag RXTSEN w) b ≡ holds m
   pub whole : body_at (flag RXTSEN w) + round_up (length m.payload) ≤ length b
   pub slot : length m.payload ≤ payload_of w
-  pub in_ram_lem : in_range (u + 0x400) (body_at (flag RXTSEN w) + round_up (length m.payload)) ≡ true
+  pub in_ram : in_range (u + 0x400) (body_at (flag RXTSEN w) + round_up (length m.payload)) ≡ true
 
 -- a peek is done with the message
 abbrev pub PeekReads : Type 0
@@ -71,7 +71,7 @@ GetReads =
 pub record TooLong (c v u w : ℕ) (b : List ℕ) : Type 0 where
   pub waits : Waits c v w
   pub whole : 8 ≤ length b
-  pub in_ram_lem : in_range (u + 0x400) 8 ≡ true
+  pub in_ram : in_range (u + 0x400) 8 ≡ true
   pub beyond : payload_of w < received_length (flag FDF (le_at b 4)) (read DLC (le_at b 4))
 
 -- a peek and a get are refused 35, wherever timestamp and payload lie

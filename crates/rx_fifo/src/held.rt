@@ -45,6 +45,7 @@ fn size_of(c: FetchNumbers) -> usize
 }
 
 // Nothing goes to a buffer that is too small.
+#[tactic(auto, unfolding(crate::specs::Numbers::fetch_of, crate::specs::Outcome::filled, crate::specs::Outcome::filled_by))]
 pub fn fill(c: FetchNumbers, body: &[u8], buf: &mut [u8])
     requires { 64 ≤ length body.now }
     ensures { buf.new ≡ filled_by (fetch_of c body.now) buf.old }

@@ -76,6 +76,7 @@ fn with_uinc(w: u32) -> u32
     FifoControl(w).with_uinc(true).0
 }
 
+#[tactic(auto, unfolding(crate::specs::Numbers::fetch_of, crate::specs::Step::ask_of))]
 pub fn fetch_ask(c: FetchNumbers) -> Ask
     ensures { result ≡ ask_of (fetch_of c []) }
 {
@@ -133,6 +134,7 @@ fn found(c: FetchNumbers) -> Found
     }
 }
 
+#[tactic(auto, unfolding(crate::specs::Numbers::fetch_of, crate::specs::Outcome::outcome_of))]
 pub fn fetch_outcome(c: FetchNumbers) -> Outcome
     ensures { FetchEnds c result }
 {
@@ -150,6 +152,7 @@ pub fn fetch_outcome(c: FetchNumbers) -> Outcome
 
 // How the call ended. The payload of one that is done with a message goes to the front of the lent buffer, or 28 where that is too
 // small; no other byte is changed.
+#[tactic(auto, unfolding(crate::specs::Numbers::fetch_of, crate::specs::Outcome::outcome_of, crate::specs::Outcome::finished_as))]
 pub fn fetch_finish(c: FetchNumbers, body: &[u8; 76], buf: &mut [u8]) -> Outcome
     ensures { (result ≡ finished_as (fetch_of c body.now) (length buf.old)) × (buf.new ≡ filled_by (fetch_of c body.now) buf.old) }
 {

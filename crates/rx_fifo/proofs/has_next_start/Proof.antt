@@ -12,5 +12,5 @@ unfolding fetch_of has_next_start first_at
 has_next_start_spec =
     tie.close
     (tie.spec (λ c κs. search rules) (λ c κs. search rules) (λ c κs. search rules) (λ c κs. search rules)
-    (λ c. simp (sym c.before.is_fifo.ensures ∙ c.if1.true, c.before.before.start.ensures, c.before.before.before.clear.ensures))
-    (λ c. simp (c.refused.ensures, sym c.before.before.is_fifo.ensures ∙ c.before.if1.false, c.before.before.before.start.ensures, c.before.before.before.before.clear.ensures)))
+    (λ c. simp (sym c.before.is_fifo.ensures ∙ c.if-is_fifo.true, c.before.before.start-c.ensures, c.before.before.before.clear.ensures))
+    (λ c. simp (c.refused.ensures, sym c.before.before.is_fifo.ensures ∙ c.before.if-is_fifo.false, c.before.before.before.start-c.ensures, c.before.before.before.before.clear.ensures)))

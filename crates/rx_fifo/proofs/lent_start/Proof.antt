@@ -13,6 +13,6 @@ unfolding fetch_of lent_start lent_at
 lent_start_spec =
     tie.close
     (tie.spec (λ c κs. search rules) (λ c κs. search rules) (λ c κs. search rules) (λ c κs. search rules) (λ c κs. search rules)
-    (λ c. simp (c.refused.ensures, lt-ltb _ _ c.before.if2.true, sym c.before.before.before.is_fifo.ensures ∙ c.before.before.if1.true, c.before.before.before.before.start.ensures, c.before.before.before.before.before.clear.ensures))
-    (λ c. simp (le-ltb _ _ c.if2.false, sym c.before.before.is_fifo.ensures ∙ c.before.if1.true, c.before.before.before.start.ensures, c.before.before.before.before.clear.ensures))
-    (λ c. simp (c.refused2.ensures, sym c.before.before.is_fifo.ensures ∙ c.before.if1.false, c.before.before.before.start.ensures, c.before.before.before.before.clear.ensures)))
+    (λ c. simp (c.refused.ensures, lt-ltb _ _ c.before.if-room-lt64.true, sym c.before.before.before.is_fifo.ensures ∙ c.before.before.if-is_fifo.true, c.before.before.before.before.start-c.ensures, c.before.before.before.before.before.clear.ensures))
+    (λ c. simp (le-ltb _ _ c.if-room-lt64.false, sym c.before.before.is_fifo.ensures ∙ c.before.if-is_fifo.true, c.before.before.before.start-c.ensures, c.before.before.before.before.clear.ensures))
+    (λ c. simp (c.refused-else-is_fifo.ensures, sym c.before.before.is_fifo.ensures ∙ c.before.if-is_fifo.false, c.before.before.before.start-c.ensures, c.before.before.before.before.clear.ensures)))

@@ -1,6 +1,5 @@
 -- `rx_fifo::stamp_of` meets its contract.
 -- Assumes nothing.
-use borrow.Author.Rules.{rules}
 use Rattle.rx_fifo.proofs.stamp_of.Statement.{statement}
 use Rattle.rx_fifo.proofs.stamp_of.Tie as tie
 
@@ -8,5 +7,5 @@ pub stamp_of_spec : {M : Type 1} → statement M
 stamp_of_spec =
     tie.close
     (tie.spec
-    (λ c. simp c.if1.true)
-    (λ c. simp c.if1.false))
+    (λ c. simp c.if-c.true)
+    (λ c. simp c.if-c.false))
