@@ -1,0 +1,12 @@
+-- `looping::run` meets its contract: every answer leaves fewer turns, and the buffers keep their lengths.
+-- Assumes nothing.
+use Rattle.std.proofs.Common.{◌≡◌, length}
+use Rattle.driver.specs.Demand1.{left}
+use Rattle.driver.specs.Numbers.{call_of}
+use Rattle.looping.proofs.run.Given as goal
+
+abbrev pub invariant-loop-call : goal.invariant-loop-call
+invariant-loop-call l = (length l.tx ≡ length l.initial.tx) × (length l.rx ≡ length l.initial.rx)
+
+abbrev pub decreases-loop-call : goal.decreases-loop-call
+decreases-loop-call l = left (call_of l.call)
