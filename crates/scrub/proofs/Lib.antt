@@ -1,4 +1,3 @@
-mod Arms
 pub mod Runs
 pub mod Words
 pub mod Visits

@@ -111,11 +111,11 @@ module _ (n address : ℕ) (bad : Refusal → Talk Outcome) (k : ℕ → ℕ →
   tries : (count left m : ℕ) → left + n < m → Within m (checked_by address count left bad k)
   unfolding checked_by
   tries count zero m l =
-      ask_within n m _ _ (omega arith)
+      ask_within n m (Ask.Checked address) _ (omega arith)
       (λ a rx. by_checked (λ (t : Talk Outcome). Within n t) lost (crc_reply Refusal.SpiRead address a rx) (lost Refusal.CrcMismatch) (λ w. good w count))
   tries count (suc left) m l =
       let j : ℕ = left + n + 1 in
-      ask_within j m _ _ (omega arith)
+      ask_within j m (Ask.Checked address) _ (omega arith)
       (λ a rx.
       by_checked (λ (t : Talk Outcome). Within j t) (λ r. more n j (bad r) (omega arith) (lost r)) (crc_reply Refusal.SpiRead address a rx)
       (tries (count + 1) left j (omega arith)) (λ w. more n j (k w count) (omega arith) (good w count)))

@@ -10,7 +10,6 @@ use lib.ListN.{length, get_or, take, drop, length-drop}
 use lib.Dec.{eqb, ltb}
 use lib.Seq.{drop-cons, take_all}
 use borrow.Author.Tests.{lt-ltb, le-ltb, ltb-true}
-use Rattle.laws.specs.If.{if◌then◌else◌}
 use Rattle.laws.proofs.Choice.{by_if}
 use Rattle.spi.specs.declared.refusal.Refusal.{Refusal}
 use Rattle.spi.specs.declared.ask.Answer.{Answer}

@@ -134,6 +134,7 @@ fn begun(b: Begun, rewrite: bool, stage: ScrubStage, why: Refusal) -> ScrubNumbe
 }
 
 // A step, as the list began it: no exchange has mismatched yet.
+#[tactic(auto, unfolding(crate::specs::Step::begins))]
 pub fn scrub_begin(b: Begun, rewrite: bool) -> ScrubNumbers
     ensures { scrub_of result ≡ begins b rewrite }
 {
@@ -144,6 +145,7 @@ pub fn scrub_begin(b: Begun, rewrite: bool) -> ScrubNumbers
     }
 }
 
+#[tactic(auto, unfolding(crate::specs::Step::ask_of))]
 pub fn scrub_ask(c: ScrubNumbers) -> Ask
     ensures { result ≡ ask_of (scrub_of c) }
 {
@@ -219,6 +221,7 @@ fn when_back(c: ScrubNumbers, reply: CheckedWord) -> ScrubNumbers
 }
 
 // A failed write is told as 1, like that of `write_register`.
+#[tactic(auto, unfolding(crate::specs::Step::step_of))]
 pub fn scrub_step(c: ScrubNumbers, answer: Answer, rx: &[u8]) -> ScrubNumbers
     ensures { scrub_of result ≡ step_of (scrub_of c) answer rx.now }
 {
@@ -246,6 +249,7 @@ fn differing(c: ScrubNumbers, rewrite: Rewrite) -> Outcome
     })
 }
 
+#[tactic(auto, unfolding(crate::specs::Step::outcome_of))]
 pub fn scrub_outcome(c: ScrubNumbers) -> Outcome
     ensures { result ≡ outcome_of (scrub_of c) }
 {

@@ -9,7 +9,7 @@ pub when_seen_spec : {M : Type 1} → statement M
 when_seen_spec =
     tie.close
     (tie.spec (λ c κs. search rules) (λ c κs. search rules)
-    (λ c. simp (c.tells.ensures, sym c.before.before.is_agreed.ensures ∙ c.before.if1.true)) (λ c κs. search rules)
-    (λ c. simp (c.stands.ensures, c.before.if2.true, sym c.before.before.before.is_agreed.ensures ∙ c.before.before.if1.false))
+    (λ c. simp (c.tells.ensures, sym c.before.before.is_agreed.ensures ∙ c.before.if-is_agreed.true)) (λ c κs. search rules)
+    (λ c. simp (c.stands.ensures, c.before.if-c.true, sym c.before.before.before.is_agreed.ensures ∙ c.before.before.if-is_agreed.false))
     (λ c κs. search rules)
-    (λ c. simp (c.tells2.ensures, c.before.if2.false, sym c.before.before.before.is_agreed.ensures ∙ c.before.before.if1.false)))
+    (λ c. simp (c.tells-2.ensures, c.before.if-c.false, sym c.before.before.before.is_agreed.ensures ∙ c.before.before.if-is_agreed.false)))
