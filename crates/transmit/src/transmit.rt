@@ -2,7 +2,7 @@
 // TXREQ 1.
 ghost use Rattle.std.specs.Prelude.{◌≡◌, []};
 ghost use Rattle.plan.specs.Change.{modified};
-ghost use Rattle.plan.specs.Step.{ask_of as planAsk, outcome_of as planOutcome};
+ghost use Rattle.plan.specs.Step.{ask_of as plan_ask, outcome_of as plan_outcome};
 ghost use Rattle.tx_fifo.specs.Step.{is_done};
 ghost use Rattle.tx_fifo.specs.declared.push.PushStage.{PushStage};
 ghost use Rattle.transmit.specs.Transmit.{request_change, transmit_start, transmit_ask, transmit_outcome};
@@ -85,7 +85,7 @@ pub fn transmit_start(
 }
 
 fn request_ask(p: PushNumbers, request: RequestStage) -> Ask
-    ensures { result ≡ planAsk (request_of request p) }
+    ensures { result ≡ plan_ask (request_of request p) }
 {
     match request {
         RequestStage::Read => Ask::Read {
@@ -154,7 +154,7 @@ pub fn transmit_step(c: TransmitNumbers, answer: Answer, rx: &[u8]) -> TransmitN
 }
 
 fn request_outcome(p: PushNumbers, request: RequestStage) -> Outcome
-    ensures { result ≡ planOutcome (request_of request p) }
+    ensures { result ≡ plan_outcome (request_of request p) }
 {
     let why = p.why;
     match request {
