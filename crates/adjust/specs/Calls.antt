@@ -1,7 +1,6 @@
 -- The calls that set one part of the chip up: their items, one after the other, and what is refused before any exchange.
 -- Assumes nothing.
-use Rattle.std.specs.Prelude.{ℕ, true, false, not, List, [], ◌∷◌}
-use Rattle.laws.specs.If.{if◌then◌else◌}
+use Rattle.std.specs.Prelude.{ℕ, true, false, not, List, [], ◌∷◌, if◌then◌else◌}
 use Rattle.configuration.specs.CanControl.{REQOP}
 use Rattle.fifo.specs.Control.{is_fifo}
 use Rattle.spi.specs.declared.refusal.Refusal.{Refusal}

@@ -1,8 +1,7 @@
 -- The changes that configure a FIFO, the transmit queue and a filter. `To`: the change of the same fields to bits of a word, which is what
 -- a plan keeps of a change.
 -- Assumes nothing.
-use Rattle.std.specs.Prelude.{ℕ, ◌/◌, ◌%◌, Bool, true, false, not, ◌&&◌, List, [], ◌∷◌, ltb, leb}
-use Rattle.laws.specs.If.{if◌then◌else◌}
+use Rattle.std.specs.Prelude.{ℕ, ◌/◌, ◌%◌, Bool, true, false, not, ◌&&◌, List, [], ◌∷◌, ltb, leb, if◌then◌else◌}
 use Rattle.field.specs.Field.{digit}
 use Rattle.field.specs.Settings.{Setting, ◌:=◌}
 use Rattle.configuration.specs.CanControl.{CiCON, TXQEN}

@@ -1,7 +1,6 @@
 -- What is proved of the registers' writes, as statements.
 -- Assumes nothing.
-use Rattle.std.specs.Prelude.{ℕ, ◌≤◌, ◌<◌, ◌≡◌, ◌⊎◌, Bool, true, false, List, length, get_or, eqb}
-use Rattle.laws.specs.If.{if◌then◌else◌}
+use Rattle.std.specs.Prelude.{ℕ, ◌≤◌, ◌<◌, ◌≡◌, ◌⊎◌, Bool, true, false, List, length, get_or, eqb, if◌then◌else◌}
 use Rattle.field.specs.Field.{read, flag, digit}
 use Rattle.configuration.specs.CanControl.{TXQEN, OPMOD, REQOP}
 use Rattle.chip.specs.OscillatorControl.{PLLEN, PLLRDY}

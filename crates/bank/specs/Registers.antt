@@ -1,7 +1,6 @@
 -- The modelled chip's registers: how they read, and what writing them does.
 -- Assumes nothing.
-use Rattle.std.specs.Prelude.{ℕ, Bool, true, false, ◌&&◌, not, map, get_or, set, leb, eqb}
-use Rattle.laws.specs.If.{if◌then◌else◌}
+use Rattle.std.specs.Prelude.{ℕ, Bool, true, false, ◌&&◌, not, map, get_or, set, leb, eqb, if◌then◌else◌}
 use Rattle.field.specs.Field.{read, write, flag, digit}
 use Rattle.configuration.specs.CanControl.{STEF, TXQEN, OPMOD, REQOP}
 use Rattle.chip.specs.OscillatorControl.{PLLEN, PLLRDY}

@@ -1,6 +1,5 @@
 // Registers written.
-ghost use Rattle.std.specs.Prelude.{◌≡◌};
-ghost use Rattle.laws.specs.If.{if◌then◌else◌};
+ghost use Rattle.std.specs.Prelude.{◌≡◌, if◌then◌else◌};
 ghost use Rattle.field.specs.Field.{flag};
 ghost use Rattle.configuration.specs.CanControl.{TXQEN};
 ghost use Rattle.place.specs.declared.Register.{Register};

@@ -1,7 +1,6 @@
 -- Numbers from -64 to 63 in seven bits, two's complement.
 -- Assumes nothing.
-use Rattle.std.specs.Prelude.{ℕ, ◌-◌, ◌<◌, Bool, ltb, ℤ, pos, negsuc, ◌-ℤ◌}
-use Rattle.laws.specs.If.{if◌then◌else◌}
+use Rattle.std.specs.Prelude.{ℕ, ◌-◌, ◌<◌, Bool, ltb, ℤ, pos, negsuc, ◌-ℤ◌, if◌then◌else◌}
 
 -- from -64 to 63; `negsuc n` is -(n + 1)
 abbrev pub Small : ℤ → Type 0

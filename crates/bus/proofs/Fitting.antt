@@ -6,7 +6,7 @@ use mathlib.Core.Bool.{Bool, true, false}
 use mathlib.Core.List.{List}
 use native.Mathlib.Omega.{arith}
 use lib.ListN.{length}
-use Rattle.laws.specs.If.{if◌then◌else◌}
+use Rattle.std.specs.Prelude.{if◌then◌else◌}
 use Rattle.fifo.specs.Control.{payload_of}
 use Rattle.fifo.proofs.Sizes.{payload_whole}
 use Rattle.words.proofs.Laws.{le_length}

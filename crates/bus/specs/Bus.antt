@@ -1,7 +1,6 @@
 -- The bus steps: the chip sends from a FIFO, and a frame arrives for one.
 -- Assumes nothing.
-use Rattle.std.specs.Prelude.{ℕ, Bool, true, ◌&&◌, not, List, length, ltb, leb}
-use Rattle.laws.specs.If.{if◌then◌else◌}
+use Rattle.std.specs.Prelude.{ℕ, Bool, true, ◌&&◌, not, List, length, ltb, leb, if◌then◌else◌}
 use Rattle.field.specs.Field.{flag}
 use Rattle.fifo.specs.Control.{TXREQ, payload_of, is_fifo}
 use Rattle.spi.specs.declared.refusal.Refusal.{Refusal}

@@ -1,7 +1,6 @@
 -- The messages that a FIFO of the modelled chip holds, decoded from RAM.
 -- Assumes nothing.
-use Rattle.std.specs.Prelude.{ℕ, zero, suc, ◌+◌, List, [], ◌∷◌}
-use Rattle.laws.specs.If.{if◌then◌else◌}
+use Rattle.std.specs.Prelude.{ℕ, zero, suc, ◌+◌, List, [], ◌∷◌, if◌then◌else◌}
 use Rattle.parts.specs.Parts.{part}
 use Rattle.fifo.specs.Control.{is_fifo}
 use Rattle.message.specs.Message.{Decoding, decoding}

@@ -1,7 +1,6 @@
 -- What is proved of the bus steps and of the messages held, as statements.
 -- Assumes nothing.
-use Rattle.std.specs.Prelude.{ℕ, ◌+◌, ◌≤◌, ◌<◌, ◌≡◌, Bool, true, false, not, ◌&&◌, ◌↔◌, List, [], ◌∷◌, length, get_or, ltb, leb, eqb}
-use Rattle.laws.specs.If.{if◌then◌else◌}
+use Rattle.std.specs.Prelude.{ℕ, ◌+◌, ◌≤◌, ◌<◌, ◌≡◌, Bool, true, false, not, ◌&&◌, ◌↔◌, List, [], ◌∷◌, length, get_or, ltb, leb, eqb, if◌then◌else◌}
 use Rattle.field.specs.Field.{read}
 use Rattle.configuration.specs.CanControl.{DNCNT}
 use Rattle.fifo.specs.Control.{payload_of, is_fifo}

@@ -1,7 +1,6 @@
 -- Document 02, request 6: the messages that the transmit queue of the modelled chip holds, and the bus step in which the chip sends one.
 -- Assumes nothing.
-use Rattle.std.specs.Prelude.{ℕ, ◌+◌, Bool, true, false, ◌&&◌, List, [], ltb}
-use Rattle.laws.specs.If.{if◌then◌else◌}
+use Rattle.std.specs.Prelude.{ℕ, ◌+◌, Bool, true, false, ◌&&◌, List, [], ltb, if◌then◌else◌}
 use Rattle.parts.specs.Parts.{part}
 use Rattle.words.specs.Words.{le_at}
 use Rattle.field.specs.Field.{flag}

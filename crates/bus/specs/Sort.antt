@@ -1,7 +1,6 @@
 -- Document 02, request 1: a frame arrives, and the filters sort it.
 -- Assumes nothing.
-use Rattle.std.specs.Prelude.{ℕ, not, List, length, leb, eqb}
-use Rattle.laws.specs.If.{if◌then◌else◌}
+use Rattle.std.specs.Prelude.{ℕ, not, List, length, leb, eqb, if◌then◌else◌}
 use Rattle.field.specs.Field.{read}
 use Rattle.configuration.specs.CanControl.{DNCNT}
 use Rattle.spi.specs.declared.refusal.Refusal.{Refusal}

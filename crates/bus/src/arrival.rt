@@ -1,6 +1,5 @@
 // A frame arrives for a FIFO.
-ghost use Rattle.std.specs.Prelude.{◌≡◌, not, ◌<◌, ◌≤◌, ltb, leb, length};
-ghost use Rattle.laws.specs.If.{if◌then◌else◌};
+ghost use Rattle.std.specs.Prelude.{◌≡◌, not, ◌<◌, ◌≤◌, ltb, leb, length, if◌then◌else◌};
 ghost use Rattle.fifo.specs.Control.{payload_of};
 ghost use Rattle.field.specs.Field.{Fits};
 ghost use Rattle.header.specs.Header.{DLC, FILHIT, top_id};

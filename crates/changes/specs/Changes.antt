@@ -1,8 +1,7 @@
 -- The changes that configuration calls make: which fields of which register are set, to what. Every other bit is as read.
 -- `To`: the change of the same fields to bits of a word, which is what a plan keeps of a change.
 -- Assumes nothing.
-use Rattle.std.specs.Prelude.{ℕ, ◌-◌, ◌^◌, Bool, true, ◌&&◌, List, [], ◌∷◌, ◌++◌, ltb}
-use Rattle.laws.specs.If.{if◌then◌else◌}
+use Rattle.std.specs.Prelude.{ℕ, ◌-◌, ◌^◌, Bool, true, ◌&&◌, List, [], ◌∷◌, ◌++◌, ltb, if◌then◌else◌}
 use Rattle.field.specs.Field.{Field, place, digit}
 use Rattle.field.specs.Settings.{Setting, ◌:=◌}
 use Rattle.configuration.specs.CanControl.{CiCON, REQOP, STEF, TXQEN, DNCNT, RTXAT}

@@ -1,7 +1,6 @@
 -- A plan as numbers: the plan that they, and the words in the body, stand for.
 -- Assumes nothing.
-use Rattle.std.specs.Prelude.{ℕ, ◌*◌, ◌≡◌, true, List, [], ◌∷◌, eqb}
-use Rattle.laws.specs.If.{if◌then◌else◌}
+use Rattle.std.specs.Prelude.{ℕ, ◌*◌, ◌≡◌, true, List, [], ◌∷◌, eqb, if◌then◌else◌}
 use Rattle.field.specs.Field.{flag}
 use Rattle.words.specs.Words.{le_at}
 use Rattle.chip.specs.OscillatorControl.{PLLEN}

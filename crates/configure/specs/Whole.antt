@@ -1,7 +1,6 @@
 -- `configure`: its items, one after the other, and what is refused before any exchange.
 -- Assumes nothing.
-use Rattle.std.specs.Prelude.{List, [], ◌∷◌, ◌++◌, eqb}
-use Rattle.laws.specs.If.{if◌then◌else◌}
+use Rattle.std.specs.Prelude.{List, [], ◌∷◌, ◌++◌, eqb, if◌then◌else◌}
 use Rattle.configuration.specs.CanControl.{DNCNT}
 use Rattle.spi.specs.declared.refusal.Refusal.{Refusal}
 use Rattle.plan.specs.declared.item.Item.{Item}

@@ -1,6 +1,5 @@
 // The items of a plan, each worked out from its numbers and the words in the body.
-ghost use Rattle.std.specs.Prelude.{◌≡◌, true, ◌≤◌, ◌<◌, eqb, length, get_or};
-ghost use Rattle.laws.specs.If.{if◌then◌else◌};
+ghost use Rattle.std.specs.Prelude.{◌≡◌, true, ◌≤◌, ◌<◌, eqb, length, get_or, if◌then◌else◌};
 ghost use Rattle.field.specs.Field.{flag};
 ghost use Rattle.interrupt.specs.Interrupt.{IE};
 ghost use Rattle.interrupt.specs.declared.Cause.{Cause};

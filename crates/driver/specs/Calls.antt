@@ -1,7 +1,6 @@
 -- Every call that a start makes: one case for each public start function, with what it is given.
 -- Assumes nothing.
-use Rattle.std.specs.Prelude.{ℕ, ◌%◌, ◌^◌, Bool, true, false, not, ◌&&◌, List, [], ◌∷◌, length, eqb, ltb, leb}
-use Rattle.laws.specs.If.{if◌then◌else◌}
+use Rattle.std.specs.Prelude.{ℕ, ◌%◌, ◌^◌, Bool, true, false, not, ◌&&◌, List, [], ◌∷◌, length, eqb, ltb, leb, if◌then◌else◌}
 use Rattle.configuration.specs.CanControl.{REQOP, DNCNT}
 use Rattle.fifo.specs.Control.{is_fifo}
 use Rattle.header.specs.declared.Header.{Header}

@@ -1,7 +1,7 @@
 -- Demand 1: every call takes any bytes, numbers and SPI answers, and ends; bad input gets the refusal number in the table, in the order
 -- given there, and changes no lent byte.
 -- Assumes nothing.
-use Rattle.std.specs.Prelude.{ℕ, ◌+◌, ◌-◌, ◌^◌, ◌≤◌, ◌<◌, ◌≡◌, Bool, true, false, ◌↔◌, List, [], ◌∷◌, length, eqb}
+use Rattle.std.specs.Prelude.{ℕ, ◌+◌, ◌-◌, ◌^◌, ◌≤◌, ◌<◌, ◌≡◌, Bool, true, false, ◌↔◌, List, [], ◌∷◌, length, eqb, if◌then◌else◌}
 use Rattle.spi.specs.declared.refusal.Refusal.{Refusal}
 use Rattle.spi.specs.declared.ask.Ask.{Ask}
 use Rattle.spi.specs.declared.ask.Answer.{Answer}
@@ -15,7 +15,6 @@ use Rattle.ram.specs.RamCall.{RamCall}
 use Rattle.plan.specs.Talk.{plan_left}
 use Rattle.tx_fifo.specs.PushAt.{PushAt}
 use Rattle.fetch.specs.FetchAt.{FetchAt}
-use Rattle.laws.specs.If.{if◌then◌else◌}
 use Rattle.scrub.specs.Scrub.{Scrub as Scrubbing, ScrubAt}
 use Rattle.driver.specs.CallAt.{CallAt}
 use Rattle.driver.specs.Call.{Call}

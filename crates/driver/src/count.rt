@@ -1,6 +1,5 @@
 // How many exchanges and waits are left.
-ghost use Rattle.std.specs.Prelude.{◌≡◌, ◌<◌, []};
-ghost use Rattle.laws.specs.If.{if◌then◌else◌};
+ghost use Rattle.std.specs.Prelude.{◌≡◌, ◌<◌, [], if◌then◌else◌};
 ghost use Rattle.register.specs.Numbers.{register_of};
 ghost use Rattle.ram.specs.Numbers.{ram_of};
 ghost use Rattle.tx_fifo.specs.Numbers.{push_at};

@@ -1,7 +1,6 @@
 -- The plain numbers of has-next, peek and get as the place of which the definitions speak.
 -- Assumes nothing.
-use Rattle.std.specs.Prelude.{ℕ, true, false}
-use Rattle.laws.specs.If.{if◌then◌else◌}
+use Rattle.std.specs.Prelude.{ℕ, true, false, if◌then◌else◌}
 use Rattle.field.specs.Field.{read}
 use Rattle.header.specs.Header.{DLC, FILHIT, header_of}
 use Rattle.message.specs.declared.object.Stamp.{Stamp}

@@ -1,7 +1,6 @@
 -- From one exchange of has-next, peek and get to the next.
 -- Assumes nothing.
-use Rattle.std.specs.Prelude.{ℕ, ◌+◌, List, Bool, length, ltb}
-use Rattle.laws.specs.If.{if◌then◌else◌}
+use Rattle.std.specs.Prelude.{ℕ, ◌+◌, List, Bool, length, ltb, if◌then◌else◌}
 use Rattle.field.specs.Field.{read, flag}
 use Rattle.fifo.specs.Control.{TXEN, RXTSEN, payload_of}
 use Rattle.fifo.specs.Status.{TFNRFNIF}

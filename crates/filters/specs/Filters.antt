@@ -1,9 +1,8 @@
 -- Document 02, request 1: which filter takes a frame. The words are those of CiFLTCON, CiFLTOBJ and CiMASK.
 -- Assumes nothing.
-use Rattle.std.specs.Prelude.{ℕ, zero, suc, ◌+◌, ◌*◌, ◌/◌, ◌%◌, Bool, true, not, ◌&&◌, List, get_or, eqb}
+use Rattle.std.specs.Prelude.{ℕ, zero, suc, ◌+◌, ◌*◌, ◌/◌, ◌%◌, Bool, true, not, ◌&&◌, List, get_or, eqb, if◌then◌else◌}
 use Rattle.std.specs.Int.Bits.{bit_and, bit_xor}
 use Rattle.std.specs.Int.Count.{count_trailing_zeros}
-use Rattle.laws.specs.If.{if◌then◌else◌}
 use Rattle.field.specs.Field.{read, flag, digit}
 use Rattle.filter.specs.Control.{FBP, FLTEN}
 use Rattle.filter.specs.Object.{SID, EID, EXIDE}

@@ -7,7 +7,7 @@ use Prim.Native.Nat.{ℕ, zero, suc, ◌+◌, ◌*◌, ◌/◌, ◌%◌, ◌^◌
 use native.Mathlib.Nat.{mod-lt}
 use native.Mathlib.Omega.{arith}
 use lib.Dec.{eqb, lit<}
-use Rattle.laws.specs.If.{if◌then◌else◌}
+use Rattle.std.specs.Prelude.{if◌then◌else◌}
 use Rattle.laws.specs.All.{all}
 use Rattle.field.specs.Field.{Field, with_field, read, write, Fits, flag, digit, all_apart, within}
 use Rattle.field.specs.Settings.{Setting, ◌:=◌, fields_of, settings, AllFit}

@@ -1,7 +1,6 @@
 -- Data length codes and payload lengths.
 -- Assumes nothing.
-use Rattle.std.specs.Prelude.{ℕ, ◌+◌, min, Bool, true, false, List, [], ◌∷◌, get_or, take, ltb, eqb}
-use Rattle.laws.specs.If.{if◌then◌else◌}
+use Rattle.std.specs.Prelude.{ℕ, ◌+◌, min, Bool, true, false, List, [], ◌∷◌, get_or, take, ltb, eqb, if◌then◌else◌}
 use Rattle.header.specs.declared.dlc.Length.{Length}
 use Rattle.header.specs.declared.dlc.Dlc.{Dlc}
 

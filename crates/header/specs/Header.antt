@@ -1,7 +1,6 @@
 -- The first two words of a message object.
 -- Assumes nothing.
-use Rattle.std.specs.Prelude.{ℕ, ◌+◌, ◌*◌, ◌/◌, ◌%◌, ◌^◌, Bool, true, false, List, [], ◌∷◌, ◌++◌}
-use Rattle.laws.specs.If.{if◌then◌else◌}
+use Rattle.std.specs.Prelude.{ℕ, ◌+◌, ◌*◌, ◌/◌, ◌%◌, ◌^◌, Bool, true, false, List, [], ◌∷◌, ◌++◌, if◌then◌else◌}
 use Rattle.field.specs.Field.{Field, ◌‥◌, bit, read, flag, digit}
 use Rattle.field.specs.Settings.{Setting, ◌:=◌, settings}
 use Rattle.header.specs.declared.Header.{Header}

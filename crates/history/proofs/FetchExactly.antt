@@ -10,7 +10,7 @@ use lib.ListN.{length, replicate}
 use lib.Dec.{ltb, leb, eqb}
 use lib.Pow.{pow_pos}
 use borrow.Author.Tests.{ltb-true, ltb-false, le-ltb, eq-eqb, ne_eqb}
-use Rattle.laws.specs.If.{if◌then◌else◌}
+use Rattle.std.specs.Prelude.{if◌then◌else◌}
 use Rattle.laws.proofs.Choice.{by_if}
 use Rattle.field.specs.Field.{mark}
 use Rattle.fifo.specs.Control.{UINC, is_fifo}

@@ -10,7 +10,7 @@ use native.Mathlib.Omega.{arith}
 use borrow.Author.Tests.{le-ltb, ne_eqb}
 use lib.Dec.{ltb, eqb}
 use lib.ListN.{get_or}
-use Rattle.laws.specs.If.{if◌then◌else◌}
+use Rattle.std.specs.Prelude.{if◌then◌else◌}
 use Rattle.field.specs.Field.{read, flag, digit, mark}
 use Rattle.field.specs.Settings.{◌:=◌, settings}
 use Rattle.field.proofs.Laws.{read_write, write_other, digit_lt, digit_back}

@@ -7,7 +7,7 @@ use mathlib.Core.List.{List, [], ◌++◌}
 use native.Mathlib.Omega.{arith}
 use lib.Dec.{eqb}
 use lib.ListN.{length, get_or}
-use Rattle.laws.specs.If.{if◌then◌else◌}
+use Rattle.std.specs.Prelude.{if◌then◌else◌}
 use Rattle.parts.specs.Parts.{part}
 use Rattle.fifo.specs.Control.{is_fifo}
 use Rattle.message.specs.Message.{Message, Decoding, holds, decoding}

@@ -10,7 +10,7 @@ use borrow.Author.Tests.{leb-true, le-ltb}
 use lib.Dec.{eqb, ltb, leb}
 use lib.Pow.{pow_pos, field, mod-mod-pow}
 use lib.ListN.{get_or}
-use Rattle.laws.specs.If.{if◌then◌else◌}
+use Rattle.std.specs.Prelude.{if◌then◌else◌}
 use Rattle.field.specs.Field.{Field, place as at, read, flag, mark, digit, within}
 use Rattle.field.specs.Settings.{◌:=◌, settings}
 use Rattle.field.proofs.Laws.{set_lt, read_write, write_other, digit_lt, digit_back}

@@ -1,8 +1,7 @@
 -- Document 02, request 6: demand 3 for the transmit queue, as statements.
 -- Assumes nothing.
-use Rattle.std.specs.Prelude.{ℕ, ◌≤◌, ◌<◌, ◌≡◌, Bool, true, false, not, ◌↔◌, length, take, replicate, ltb}
+use Rattle.std.specs.Prelude.{ℕ, ◌≤◌, ◌<◌, ◌≡◌, Bool, true, false, not, ◌↔◌, length, take, replicate, ltb, if◌then◌else◌}
 use mathlib.Core.List.{List, [], ◌∷◌, ◌++◌, map, Perm}
-use Rattle.laws.specs.If.{if◌then◌else◌}
 use Rattle.field.specs.Field.{read, flag, digit}
 use Rattle.configuration.specs.CanControl.{TXQEN, REQOP}
 use Rattle.fifo.specs.Control.{FSIZE, PLSIZE, payload_of, stored_size}

@@ -1,7 +1,6 @@
 -- Document 02, request 4, over the modelled chip: what a scrub step reports of a register, and what its rewrite leaves there.
 -- Assumes nothing.
-use Rattle.std.specs.Prelude.{ℕ, ◌%◌, ◌^◌, ◌<◌, ◌≡◌, true, List}
-use Rattle.laws.specs.If.{if◌then◌else◌}
+use Rattle.std.specs.Prelude.{ℕ, ◌%◌, ◌^◌, ◌<◌, ◌≡◌, true, List, if◌then◌else◌}
 use Rattle.field.specs.Field.{bit, read, flag, apart}
 use Rattle.chip.specs.OscillatorControl.{PLLRDY}
 use Rattle.place.specs.declared.Register.{Register}

@@ -1,8 +1,7 @@
--- A choice, written as in the code.
+-- A choice, by its two ways: what the library's `if b then x else y`, which definitions write, has to be (proofs/Choice).
 -- Assumes nothing.
 use Rattle.std.specs.Prelude.{Bool, true, false}
 
-infixr 5 if◌then◌else◌
-abbrev pub if◌then◌else◌ : {A : Type 0} → Bool → A → A → A
-if true then x else y = x
-if false then x else y = y
+abbrev pub choice : {A : Type 0} → Bool → A → A → A
+choice true x y = x
+choice false x y = y

@@ -1,7 +1,6 @@
 -- Messages: what is sent and received, the object that one is written as, and the one that an object's bytes hold.
 -- Assumes nothing.
-use Rattle.std.specs.Prelude.{ℕ, ◌+◌, ◌^◌, Bool, true, false, List, length, take, drop, ltb, leb, eqb}
-use Rattle.laws.specs.If.{if◌then◌else◌}
+use Rattle.std.specs.Prelude.{ℕ, ◌+◌, ◌^◌, Bool, true, false, List, length, take, drop, ltb, leb, eqb, if◌then◌else◌}
 use Rattle.field.specs.Field.{read, flag}
 use Rattle.words.specs.Words.{le_at}
 use Rattle.spi.specs.declared.refusal.Refusal.{Refusal}

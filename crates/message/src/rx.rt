@@ -1,6 +1,5 @@
 // An object's bytes, read as the message that they hold.
-ghost use Rattle.std.specs.Prelude.{◌≡◌, ◌+◌, ◌≤◌, length};
-ghost use Rattle.laws.specs.If.{if◌then◌else◌};
+ghost use Rattle.std.specs.Prelude.{◌≡◌, ◌+◌, ◌≤◌, length, if◌then◌else◌};
 ghost use Rattle.field.specs.Field.{read, flag};
 ghost use Rattle.words.specs.Words.{le_at};
 ghost use Rattle.header.specs.Header.{DLC, FDF, SEQ, FILHIT};

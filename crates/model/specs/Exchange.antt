@@ -1,7 +1,6 @@
 -- An exchange with the modelled chip.
 -- Assumes nothing.
-use Rattle.std.specs.Prelude.{ℕ, List, [], ◌++◌, length, drop, leb}
-use Rattle.laws.specs.If.{if◌then◌else◌}
+use Rattle.std.specs.Prelude.{ℕ, List, [], ◌++◌, length, drop, leb, if◌then◌else◌}
 use Rattle.words.specs.Words.{le_bytes, be_bytes}
 use Rattle.parts.specs.Parts.{part, put}
 use Rattle.crc.specs.Crc.{crc_of}

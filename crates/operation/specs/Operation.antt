@@ -1,7 +1,6 @@
 -- What the bytes of an exchange ask the chip for: the bytes sent, and how many are wanted.
 -- Assumes nothing.
-use Rattle.std.specs.Prelude.{ℕ, ◌-◌, ◌%◌, Bool, ◌&&◌, List, length, get_or, eqb, ltb}
-use Rattle.laws.specs.If.{if◌then◌else◌}
+use Rattle.std.specs.Prelude.{ℕ, ◌-◌, ◌%◌, Bool, ◌&&◌, List, length, get_or, eqb, ltb, if◌then◌else◌}
 use Rattle.field.specs.Field.{◌‥◌, read}
 use Rattle.words.specs.Words.{be_at, le_at}
 use Rattle.spi.specs.declared.instruction.OpCode.{OpCode}

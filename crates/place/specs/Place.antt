@@ -1,7 +1,6 @@
 -- The registers that are carried, by address.
 -- Assumes nothing.
-use Rattle.std.specs.Prelude.{ℕ, zero, suc, ◌-◌, ◌/◌, ◌%◌, Bool, true, false, eqb, ltb}
-use Rattle.laws.specs.If.{if◌then◌else◌}
+use Rattle.std.specs.Prelude.{ℕ, zero, suc, ◌-◌, ◌/◌, ◌%◌, Bool, true, false, eqb, ltb, if◌then◌else◌}
 use Rattle.place.specs.declared.Register.{Register}
 use Rattle.place.specs.declared.Place.{Place}
 

@@ -1,7 +1,6 @@
 -- A plan as the line sees it: its items, one after the other.
 -- Assumes nothing.
-use Rattle.std.specs.Prelude.{ℕ, zero, suc, ◌+◌, ◌*◌, List, [], ◌∷◌, drop, eqb}
-use Rattle.laws.specs.If.{if◌then◌else◌}
+use Rattle.std.specs.Prelude.{ℕ, zero, suc, ◌+◌, ◌*◌, List, [], ◌∷◌, drop, eqb, if◌then◌else◌}
 use Rattle.spi.specs.declared.refusal.Refusal.{Refusal}
 use Rattle.spi.specs.Talk.{Talk, done, refused, read_word, write_word, pause}
 use Rattle.call.specs.declared.Outcome.{Outcome}

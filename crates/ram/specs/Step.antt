@@ -1,7 +1,6 @@
 -- The calls on RAM, step by step: where each starts, what it asks, where an answer takes it, what it leaves in the lent buffer.
 -- Assumes nothing.
-use Rattle.std.specs.Prelude.{ℕ, ◌+◌, Bool, List, length, eqb, leb}
-use Rattle.laws.specs.If.{if◌then◌else◌}
+use Rattle.std.specs.Prelude.{ℕ, ◌+◌, Bool, List, length, eqb, leb, if◌then◌else◌}
 use Rattle.parts.specs.Parts.{put}
 use Rattle.spi.specs.Ram.{access_of}
 use Rattle.spi.specs.Reply.{done_reply}

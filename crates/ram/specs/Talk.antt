@@ -1,7 +1,6 @@
 -- The calls on RAM as the line sees them.
 -- Assumes nothing.
-use Rattle.std.specs.Prelude.{ℕ, List}
-use Rattle.laws.specs.If.{if◌then◌else◌}
+use Rattle.std.specs.Prelude.{ℕ, List, if◌then◌else◌}
 use Rattle.spi.specs.Ram.{access_of}
 use Rattle.spi.specs.Talk.{Talk, done, refused, on_done, read_bytes, write_body}
 use Rattle.spi.specs.declared.refusal.Refusal.{Refusal}

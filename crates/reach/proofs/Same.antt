@@ -7,7 +7,7 @@ use mathlib.Core.List.{List, [], ◌∷◌}
 use native.Mathlib.Omega.{arith}
 use lib.Dec.{ltb, leb, eqb}
 use lib.ListN.{length, get_or, set, take, drop, length-set, length-map}
-use Rattle.laws.specs.If.{if◌then◌else◌}
+use Rattle.std.specs.Prelude.{if◌then◌else◌}
 use Rattle.field.specs.Field.{read, flag, write}
 use Rattle.parts.specs.Parts.{part, put}
 use Rattle.words.specs.Words.{le_bytes}

@@ -11,7 +11,7 @@ use lib.ListN.{length, take}
 use lib.Seq.{get_or-set_same, get_or-set_other}
 use lib.Dec.{leb, eqb}
 use borrow.Author.Tests.{leb-true, eq-eqb, ne_eqb}
-use Rattle.laws.specs.If.{if◌then◌else◌}
+use Rattle.std.specs.Prelude.{if◌then◌else◌}
 use Rattle.laws.proofs.Table.{both}
 use Rattle.parts.specs.Parts.{part, put}
 use Rattle.field.specs.Field.{read}

@@ -8,7 +8,7 @@ use native.Mathlib.Omega.{arith}
 use borrow.Author.Tests.{eqb-true, ne_eqb}
 use lib.Dec.{eqb}
 use Rattle.laws.specs.All.{all}
-use Rattle.laws.specs.If.{if◌then◌else◌}
+use Rattle.std.specs.Prelude.{if◌then◌else◌}
 use Rattle.laws.proofs.Table.{both}
 use Rattle.field.specs.Field.{Field, place, read, write, digit, Fits, apart}
 use Rattle.field.proofs.Laws.{field_lt, read_write, write_other}

@@ -1,8 +1,7 @@
 -- Document 01's sentences about the modelled chip, as statements: of every chip that is reached or, where they hold so, of every state.
 -- Assumes nothing.
-use Rattle.std.specs.Prelude.{ℕ, ◌+◌, ◌*◌, ◌^◌, ◌<◌, ◌≡◌, Bool, true, false, ◌↔◌, length, ltb, leb, eqb}
+use Rattle.std.specs.Prelude.{ℕ, ◌+◌, ◌*◌, ◌^◌, ◌<◌, ◌≡◌, Bool, true, false, ◌↔◌, length, ltb, leb, eqb, if◌then◌else◌}
 use mathlib.Core.List.{List, [], ◌∷◌, ◌++◌, Perm}
-use Rattle.laws.specs.If.{if◌then◌else◌}
 use Rattle.field.specs.Field.{read, flag, digit}
 use Rattle.configuration.specs.CanControl.{TXQEN, OPMOD, REQOP}
 use Rattle.fifo.specs.Control.{TXEN, TXREQ, FSIZE, is_fifo}

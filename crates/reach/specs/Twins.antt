@@ -1,8 +1,7 @@
 -- Two chips that are the same but for some fields of a register, and act alike.
 -- Assumes nothing.
-use Rattle.std.specs.Prelude.{ℕ, ◌≡◌, List, [], ◌∷◌, length}
+use Rattle.std.specs.Prelude.{ℕ, ◌≡◌, List, [], ◌∷◌, length, if◌then◌else◌}
 use Rattle.laws.specs.All.{all}
-use Rattle.laws.specs.If.{if◌then◌else◌}
 use Rattle.field.specs.Field.{Field, ◌‥◌, bit, read, apart}
 use Rattle.configuration.specs.CanControl.{CiCON, OPMOD, REQOP}
 use Rattle.fifo.specs.Control.{CiFIFOCON, RTREN}

@@ -1,7 +1,6 @@
 -- The calls on a register as a whole, step by step: where each starts, what it asks, where an answer takes it.
 -- Assumes nothing.
-use Rattle.std.specs.Prelude.{ℕ, ◌+◌, ◌^◌, List, length, ltb}
-use Rattle.laws.specs.If.{if◌then◌else◌}
+use Rattle.std.specs.Prelude.{ℕ, ◌+◌, ◌^◌, List, length, ltb, if◌then◌else◌}
 use Rattle.field.specs.Field.{read}
 use Rattle.configuration.specs.CanControl.{CiCON, OPMOD}
 use Rattle.spi.specs.Reply.{word_reply, done_reply, crc_reply}

@@ -1,7 +1,6 @@
 -- The calls on a register as the line sees them.
 -- Assumes nothing.
-use Rattle.std.specs.Prelude.{ℕ, zero, suc, ◌+◌, ◌-◌, ◌^◌, ltb}
-use Rattle.laws.specs.If.{if◌then◌else◌}
+use Rattle.std.specs.Prelude.{ℕ, zero, suc, ◌+◌, ◌-◌, ◌^◌, ltb, if◌then◌else◌}
 use Rattle.field.specs.Field.{read}
 use Rattle.configuration.specs.CanControl.{CiCON, OPMOD}
 use Rattle.spi.specs.Talk.{Talk, done, refused, read_word, read_checked, write_word, reset_chip}

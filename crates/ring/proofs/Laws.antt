@@ -12,7 +12,7 @@ use borrow.Author.Tests.{ltb-true, ltb-false, eq-eqb, ne_eqb}
 use lib.Dec.{ltb, leb, eqb}
 use lib.ListN.{get_or}
 use Rattle.laws.specs.All.{all}
-use Rattle.laws.specs.If.{if◌then◌else◌}
+use Rattle.std.specs.Prelude.{if◌then◌else◌}
 use Rattle.laws.proofs.Choice.{by_if}
 use Rattle.laws.proofs.Table.{both}
 use Rattle.field.specs.Field.{Field, place as at, with_field, read, flag, digit, write, Fits, apart, all_apart}

@@ -1,7 +1,6 @@
 -- What is proved of the FIFOs' registers and of their slots in RAM, as statements; with what is proved of the transmit queue.
 -- Assumes nothing.
-use Rattle.std.specs.Prelude.{ℕ, ◌+◌, ◌*◌, ◌≤◌, ◌<◌, ◌≡◌, Bool, true, false, List, [], ◌∷◌, get_or, ltb, leb, eqb}
-use Rattle.laws.specs.If.{if◌then◌else◌}
+use Rattle.std.specs.Prelude.{ℕ, ◌+◌, ◌*◌, ◌≤◌, ◌<◌, ◌≡◌, Bool, true, false, List, [], ◌∷◌, get_or, ltb, leb, eqb, if◌then◌else◌}
 use Rattle.field.specs.Field.{Field, read, digit}
 use Rattle.fifo.specs.Control.{UINC, TXREQ, FRESET}
 use Rattle.ring.specs.declared.ring.Fifo.{Fifo}

@@ -1,8 +1,7 @@
 -- Where the slots lie in RAM: from offset 0 those of the transmit queue where it is on (`q`), then those of FIFOs 1 to 31 in order. `ws` are
 -- the control words as they were last written in Configuration, by FIFO number; entry 0 is the queue's.
 -- Assumes nothing.
-use Rattle.std.specs.Prelude.{ℕ, zero, suc, ◌+◌, ◌-◌, ◌*◌, Bool, true, false, List, get_or, eqb}
-use Rattle.laws.specs.If.{if◌then◌else◌}
+use Rattle.std.specs.Prelude.{ℕ, zero, suc, ◌+◌, ◌-◌, ◌*◌, Bool, true, false, List, get_or, eqb, if◌then◌else◌}
 use Rattle.field.specs.Field.{flag}
 use Rattle.fifo.specs.Control.{RXTSEN, payload_of}
 use Rattle.ring.specs.Ring.{sending, depth}

@@ -1,8 +1,7 @@
 -- Document 02, request 6: the transmit queue of the modelled chip. Its slots are held in any order, and one is shown. Its depth is that of
 -- `frozen`, its control word as it was last written in Configuration.
 -- Assumes nothing.
-use Rattle.std.specs.Prelude.{ℕ, zero, suc, ◌+◌, ◌*◌, ◌^◌, Bool, true, false, ◌&&◌, not, List, [], ◌∷◌, get_or, set, replicate, ltb, leb, eqb}
-use Rattle.laws.specs.If.{if◌then◌else◌}
+use Rattle.std.specs.Prelude.{ℕ, zero, suc, ◌+◌, ◌*◌, ◌^◌, Bool, true, false, ◌&&◌, not, List, [], ◌∷◌, get_or, set, replicate, ltb, leb, eqb, if◌then◌else◌}
 use Rattle.field.specs.Field.{read, flag, write, digit}
 use Rattle.field.specs.Settings.{◌:=◌, settings}
 use Rattle.fifo.specs.Control.{UINC, TXREQ, FRESET}

@@ -1,7 +1,6 @@
 -- A FIFO's registers as they read outside Configuration, and the control word anywhere.
 -- Assumes nothing.
-use Rattle.std.specs.Prelude.{ℕ, Bool, false, List, [], ◌∷◌, ltb, leb, eqb}
-use Rattle.laws.specs.If.{if◌then◌else◌}
+use Rattle.std.specs.Prelude.{ℕ, Bool, false, List, [], ◌∷◌, ltb, leb, eqb, if◌then◌else◌}
 use Rattle.field.specs.Field.{Field, read, write, digit}
 use Rattle.field.specs.Settings.{◌:=◌, settings}
 use Rattle.fifo.specs.Control.{RXTSEN, TXEN, FSIZE, PLSIZE}

@@ -1,8 +1,7 @@
 -- One FIFO of the modelled chip: a ring of slots. Its depth and its direction are those of `frozen`, the control word as it was last
 -- written in Configuration.
 -- Assumes nothing.
-use Rattle.std.specs.Prelude.{ℕ, ◌+◌, ◌-◌, Bool, true, false, [], ◌∷◌, ltb, eqb}
-use Rattle.laws.specs.If.{if◌then◌else◌}
+use Rattle.std.specs.Prelude.{ℕ, ◌+◌, ◌-◌, Bool, true, false, [], ◌∷◌, ltb, eqb, if◌then◌else◌}
 use Rattle.field.specs.Field.{read, flag, write}
 use Rattle.field.specs.Settings.{◌:=◌, settings}
 use Rattle.fifo.specs.Control.{TXEN, UINC, TXREQ, FRESET, FSIZE}

@@ -1,6 +1,5 @@
 // The transmit queue: its slots are held in any order, and one is shown. `frozen` is its control word as last written in Configuration.
-ghost use Rattle.std.specs.Prelude.{◌≡◌, ◌&&◌, not, ◌≤◌, ◌<◌, eqb, get_or, set};
-ghost use Rattle.laws.specs.If.{if◌then◌else◌};
+ghost use Rattle.std.specs.Prelude.{◌≡◌, ◌&&◌, not, ◌≤◌, ◌<◌, eqb, get_or, set, if◌then◌else◌};
 ghost use Rattle.field.specs.Field.{flag};
 ghost use Rattle.fifo.specs.Control.{UINC};
 ghost use Rattle.ring.specs.Queue.{first_not, free, full, empty, status, fresh, controlled, emptied, marked, showing, claimed, freed, sent, configured, commanded, turned, rank_of};

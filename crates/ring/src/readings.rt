@@ -1,6 +1,5 @@
 // A FIFO's registers as they read.
-ghost use Rattle.std.specs.Prelude.{◌≡◌, false};
-ghost use Rattle.laws.specs.If.{if◌then◌else◌};
+ghost use Rattle.std.specs.Prelude.{◌≡◌, false, if◌then◌else◌};
 ghost use Rattle.ring.specs.Ring.{sending};
 ghost use Rattle.ring.specs.Registers.{frozen_fields, copied, control, ready, edge, status};
 

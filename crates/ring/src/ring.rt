@@ -1,6 +1,5 @@
 // One FIFO as a ring of slots. `frozen` is its control word as last written in Configuration.
-ghost use Rattle.std.specs.Prelude.{◌≡◌, [], ◌∷◌, ◌+◌, ◌≤◌, ◌<◌};
-ghost use Rattle.laws.specs.If.{if◌then◌else◌};
+ghost use Rattle.std.specs.Prelude.{◌≡◌, [], ◌∷◌, ◌+◌, ◌≤◌, ◌<◌, if◌then◌else◌};
 ghost use Rattle.field.specs.Field.{write};
 ghost use Rattle.field.specs.Settings.{◌:=◌, settings};
 ghost use Rattle.fifo.specs.Control.{UINC, FRESET, TXREQ};

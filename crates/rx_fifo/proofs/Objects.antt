@@ -10,7 +10,7 @@ use lib.ListN.{length, take, drop, length-drop}
 use lib.Seq.{length-take-le, take-take, get_or-take}
 use lib.Dec.{ltb}
 use borrow.Author.Tests.{eq-eqb, lt-ltb, le-ltb, le-leb}
-use Rattle.laws.specs.If.{if◌then◌else◌}
+use Rattle.std.specs.Prelude.{if◌then◌else◌}
 use Rattle.field.specs.Field.{read, flag}
 use Rattle.fifo.specs.Control.{CiFIFOCON, TXEN, RXTSEN, payload_of, is_fifo}
 use Rattle.fifo.specs.Status.{CiFIFOSTA, TFNRFNIF}

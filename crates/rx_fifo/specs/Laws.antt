@@ -1,7 +1,6 @@
 -- What a peek and a get hand out where the line answers with an object's bytes: the message that these bytes hold.
 -- Assumes nothing.
-use Rattle.std.specs.Prelude.{ℕ, ◌+◌, ◌^◌, ◌≤◌, ◌<◌, ◌≡◌, Bool, true, false, List, [], ◌∷◌, ◌++◌, length, take}
-use Rattle.laws.specs.If.{if◌then◌else◌}
+use Rattle.std.specs.Prelude.{ℕ, ◌+◌, ◌^◌, ◌≤◌, ◌<◌, ◌≡◌, Bool, true, false, List, [], ◌∷◌, ◌++◌, length, take, if◌then◌else◌}
 use Rattle.field.specs.Field.{read, flag}
 use Rattle.fifo.specs.Control.{TXEN, RXTSEN, payload_of, is_fifo}
 use Rattle.fifo.specs.Status.{TFNRFNIF}

@@ -1,7 +1,6 @@
 -- What has-next, peek and get end with, and what they leave in the lent buffer.
 -- Assumes nothing.
-use Rattle.std.specs.Prelude.{ℕ, min, List, Bool, length, take, leb, ltb}
-use Rattle.laws.specs.If.{if◌then◌else◌}
+use Rattle.std.specs.Prelude.{ℕ, min, List, Bool, length, take, leb, ltb, if◌then◌else◌}
 use Rattle.parts.specs.Parts.{put}
 use Rattle.message.specs.Message.{Message}
 use Rattle.spi.specs.declared.refusal.Refusal.{Refusal}

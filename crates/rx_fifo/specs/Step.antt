@@ -1,7 +1,6 @@
 -- Has-next, peek and get, step by step.
 -- Assumes nothing.
-use Rattle.std.specs.Prelude.{ℕ, List, true, take, replicate, ltb}
-use Rattle.laws.specs.If.{if◌then◌else◌}
+use Rattle.std.specs.Prelude.{ℕ, List, true, take, replicate, ltb, if◌then◌else◌}
 use Rattle.field.specs.Field.{mark}
 use Rattle.fifo.specs.Control.{CiFIFOCON, UINC, is_fifo}
 use Rattle.fifo.specs.Status.{CiFIFOSTA}

@@ -1,7 +1,6 @@
 -- Has-next, peek and get as the line sees them, exchange by exchange. The last exchanges come first: read from the end upwards.
 -- Assumes nothing.
-use Rattle.std.specs.Prelude.{ℕ, ◌+◌, Bool, true, List, length, ltb, leb}
-use Rattle.laws.specs.If.{if◌then◌else◌}
+use Rattle.std.specs.Prelude.{ℕ, ◌+◌, Bool, true, List, length, ltb, leb, if◌then◌else◌}
 use Rattle.field.specs.Field.{flag, mark}
 use Rattle.fifo.specs.Control.{CiFIFOCON, TXEN, RXTSEN, UINC, payload_of, is_fifo}
 use Rattle.fifo.specs.Status.{CiFIFOSTA, TFNRFNIF}

@@ -6,7 +6,7 @@ use native.Mathlib.Omega.{arith}
 use lib.Bits.{bit_and}
 use lib.Dec.{eqb}
 use borrow.Author.Tests.{eqb-true, eq-eqb}
-use Rattle.laws.specs.If.{if◌then◌else◌}
+use Rattle.std.specs.Prelude.{if◌then◌else◌}
 use Rattle.field.specs.Field.{bit, read}
 use Rattle.field.proofs.Laws.{field_lt}
 use Rattle.bits.proofs.Bits.{same_bits, and_bit, or_bit, not_bit}

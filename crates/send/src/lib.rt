@@ -1,8 +1,7 @@
 // The bytes of an ask, put together in a lent buffer: its head, and the first bytes of the call's body.
 #![tactic(auto)]
 
-ghost use Rattle.std.specs.Prelude.{◌≡◌, length, leb};
-ghost use Rattle.laws.specs.If.{if◌then◌else◌};
+ghost use Rattle.std.specs.Prelude.{◌≡◌, length, leb, if◌then◌else◌};
 ghost use Rattle.parts.specs.Parts.{put};
 ghost use Rattle.spi.specs.declared.ask.Ask.{Ask};
 ghost use Rattle.send.specs.declared.next.Next.TheVariants.{Transfer, Short};

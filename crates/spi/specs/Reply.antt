@@ -1,7 +1,6 @@
 -- What an answer says: its kind and its length are tested before its bytes (26), a failed exchange is what the call takes it for.
 -- Assumes nothing.
-use Rattle.std.specs.Prelude.{ℕ, Bool, List, ◌++◌, length, take, eqb}
-use Rattle.laws.specs.If.{if◌then◌else◌}
+use Rattle.std.specs.Prelude.{ℕ, Bool, List, ◌++◌, length, take, eqb, if◌then◌else◌}
 use Rattle.words.specs.Words.{le_at, be_at}
 use Rattle.crc.specs.Crc.{crc_of}
 use Rattle.spi.specs.declared.refusal.Refusal.{Refusal}

@@ -1,7 +1,6 @@
 -- What a word of a transcript says as a number.
 -- Assumes nothing.
-use Rattle.std.specs.Prelude.{ℕ, ◌+◌, ◌-◌, ◌*◌, ◌&&◌, List, [], ◌∷◌, ltb, leb, length}
-use Rattle.laws.specs.If.{if◌then◌else◌}
+use Rattle.std.specs.Prelude.{ℕ, ◌+◌, ◌-◌, ◌*◌, ◌&&◌, List, [], ◌∷◌, ltb, leb, length, if◌then◌else◌}
 use Rattle.text.specs.declared.number.Number.{Number}
 
 -- what a character is as a digit: '0' to '9', 'a' to 'f'; 16, a digit of no base, for any other

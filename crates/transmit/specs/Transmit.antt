@@ -1,7 +1,6 @@
 -- The request calls, and transmit: push, then request.
 -- Assumes nothing.
-use Rattle.std.specs.Prelude.{ℕ, List, [], ◌∷◌}
-use Rattle.laws.specs.If.{if◌then◌else◌}
+use Rattle.std.specs.Prelude.{ℕ, List, [], ◌∷◌, if◌then◌else◌}
 use Rattle.field.specs.Settings.{◌:=◌}
 use Rattle.fifo.specs.Control.{CiFIFOCON, TXREQ, is_fifo}
 use Rattle.header.specs.declared.Header.{Header}

@@ -7,7 +7,7 @@ use mathlib.Core.List.{List, [], ◌∷◌, ◌++◌}
 use lib.ListN.{length}
 use lib.Seq.{take-append_seam}
 use lib.Dec.{eqb-suc-zero, ltb}
-use Rattle.laws.specs.If.{if◌then◌else◌}
+use Rattle.std.specs.Prelude.{if◌then◌else◌}
 use Rattle.field.specs.Field.{flag}
 use Rattle.configuration.specs.CanControl.{TXQEN}
 use Rattle.fifo.specs.Control.{TXEN, payload_of, is_fifo}

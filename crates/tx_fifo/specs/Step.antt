@@ -1,7 +1,6 @@
 -- The push calls, step by step: to a FIFO, and to the transmit queue, which is FIFO 0.
 -- Assumes nothing.
-use Rattle.std.specs.Prelude.{ℕ, ◌+◌, Bool, true, false, List, length, eqb, ltb}
-use Rattle.laws.specs.If.{if◌then◌else◌}
+use Rattle.std.specs.Prelude.{ℕ, ◌+◌, Bool, true, false, List, length, eqb, ltb, if◌then◌else◌}
 use Rattle.field.specs.Field.{flag, mark}
 use Rattle.configuration.specs.CanControl.{CiCON, TXQEN}
 use Rattle.fifo.specs.Control.{CiFIFOCON, TXEN, UINC, payload_of, is_fifo}

@@ -1,7 +1,6 @@
 -- The push calls as the line sees them. To a FIFO: control, status, user address, RAM write, control as first read written with UINC.
 -- Assumes nothing.
-use Rattle.std.specs.Prelude.{ℕ, ◌+◌, true, not, List, length, ltb}
-use Rattle.laws.specs.If.{if◌then◌else◌}
+use Rattle.std.specs.Prelude.{ℕ, ◌+◌, true, not, List, length, ltb, if◌then◌else◌}
 use Rattle.field.specs.Field.{flag, mark}
 use Rattle.configuration.specs.CanControl.{CiCON, TXQEN}
 use Rattle.fifo.specs.Control.{CiFIFOCON, UINC, payload_of, is_fifo}

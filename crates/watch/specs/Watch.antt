@@ -1,7 +1,6 @@
 -- Document 02, request 4: the list of watch entries, and where a scrub step begins in it.
 -- Assumes nothing.
-use Rattle.std.specs.Prelude.{ℕ, ◌+◌, Bool, not, List, length, get_or, ltb, eqb}
-use Rattle.laws.specs.If.{if◌then◌else◌}
+use Rattle.std.specs.Prelude.{ℕ, ◌+◌, Bool, not, List, length, get_or, ltb, eqb, if◌then◌else◌}
 use Rattle.laws.specs.All.{all}
 use Rattle.spi.specs.declared.refusal.Refusal.{Refusal}
 use Rattle.place.specs.Place.{is_carried}

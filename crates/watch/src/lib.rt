@@ -2,8 +2,7 @@
 // thin: an entry is read at a place, the addresses are tried one after the other, and a step begins. All else takes plain values.
 #![tactic(auto)]
 
-ghost use Rattle.std.specs.Prelude.{◌≡◌, ◌+◌, ◌&&◌, get_or, eqb, ltb};
-ghost use Rattle.laws.specs.If.{if◌then◌else◌};
+ghost use Rattle.std.specs.Prelude.{◌≡◌, ◌+◌, ◌&&◌, get_or, eqb, ltb, if◌then◌else◌};
 ghost use Rattle.spi.specs.declared.refusal.Refusal.{Refusal};
 ghost use Rattle.place.specs.Place.{is_carried};
 ghost use Rattle.watch.specs.Watch.{blank, all_carried, place_in, turned_down, visiting, start_of};

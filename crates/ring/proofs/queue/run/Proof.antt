@@ -9,7 +9,7 @@ use borrow.Author.Count.{below_more}
 use borrow.Author.Rules.{rules}
 use lib.Dec.{eqb}
 use lib.ListN.{get_or}
-use Rattle.laws.specs.If.{if◌then◌else◌}
+use Rattle.std.specs.Prelude.{if◌then◌else◌}
 use Rattle.ring.proofs.Places.{first_is}
 use Rattle.ring.proofs.queue.run.Statement.{statement}
 use Rattle.ring.proofs.queue.run.Tie as tie
