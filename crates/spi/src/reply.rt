@@ -94,6 +94,7 @@ pub fn wait_reply(answer: Answer, got: usize) -> Done
 }
 
 // Whether the CRC that was received is that of the 3 bytes sent and the 4 data bytes.
+#[tactic(auto, using(crc::proofs::Laws::of_parts), unfolding(crate::specs::Reply::crc_good))]
 fn crc_good(address: u16, rx: &[u8]) -> bool
     requires { length rx.now ≡ 6 }
     ensures { result ≡ crc_good address rx.now }
