@@ -2,17 +2,13 @@
 -- Assumes nothing.
 use mathlib.Core.Path.{◌≡◌, refl}
 use mathlib.Core.Bool.{Bool, true, false}
-use mathlib.Core.List.{[], ◌∷◌}
 use Prim.Native.Nat.{ℕ}
 use native.Mathlib.Omega.{arith}
-use types.Run.{OneOf, miss}
-use denote.Enum.Declared.{tag_of}
 use Rattle.std.specs.Prelude.{if◌then◌else◌}
 use Rattle.state.specs.declared.Model.{Model}
 use Rattle.bus.specs.declared.arrival.Delivery.{Delivery}
 use Rattle.bus.specs.declared.arrival.Delivered.{Delivered}
 use Rattle.bus.specs.Bus.{delivered}
-use Rattle.bus.specs.contracts.arrival.Delivery.{the_type}
 
 -- the first of four causes, or none
 abbrev pub cause_of : (a b c d : Bool) → Delivery
@@ -41,12 +37,12 @@ module _ (m full room : Model) where
   is_full false false false true e = refl
   is_full false false false false e = let z : ◌≡◌ {A = ℕ} 0 1 = cc in absurd (omega arith)
 
-  pub turned_down_lem : (a b c d : Bool) → OneOf (1 ∷ 2 ∷ 3 ∷ 4 ∷ []) (tag_of the_type (cause_of a b c d)) → delivered (cause_of a b c d) m ≡ answer_of a b c d m full room
-  turned_down_lem true b c d e = refl
-  turned_down_lem false true c d e = refl
-  turned_down_lem false false true d e = refl
-  turned_down_lem false false false true e = absurd (miss (1 ∷ 2 ∷ 3 ∷ 4 ∷ []) 5 tt e)
-  turned_down_lem false false false false e = absurd (miss (1 ∷ 2 ∷ 3 ∷ 4 ∷ []) 0 tt e)
+  pub turned_down_lem : (a b c d : Bool) → (cause_of a b c d ≡ Delivery.Delivered → ⊥) → (cause_of a b c d ≡ Delivery.Full → ⊥) → delivered (cause_of a b c d) m ≡ answer_of a b c d m full room
+  turned_down_lem true b c d e f = refl
+  turned_down_lem false true c d e f = refl
+  turned_down_lem false false true d e f = refl
+  turned_down_lem false false false true e f = absurd (f refl)
+  turned_down_lem false false false false e f = absurd (e refl)
 
 -- where nothing turns a frame down the FIFO is not full
 pub has_room : (a b c d : Bool) → cause_of a b c d ≡ Delivery.Delivered → d ≡ false

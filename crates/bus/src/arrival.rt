@@ -125,6 +125,7 @@ pub fn give(
     appended(m, n, payload.len(), &object[..len])
 }
 
+#[tactic(auto, unfolding(crate::specs::Bus::deliver_of))]
 pub fn deliver(m: Model, n: u32, header: Header, dlc: u32, time: u32, payload: &[u8]) -> Delivered
     ensures { result ≡ deliver_of m n header dlc time payload.now }
 {

@@ -80,6 +80,7 @@ fn filtered(m: Model, dlc: u32, header: Header, time: u32, payload: &[u8]) -> So
     by_filter(d, n, f)
 }
 
+#[tactic(auto, unfolding(crate::specs::Sort::sort_of))]
 pub fn sort(m: Model, header: Header, dlc: u32, time: u32, payload: &[u8]) -> Sorted
     ensures { result ≡ sort_of m header dlc time payload.now }
 {

@@ -13,9 +13,9 @@ unfolding give
 give_spec =
     tie.close
     (tie.spec (λ c κs. search rules) (λ c κs. search rules)
-    (λ c. fits _ _ _ (arriving_most _ _ _ _ _ c.before.before.before.before.requires.3) c.arrive.ensures)
-    (λ c. sym (length-take-le _ _ (fits _ _ _ (arriving_most _ _ _ _ _ c.before.before.before.before.before.requires.3) c.before.arrive.ensures)))
+    (λ c. fits _ _ _ (arriving_most _ _ _ _ _ c.before.before.before.before.requires.3) c.arrive-len.ensures)
+    (λ c. sym (length-take-le _ _ (fits _ _ _ (arriving_most _ _ _ _ _ c.before.before.before.before.before.requires.3) c.before.arrive-len.ensures)))
     (λ c κs. search rules)
     (λ c.
     let a = c.before.before in
-    rw (c.appended.ensures, front _ _ _ (arriving_most _ _ _ _ _ a.before.before.before.before.requires.3) a.arrive.ensures, a.before.before.stamp_of.ensures)))
+    rw (c.appended.ensures, front _ _ _ (arriving_most _ _ _ _ _ a.before.before.before.before.requires.3) a.arrive-len.ensures, a.before.before.stamp_of.ensures)))

@@ -12,6 +12,6 @@ unfolding receives
 receives_spec =
     tie.close
     (tie.spec (λ c κs. search rules)
-    (λ c. rw (sym c.before.is_fifo.ensures ∙ not-true _ c.if1.true))
+    (λ c. rw (sym c.before.is_fifo.ensures ∙ not-true _ c.if-not-is_fifo.true-raw))
     (λ c κs. search rules) (λ c κs. search rules)
-    (λ c. rw (sym c.before.before.before.is_fifo.ensures ∙ not-false _ c.before.before.if1.false, c.sending.ensures, c.before.frozen_at.ensures)))
+    (λ c. rw (sym c.before.before.before.is_fifo.ensures ∙ not-false _ c.before.before.if-not-is_fifo.false-raw, c.sending.ensures, c.before.frozen_at.ensures)))

@@ -9,5 +9,5 @@ pub stamp_of_spec : {M : Type 1} → statement M
 stamp_of_spec =
     tie.close
     (tie.spec (λ c κs. search rules) (λ c κs. search rules)
-    (λ c. simp (rw c.before.before.frozen_at.ensures at (sym c.before.stamped.ensures ∙ c.if1.true)))
-    (λ c. simp (rw c.before.before.frozen_at.ensures at (sym c.before.stamped.ensures ∙ c.if1.false))))
+    (λ c. simp (rw c.before.before.frozen_at.ensures at (sym c.before.stamped.ensures ∙ c.if-stamped.true)))
+    (λ c. simp (rw c.before.before.frozen_at.ensures at (sym c.before.stamped.ensures ∙ c.if-stamped.false))))

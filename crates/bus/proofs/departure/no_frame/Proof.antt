@@ -7,4 +7,4 @@ use Rattle.bus.proofs.departure.no_frame.Tie as tie
 
 pub no_frame_spec : {M : Type 1} → statement M
 unfolding decoding
-no_frame_spec = tie.close (tie.spec (search rules) (λ c κs. search rules) (λ c. rw c.before.decode.ensures))
+no_frame_spec = tie.close (tie.spec (search rules) (λ c κs. search rules) (λ c. rw c.before.decode-d.ensures))

@@ -13,10 +13,10 @@ unfolding decoding
 held_at_spec =
     tie.close
     (tie.spec (λ c κs. search rules)
-    (λ c. record { fits = fifo_fits_lem _ (held_fifo _ _ _ (rw c.before.held_len.ensures at c.if1.true)) })
+    (λ c. record { fits = fifo_fits_lem _ (held_fifo _ _ _ (rw c.before.held_len.ensures at c.if-k-held_len.true)) })
     (λ c κs. search rules)
-    (λ c. rw (c.item_at.ensures, held_at _ _ _ (rw c.before.before.held_len.ensures at c.before.if1.true)))
+    (λ c. rw (c.item_at.ensures, held_at _ _ _ (rw c.before.before.held_len.ensures at c.before.if-k-held_len.true)))
     (search rules) (λ c κs. search rules)
     (λ c.
     let a = c.before.before.before.before.args in
-    rw (c.decode.ensures, get_or-eq_default (held a.m a.n) short {n = a.k} (rw c.before.before.before.held_len.ensures at c.before.before.if1.false))))
+    rw (c.decode.ensures, get_or-eq_default (held a.m a.n) short {n = a.k} (rw c.before.before.before.held_len.ensures at c.before.before.if-k-held_len.false))))

@@ -13,7 +13,7 @@ unfolding held
 held_len_spec =
     tie.close
     (tie.spec (λ c κs. search rules)
-    (λ c. simp (sym c.before.is_fifo.ensures ∙ not-true _ c.if1.true))
-    (λ c. record { fits = fifo_fits_lem _ (sym c.before.is_fifo.ensures ∙ not-false _ c.if1.false) })
+    (λ c. simp (sym c.before.is_fifo.ensures ∙ not-true _ c.if-not-is_fifo.true-raw))
+    (λ c. record { fits = fifo_fits_lem _ (sym c.before.is_fifo.ensures ∙ not-false _ c.if-not-is_fifo.false-raw) })
     (λ c κs. search rules)
-    (λ c. simp (sym c.before.before.is_fifo.ensures ∙ not-false _ c.before.if1.false, row_length_lem, c.fifo_at.ensures)))
+    (λ c. simp (sym c.before.before.is_fifo.ensures ∙ not-false _ c.before.if-not-is_fifo.false-raw, row_length_lem, c.fifo_at-own.ensures)))

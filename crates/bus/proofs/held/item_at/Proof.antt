@@ -10,4 +10,4 @@ unfolding item_at
 item_at_spec =
     tie.close
     (tie.spec (λ c κs. search rules) (λ c κs. search rules) (λ c κs. search rules) (λ c κs. search rules) (λ c κs. search rules) (λ c κs. search rules)
-    (λ c. simp (c.decoded.ensures, c.before.size.ensures.0, c.before.before.slot_of.ensures.0, c.before.before.before.stamped.ensures, c.before.before.before.before.sending.ensures, c.before.before.before.before.before.before.frozen_at.ensures)))
+    (λ c. simp (c.decoded.ensures, c.before.size.ensures.0, c.before.before.slot_of.ensures.0, c.before.before.before.stamped.ensures, c.before.before.before.before.sending.ensures, c.before.before.before.before.before.before.frozen_at-w.ensures)))

@@ -10,4 +10,4 @@ unfolding slot_of
 slot_of_spec =
     tie.close
     (tie.spec (λ c κs. search rules) (λ c κs. search rules) (λ c κs. search rules) (λ c κs. search rules) (λ c κs. search rules)
-    (λ c. (simp (c.slot_at.ensures.0, c.before.place.ensures.0, c.before.before.depth.ensures.0, c.before.before.before.frozen_at.ensures, c.before.before.before.before.fifo_at.ensures), c.slot_at.ensures.1)))
+    (λ c. (simp (c.slot_at.ensures.0, c.before.place-p.ensures.0, c.before.before.depth.ensures.0, c.before.before.before.frozen_at.ensures, c.before.before.before.before.fifo_at-f.ensures), c.slot_at.ensures.1)))

@@ -9,6 +9,6 @@ pub better_spec : {M : Type 1} → statement M
 better_spec =
     tie.close
     (tie.spec (λ c κs. search rules) (λ c κs. search rules)
-    (λ c. simp (lt-ltb _ _ (rw (c.before.rank2.ensures, c.before.before.rank.ensures) at c.if2.true), lt-ltb _ _ c.before.before.before.if1.true))
-    (λ c. simp (le-ltb _ _ (rw (c.before.rank2.ensures, c.before.before.rank.ensures) at c.if2.false), lt-ltb _ _ c.before.before.before.if1.true))
-    (λ c. simp (le-ltb _ _ c.if1.false)))
+    (λ c. simp (lt-ltb _ _ (rw (c.before.rank-then-b-lt-NO_SLOT.ensures, c.before.before.rank.ensures) at c.if-rank.true), lt-ltb _ _ c.before.before.before.if-b-lt-NO_SLOT.true))
+    (λ c. simp (le-ltb _ _ (rw (c.before.rank-then-b-lt-NO_SLOT.ensures, c.before.before.rank.ensures) at c.if-rank.false), lt-ltb _ _ c.before.before.before.if-b-lt-NO_SLOT.true))
+    (λ c. simp (le-ltb _ _ c.if-b-lt-NO_SLOT.false)))

@@ -10,4 +10,4 @@ pub byte_at_spec : {M : Type 1} → statement M
 byte_at_spec =
     tie.close
     (tie.spec (search rules) (search rules)
-    (λ c. sym (get_or-eq_default c.before.args.ram.now 0 c.if1.false)))
+    (λ c. sym (get_or-eq_default c.before.args.ram.now 0 c.if-at-ram.false)))

@@ -18,4 +18,4 @@ rank_spec =
     (λ c. omega (arith, most c.before.before.args.k c.before.before.args.size (omega arith) c.before.before.requires))
     (λ c κs. omega (arith, most c.before.before.args.k c.before.before.args.size (omega arith) c.before.before.requires))
     (λ c κs. search rules)
-    (λ c. rw (c.rank_of.ensures, c.before.word_at2.ensures, c.before.before.word_at.ensures)))
+    (λ c. rw (c.rank_of.ensures, c.before.word_at-2.ensures, c.before.before.word_at.ensures)))

@@ -15,11 +15,11 @@ send_queue_spec =
     (λ c.
     let s = c.before.before.before in
     let w = s.before in
-    simp (c.answered.ensures, c.before.no_frame.ensures, rw w.winner.ensures at (sym s.sends.ensures ∙ not-true _ c.before.before.if1.true)))
+    simp (c.answered.ensures, c.before.no_frame.ensures, rw w.winner-k.ensures at (sym s.sends.ensures ∙ not-true _ c.before.before.if-not-sends.true-raw)))
     (λ c κs. search rules) (λ c κs. search rules) (λ c κs. search rules) (λ c κs. search rules) (λ c κs. search rules)
     (λ c.
     let i = c.before.before.before.before.before in
     let s = i.before.before in
     let w = s.before in
-    c.taken.ensures (queue_item w.before.args.m w.winner.result) i.queue_item.ensures
-    ∙ simp (c.before.with_queue.ensures, c.before.before.sent.ensures, c.before.before.before.frozen_at.ensures, w.winner.ensures, rw w.winner.ensures at (sym s.sends.ensures ∙ not-false _ i.before.if1.false))))
+    c.taken.ensures (queue_item w.before.args.m w.winner-k.result) i.queue_item-item.ensures
+    ∙ simp (c.before.with_queue-next.ensures, c.before.before.sent.ensures, c.before.before.before.frozen_at.ensures, w.winner-k.ensures, rw w.winner-k.ensures at (sym s.sends.ensures ∙ not-false _ i.before.if-not-sends.false-raw))))

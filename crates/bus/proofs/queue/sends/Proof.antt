@@ -9,7 +9,7 @@ use Rattle.bus.proofs.queue.sends.Tie as tie
 pub sends_spec : {M : Type 1} → statement M
 sends_spec =
     tie.close
-    (tie.spec (λ c. simp (not-true c.before.args.on c.if1.true))
+    (tie.spec (λ c. simp (not-true c.before.args.on c.if-not-on.true-raw))
     (λ c κs. search rules)
-    (λ c. simp (sym c.before.txreq.ensures ∙ not-true _ c.if2.true, not-false c.before.before.before.args.on c.before.before.if1.false))
-    (λ c. simp (sym c.before.txreq.ensures ∙ not-false _ c.if2.false, not-false c.before.before.before.args.on c.before.before.if1.false)))
+    (λ c. simp (sym c.before.txreq.ensures ∙ not-true _ c.if-not-txreq.true-raw, not-false c.before.before.before.args.on c.before.before.if-not-on.false-raw))
+    (λ c. simp (sym c.before.txreq.ensures ∙ not-false _ c.if-not-txreq.false-raw, not-false c.before.before.before.args.on c.before.before.if-not-on.false-raw)))

@@ -10,4 +10,4 @@ unfolding le_at
 word_at_spec =
     tie.close
     (tie.spec (λ c κs. search rules) (search rules) (λ c κs. search rules) (search rules) (λ c κs. search rules) (search rules) (λ c κs. search rules) (search rules) (λ c κs. search rules)
-    (λ c. rw (c.le_at.ensures, c.before.before.byte_at4.ensures, c.before.before.before.byte_at3.ensures, c.before.before.before.before.byte_at2.ensures, c.before.before.before.before.before.byte_at.ensures)))
+    (λ c. rw (c.le_at.ensures, c.before.before.byte_at-4.ensures, c.before.before.before.byte_at-3.ensures, c.before.before.before.before.byte_at-2.ensures, c.before.before.before.before.before.byte_at.ensures)))

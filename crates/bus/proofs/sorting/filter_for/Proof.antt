@@ -8,4 +8,4 @@ pub filter_for_spec : {M : Type 1} → statement M
 filter_for_spec =
     tie.close
     (tie.spec (λ c κs. search rules) (λ c κs. search rules) (λ c κs. search rules)
-    (λ c. rw (c.lowest.ensures, c.before.before.before.before.eid_of.ensures.0, c.before.before.before.before.before.sid_of.ensures.0)))
+    (λ c. rw (c.lowest.ensures, c.before.before.before.before.eid_of-eid.ensures.0, c.before.before.before.before.before.sid_of-sid.ensures.0)))
