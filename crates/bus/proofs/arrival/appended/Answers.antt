@@ -1,6 +1,6 @@
 -- `bus::arrival::appended` meets its contract.
 -- Assumes nothing.
-use Rattle.std.proofs.Common.{sym, not, ltb, leb, arith}
+use Rattle.std.proofs.Common.{sym, true, not, ltb, leb, arith}
 use borrow.Author.Tests.{leb-false}
 use Rattle.fifo.specs.Control.{payload_of}
 use Rattle.ring.specs.Ring.{depth, claimed, overflowed}
