@@ -115,6 +115,7 @@ pub fn transmit_ask(c: TransmitNumbers) -> Ask
 }
 
 // The word that is written for the one that was read.
+#[tactic(auto, using(crate::proofs::Transmits::request_word))]
 fn requested(fifo: u8, w: u32) -> u32
     ensures { result ≡ modified (request_change fifo) w }
 {
