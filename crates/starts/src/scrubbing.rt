@@ -47,7 +47,7 @@ fn size_of(n: usize) -> usize
     if n < 3072 { n / 12 } else { 256 }
 }
 
-// The one place where a list is lent, with nothing else in it: proved by hand.
+// The one place where a list is lent, with nothing else in it.
 fn scrub_front(s: Scrubber, list: [Watch; 256], n: usize, rewrite: bool) -> Call
     requires { n ≤ 256 }
     ensures { call_of result ≡ started (Scrub s.place (take n list) rewrite) }
