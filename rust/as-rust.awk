@@ -1,7 +1,10 @@
 # A file of Rattle, written as Rust: what differs is exactly this.
-#   - `ghost use ..;`, `requires { .. }` and `ensures { .. }`, each a line of its own, become comments, marked //@
-#   - `struct` and `enum` get a derive in front of them, on the same line: in Rattle plain data is Copy
+#   - `ghost use ..;`, `requires { .. }`, `ensures { .. }`, `#![tactic(..)]` and `#[tactic(..)]`, each a line of its own, become comments,
+#     marked //@
+#   - `#[derive(Clone, Copy)]`, the line in front of each `struct` and `enum`, derives Debug, PartialEq and Eq too
 #   - `crate::X` becomes `ROOT::NAME::X`, as a Rattle crate is a module here
+#   - `use std::rt::..;`, the standard streams, becomes `use KITROOT::rt::..;`, and a program's `fn main(rt: HostRuntime) {` takes nothing
+#     and makes the runtime itself
 #   - one or two lines at the end import the crates that the file names
 # So line n here is line n there. What is passed on is the grammar below, a part of both languages that means the same in both: a
 # construct that is not in it is an error with file and line, and then nothing is written.
@@ -15,7 +18,7 @@ BEGIN {
     for (i = 1; i <= last_dep; i++) dep[order[i]] = 1
     set_of(kit, kits)
     set_of(integer, "u8 u16 u32 u64 usize i8 i16 i32 i64 isize")
-    set_of(method, "len " methods)
+    set_of(method, "len read write_all stdin stdout stderr " methods)
     # what Rust or Rattle reserve: none of these is a name
     set_of(reserved, "as break const crate else enum false fn if impl let loop match mod mut pub return self Self struct true use while")
     set_of(reserved, "abstract async await become box continue do dyn extern final for gen in macro move override priv ref static super")
@@ -35,7 +38,10 @@ BEGIN {
     ranked(8, "+ -")
     ranked(9, "* / %")
     set_of(assigns, "= += -= *= /= %= &= |= ^= <<= >>=")
-    derive = "#[derive(Clone, Copy, Debug, PartialEq, Eq)] "
+    derive = "#[derive(Clone, Copy)]"
+    derives = "#[derive(Clone, Copy, Debug, PartialEq, Eq)]"
+    main = "fn main(rt: HostRuntime) {"
+    mains = "fn main() { let rt = " kitroot "::rt::HostRuntime;"
 }
 
 function set_of(set, words,    i, k) { for (i = split(words, k, " "); i > 0; i--) set[k[i]] = 1 }
@@ -52,7 +58,7 @@ END {
         if (is("const")) constants[token[p + 1]] = 1
     }
     for (p = 1; p <= tokens;) item()
-    for (l = 1; l <= NR; l++) print (l in ghost ? "//@ " line[l] : (l in typed ? derive : "") moved(l))
+    for (l = 1; l <= NR; l++) print (l in ghost ? "//@ " line[l] : l in whole ? whole[l] : moved(l))
     imports(root, 0)
     imports(kitroot, 1)
 }
@@ -62,7 +68,7 @@ function die(l, why) {
     exit 1
 }
 
-# ---- Lines as tokens. Kinds: W word, N number, B byte or string, S sign, G ghost use, C contract.
+# ---- Lines as tokens. Kinds: W word, N number, B byte or string, S sign, G ghost use or another line that is whole, C contract, D derive.
 
 function add(text, of, l, column) {
     token[++tokens] = text
@@ -76,6 +82,20 @@ function scan(l, s) {
         if (s !~ /^ghost use [^{}";]+(\{[^{}";]*\})?;$/ || s ~ /[\001-\037\177]/) die(l, "a ghost use of another form")
         ghost[l] = 1
         add("ghost use", "G", l, 1)
+    } else if (!in_string && s ~ /^ *#!?\[tactic\(/) {
+        if (s !~ /^ *#!?\[tactic\([a-z_A-Z0-9:, ()]*\)\]$/) die(l, "a tactic of another form")
+        ghost[l] = 1
+        add("tactic", "G", l, 1)
+    } else if (!in_string && s == derive) {
+        whole[l] = derives
+        add(derive, "D", l, 1)
+    } else if (!in_string && s ~ /^use std::/) {
+        if (s !~ /^use std::rt::([A-Z][A-Za-z]*|\{[A-Z][A-Za-z]*(, [A-Z][A-Za-z]*)*\});$/ && s != "use std::io::Read;") die(l, "a use of std of another form")
+        if (s ~ /^use std::rt::/) whole[l] = "use " kitroot substr(s, 8)
+        add("use std", "G", l, 1)
+    } else if (!in_string && program && s == main) {
+        whole[l] = mains
+        code(l, "fn main() {")
     } else if (!in_string && s ~ /^ *(requires|ensures) \{/) {
         contract(l, s)
         ghost[l] = 1
@@ -181,19 +201,21 @@ function item(    start) {
         for (take("{"); !is("}"); member()) ;
         p++
     } else {
+        if (is_kind("D")) p++
         if (is("pub")) p++
-        if (is("use")) use()
+        if (is("struct") || is("enum")) {
+            if (!(p > 1 && kind[start] == "D" && place[start + 1] == 1)) wanted("a type at the beginning of its line, behind its derive")
+            if (is("enum")) enumeration(); else structure()
+        } else if (kind[start] == "D") wanted("a type")
+        else if (is("use")) use()
         else if (is("mod")) mod()
         else if (is("const")) constant()
-        else if (is("struct") || is("enum")) {
-            if (place[start] != 1) wanted("a type at the beginning of its line")
-            typed[row[start]] = 1
-            if (is("enum")) enumeration(); else structure()
-        } else if (is("fn")) procedure()
+        else if (is("fn")) procedure()
         else wanted("an item that is known")
     }
 }
 function member() {
+    if (is_kind("G") && token[p] == "tactic") p++
     if (is("pub")) p++
     if (is("const")) constant()
     else procedure()
@@ -203,9 +225,21 @@ function use(    w) {
     take("use")
     if (is("crate")) ours()
     else from(small())
-    do { take("::"); w = any_name() } while (is("::"))
+    do {
+        take("::")
+        if (is("{")) { names(); take(";"); return }
+        w = any_name()
+    } while (is("::"))
     take(";")
     if (w ~ /^[a-z]/) here[w] = 1
+}
+# Several names of one module.
+function names(    w) {
+    for (take("{"); !is("}"); comma("}")) {
+        w = any_name()
+        if (w ~ /^[a-z]/) here[w] = 1
+    }
+    p++
 }
 # `crate`, which is moved when it is printed.
 function ours() {
@@ -382,6 +416,7 @@ function parts(    long) {
     if (is("crate")) ours()
     else if (is("Self")) p++
     else if (is_small()) from(small())
+    else if ((is("Ok") || is("Err")) && token[p + 1] == "(") p++ # of a read or a write, the same in both
     else if (capital() in prelude) refused("a name of Rust's")
     for (; is("::"); long = 1) { p++; any_name() }
     if (is("(")) { for (p++; !is(")"); comma(")")) pattern(); p++ }

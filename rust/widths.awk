@@ -55,7 +55,7 @@ FNR == 1 {
     contract = sub(/^\/\/@ /, "", code)
     if (!contract) sub(/\/\/.*/, "", code)
     code = trimmed(code)
-    if (code == "" || code ~ /^ghost use /) next
+    if (code == "" || code ~ /^ghost use / || contract && code ~ /^#!?\[tactic\(/) next
     if (!contract && code ~ /["']/) told(FILENAME ":" FNR, "a string or a byte, in which a sign may hide")
     if (name == "") outside()
     if (!body && !contract && code ~ /(^|[^A-Za-z0-9_])usize([^A-Za-z0-9_]|$)/) declarations = declarations code "\n"

@@ -1,5 +1,4 @@
 // Stands for the Rattle kit's crate `io`: what the programs use of it.
-use super::libc;
 
 pub fn buffer() -> [u8; 4096] {
     [0; 4096]
@@ -7,24 +6,6 @@ pub fn buffer() -> [u8; 4096] {
 
 pub fn large_buffer() -> [u8; 65536] {
     [0; 65536]
-}
-
-/// What a read answered, as a number of the buffer's bytes.
-pub fn count(got: isize, buf: &[u8]) -> usize {
-    usize::try_from(got).unwrap_or(0).min(buf.len())
-}
-
-/// Whether all was written.
-pub fn write_all(fd: i32, buf: &[u8]) -> bool {
-    let mut rest = buf;
-    while !rest.is_empty() {
-        let n = count(libc::write(fd, rest), rest);
-        if n == 0 {
-            return false;
-        }
-        rest = &rest[n..];
-    }
-    true
 }
 
 fn digits(n: u64, base: u64, least: usize, out: &mut [u8]) -> usize {
@@ -50,10 +31,4 @@ pub fn decimal(n: u64, out: &mut [u8; 20]) -> usize {
 /// The same in hexadecimal, with zeros in front up to `width` digits, from 1 to 16.
 pub fn hex(n: u64, width: usize, out: &mut [u8; 16]) -> usize {
     digits(n, 16, width.clamp(1, 16), out)
-}
-
-pub fn print_decimal(fd: i32, n: u64) -> bool {
-    let mut text = [0; 20];
-    let k = decimal(n, &mut text);
-    write_all(fd, &text[..k])
 }
