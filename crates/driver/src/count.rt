@@ -83,6 +83,7 @@ fn push_turns(c: PushNumbers, behind: u32) -> u32
     }
 }
 
+#[tactic(auto, using(crate::proofs::Counts::none_behind))]
 fn stage_turns(p: PushNumbers, stage: RequestStage) -> u32
     ensures { (result ≡ plan_left (request_of stage p)) × (result < 1000) }
 {
@@ -162,6 +163,7 @@ fn scrub_turns(c: ScrubNumbers) -> u32
     }
 }
 
+#[tactic(auto, unfolding(crate::specs::Numbers::model_of, crate::specs::Start::of_register, crate::specs::Start::of_ram, crate::specs::Start::of_plan, crate::specs::Start::of_push, crate::specs::Start::of_transmit, crate::specs::Start::of_fetch, crate::specs::Start::of_scrub, rx_fifo::specs::Numbers::fetch_of))]
 pub fn turns_lent(c: Numbers, body: &[u8; 76]) -> u32
     ensures { result ≡ left (model_of c body.now) }
 {

@@ -42,6 +42,7 @@ pub fn finish(call: Call, rx: &[u8], buf: &mut [u8]) -> Outcome
 }
 
 // Whether the message of a push or a transmit is in the chip: also where the transmit's request was refused.
+#[tactic(auto, unfolding(crate::specs::Finish::accepted_by, crate::specs::Numbers::call_of, crate::specs::Numbers::model_of, crate::specs::Start::of_register, crate::specs::Start::of_ram, crate::specs::Start::of_plan, crate::specs::Start::of_push, crate::specs::Start::of_transmit, crate::specs::Start::of_fetch, crate::specs::Start::of_scrub))]
 pub fn accepted(call: Call) -> bool
     ensures { result ≡ accepted_by (call_of call) }
 {
@@ -62,6 +63,7 @@ pub fn accepted(call: Call) -> bool
 
 // The scrubber of a scrub step: moved on where the step reported, as it was where the step was refused or is not over. Of a call of
 // another kind: at the first entry.
+#[tactic(auto, unfolding(crate::specs::Finish::place_of, crate::specs::Numbers::call_of, crate::specs::Numbers::model_of, crate::specs::Start::of_register, crate::specs::Start::of_ram, crate::specs::Start::of_plan, crate::specs::Start::of_push, crate::specs::Start::of_transmit, crate::specs::Start::of_fetch, crate::specs::Start::of_scrub))]
 pub fn scrubber(call: Call) -> Scrubber
     ensures { result.place ≡ place_of (call_of call) }
 {

@@ -19,6 +19,7 @@ use send::Next;
 use spi::{Answer, Ask};
 
 // What is asked does not look at the body.
+#[tactic(auto, unfolding(crate::specs::Step::ask_of, crate::specs::Numbers::model_of, crate::specs::Start::of_register, crate::specs::Start::of_ram, crate::specs::Start::of_plan, crate::specs::Start::of_push, crate::specs::Start::of_transmit, crate::specs::Start::of_fetch, crate::specs::Start::of_scrub))]
 fn ask(c: Numbers) -> Ask
     ensures { result ≡ ask_of (model_of c []) }
 {

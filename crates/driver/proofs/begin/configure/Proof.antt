@@ -7,4 +7,4 @@ use Rattle.driver.proofs.begin.configure.Statement.{statement}
 use Rattle.driver.proofs.begin.configure.Tie as tie
 
 pub configure_spec : {M : Type 1} → statement M
-configure_spec = tie.close (tie.spec (λ c κs. search rules) (λ c κs. search rules) (λ c. c.of_plan.ensures ∙ ap of_plan c.before.configure_all.ensures))
+configure_spec = tie.close (tie.spec (λ c κs. search rules) (λ c κs. search rules) (λ c. c.of_plan.ensures ∙ ap of_plan c.before.configure_all-p.ensures))

@@ -7,4 +7,4 @@ use Rattle.driver.proofs.begin.configure_bit_timing.Statement.{statement}
 use Rattle.driver.proofs.begin.configure_bit_timing.Tie as tie
 
 pub configure_bit_timing_spec : {M : Type 1} → statement M
-configure_bit_timing_spec = tie.close (tie.spec (λ c κs. search rules) (λ c κs. search rules) (λ c. c.of_plan.ensures ∙ ap of_plan c.before.configure_bit_timing.ensures))
+configure_bit_timing_spec = tie.close (tie.spec (λ c κs. search rules) (λ c κs. search rules) (λ c. c.of_plan.ensures ∙ ap of_plan c.before.configure_bit_timing-p.ensures))

@@ -7,4 +7,4 @@ use Rattle.driver.proofs.begin.configure_fifo.Statement.{statement}
 use Rattle.driver.proofs.begin.configure_fifo.Tie as tie
 
 pub configure_fifo_spec : {M : Type 1} → statement M
-configure_fifo_spec = tie.close (tie.spec (λ c κs. search rules) (λ c κs. search rules) (λ c. c.of_plan.ensures ∙ ap of_plan (c.before.configure_fifo.ensures _)))
+configure_fifo_spec = tie.close (tie.spec (λ c κs. search rules) (λ c κs. search rules) (λ c. c.of_plan.ensures ∙ ap of_plan (c.before.configure_fifo-p.ensures _)))

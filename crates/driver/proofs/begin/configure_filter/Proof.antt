@@ -7,4 +7,4 @@ use Rattle.driver.proofs.begin.configure_filter.Statement.{statement}
 use Rattle.driver.proofs.begin.configure_filter.Tie as tie
 
 pub configure_filter_spec : {M : Type 1} → statement M
-configure_filter_spec = tie.close (tie.spec (λ c κs. search rules) (λ c κs. search rules) (λ c. c.of_plan.ensures ∙ ap of_plan c.before.configure_filter.ensures))
+configure_filter_spec = tie.close (tie.spec (λ c κs. search rules) (λ c κs. search rules) (λ c. c.of_plan.ensures ∙ ap of_plan c.before.configure_filter-p.ensures))

@@ -7,4 +7,4 @@ use Rattle.driver.proofs.begin.configure_io.Statement.{statement}
 use Rattle.driver.proofs.begin.configure_io.Tie as tie
 
 pub configure_io_spec : {M : Type 1} → statement M
-configure_io_spec = tie.close (tie.spec (λ c κs. search rules) (λ c κs. search rules) (λ c. c.of_plan.ensures ∙ ap of_plan (c.before.configure_io.ensures _)))
+configure_io_spec = tie.close (tie.spec (λ c κs. search rules) (λ c κs. search rules) (λ c. c.of_plan.ensures ∙ ap of_plan (c.before.configure_io-p.ensures _)))

@@ -7,4 +7,4 @@ use Rattle.driver.proofs.begin.configure_osc.Statement.{statement}
 use Rattle.driver.proofs.begin.configure_osc.Tie as tie
 
 pub configure_osc_spec : {M : Type 1} → statement M
-configure_osc_spec = tie.close (tie.spec (λ c κs. search rules) (λ c κs. search rules) (λ c. c.of_plan.ensures ∙ ap of_plan (c.before.configure_osc.ensures _)))
+configure_osc_spec = tie.close (tie.spec (λ c κs. search rules) (λ c κs. search rules) (λ c. c.of_plan.ensures ∙ ap of_plan (c.before.configure_osc-p.ensures _)))

@@ -7,4 +7,4 @@ use Rattle.driver.proofs.begin.configure_tx_queue.Statement.{statement}
 use Rattle.driver.proofs.begin.configure_tx_queue.Tie as tie
 
 pub configure_tx_queue_spec : {M : Type 1} → statement M
-configure_tx_queue_spec = tie.close (tie.spec (λ c κs. search rules) (λ c κs. search rules) (λ c. c.of_plan.ensures ∙ ap of_plan c.before.configure_tx_queue.ensures))
+configure_tx_queue_spec = tie.close (tie.spec (λ c κs. search rules) (λ c κs. search rules) (λ c. c.of_plan.ensures ∙ ap of_plan c.before.configure_tx_queue-p.ensures))

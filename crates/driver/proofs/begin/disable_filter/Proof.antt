@@ -7,4 +7,4 @@ use Rattle.driver.proofs.begin.disable_filter.Statement.{statement}
 use Rattle.driver.proofs.begin.disable_filter.Tie as tie
 
 pub disable_filter_spec : {M : Type 1} → statement M
-disable_filter_spec = tie.close (tie.spec (λ c κs. search rules) (λ c κs. search rules) (λ c. c.of_plan.ensures ∙ ap of_plan (c.before.disable_filter.ensures _)))
+disable_filter_spec = tie.close (tie.spec (λ c κs. search rules) (λ c κs. search rules) (λ c. c.of_plan.ensures ∙ ap of_plan (c.before.disable_filter-p.ensures _)))

@@ -6,4 +6,4 @@ use Rattle.driver.proofs.begin.fifo_number.Statement.{statement}
 use Rattle.driver.proofs.begin.fifo_number.Tie as tie
 
 pub fifo_number_spec : {M : Type 1} → statement M
-fifo_number_spec = tie.close (tie.spec (search rules) (λ c. simp (lt-ltb _ _ c.if1.true)) (λ c. simp (le-ltb _ _ c.if1.false)))
+fifo_number_spec = tie.close (tie.spec (search rules) (λ c. simp (lt-ltb _ _ c.if-n-lt256.true)) (λ c. simp (le-ltb _ _ c.if-n-lt256.false)))

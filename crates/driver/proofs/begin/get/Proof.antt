@@ -7,4 +7,4 @@ use Rattle.driver.proofs.begin.get.Statement.{statement}
 use Rattle.driver.proofs.begin.get.Tie as tie
 
 pub get_spec : {M : Type 1} → statement M
-get_spec = tie.close (tie.spec (λ c κs. search rules) (λ c κs. search rules) (λ c κs. search rules) (λ c. c.of_fetch.ensures ∙ ap of_fetch (rw c.before.before.before.fifo_number.ensures at c.before.get_start.ensures)))
+get_spec = tie.close (tie.spec (λ c κs. search rules) (λ c κs. search rules) (λ c κs. search rules) (λ c. c.of_fetch.ensures ∙ ap of_fetch (rw c.before.before.before.fifo_number.ensures at c.before.get_start-p.ensures)))

@@ -7,4 +7,4 @@ use Rattle.driver.proofs.begin.has_next.Statement.{statement}
 use Rattle.driver.proofs.begin.has_next.Tie as tie
 
 pub has_next_spec : {M : Type 1} → statement M
-has_next_spec = tie.close (tie.spec (λ c κs. search rules) (λ c κs. search rules) (λ c κs. search rules) (λ c. c.of_fetch.ensures ∙ ap of_fetch (rw c.before.before.before.fifo_number.ensures at c.before.has_next_start.ensures)))
+has_next_spec = tie.close (tie.spec (λ c κs. search rules) (λ c κs. search rules) (λ c κs. search rules) (λ c. c.of_fetch.ensures ∙ ap of_fetch (rw c.before.before.before.fifo_number.ensures at c.before.has_next_start-p.ensures)))

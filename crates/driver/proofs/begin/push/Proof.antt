@@ -8,4 +8,4 @@ use Rattle.driver.proofs.begin.push.Tie as tie
 
 pub push_spec : {M : Type 1} → statement M
 push_spec = tie.close (tie.spec (λ c κs. search rules) (λ c κs. search rules) (λ c κs. search rules)
-    (λ c. c.of_push.ensures ∙ ap of_push (rw c.before.before.before.fifo_number.ensures at c.before.push_start.ensures)))
+    (λ c. c.of_push.ensures ∙ ap of_push (rw c.before.before.before.fifo_number.ensures at c.before.push_start-p.ensures)))

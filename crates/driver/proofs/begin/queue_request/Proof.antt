@@ -7,4 +7,4 @@ use Rattle.driver.proofs.begin.queue_request.Statement.{statement}
 use Rattle.driver.proofs.begin.queue_request.Tie as tie
 
 pub queue_request_spec : {M : Type 1} → statement M
-queue_request_spec = tie.close (tie.spec (λ c κs. search rules) (λ c κs. search rules) (λ c. c.of_plan.ensures ∙ ap of_plan (c.before.queue_request.ensures _)))
+queue_request_spec = tie.close (tie.spec (λ c κs. search rules) (λ c κs. search rules) (λ c. c.of_plan.ensures ∙ ap of_plan (c.before.queue_request-p.ensures _)))

@@ -7,4 +7,4 @@ use Rattle.driver.proofs.begin.set_op_mode.Statement.{statement}
 use Rattle.driver.proofs.begin.set_op_mode.Tie as tie
 
 pub set_op_mode_spec : {M : Type 1} → statement M
-set_op_mode_spec = tie.close (tie.spec (λ c κs. search rules) (λ c κs. search rules) (λ c. c.of_plan.ensures ∙ ap of_plan (c.before.set_op_mode.ensures _)))
+set_op_mode_spec = tie.close (tie.spec (λ c κs. search rules) (λ c κs. search rules) (λ c. c.of_plan.ensures ∙ ap of_plan (c.before.set_op_mode-p.ensures _)))

@@ -10,4 +10,4 @@ use Rattle.driver.proofs.begin.transmit.Tie as tie
 pub transmit_spec : {M : Type 1} → statement M
 unfolding call_of model_of
 transmit_spec = tie.close (tie.spec (λ c κs. search rules) (λ c κs. search rules) (λ c κs. search rules) (λ c κs. search rules)
-    (λ c. simp c.with_transmit.ensures (ap of_transmit (rw c.before.before.before.before.fifo_number.ensures at c.before.before.transmit_start.ensures))))
+    (λ c. simp c.with_transmit.ensures (ap of_transmit (rw c.before.before.before.before.fifo_number.ensures at c.before.before.transmit_start-p.ensures))))

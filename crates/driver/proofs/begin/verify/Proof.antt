@@ -7,4 +7,4 @@ use Rattle.driver.proofs.begin.verify.Statement.{statement}
 use Rattle.driver.proofs.begin.verify.Tie as tie
 
 pub verify_spec : {M : Type 1} → statement M
-verify_spec = tie.close (tie.spec (λ c κs. search rules) (λ c κs. search rules) (λ c. c.of_plan.ensures ∙ ap of_plan (c.before.verify.ensures _)))
+verify_spec = tie.close (tie.spec (λ c κs. search rules) (λ c κs. search rules) (λ c. c.of_plan.ensures ∙ ap of_plan (c.before.verify-p.ensures _)))

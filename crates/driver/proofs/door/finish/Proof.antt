@@ -5,7 +5,7 @@ use borrow.Author.Rules.{rules}
 use Rattle.driver.proofs.door.finish.Statement.{statement}
 use Rattle.driver.proofs.door.finish.Tie as tie
 
-returns : tie.Need_returns
+returns : tie.Need-returns
 unfolding call_of
 returns c = c.before.before.finish_lent.ensures
 

@@ -5,7 +5,7 @@ use borrow.Author.Rules.{rules}
 use Rattle.driver.proofs.door.next.Statement.{statement}
 use Rattle.driver.proofs.door.next.Tie as tie
 
-returns : tie.Need_returns
+returns : tie.Need-returns
 unfolding call_of
 returns c = c.before.before.next_lent.ensures
 

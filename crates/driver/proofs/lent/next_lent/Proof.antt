@@ -6,14 +6,14 @@ use borrow.Author.Rules.{rules}
 use Rattle.driver.proofs.lent.next_lent.Statement.{statement}
 use Rattle.driver.proofs.lent.next_lent.Tie as tie
 
-returns : tie.Need_returns
-returns c = let a = c.before.before.before.before.before.before.before.before.before.before.args in simp (own_body a.c a.body.now a.lent.now (sym c.before.before.before.before.before.before.is_own.ensures ∙ c.before.before.before.before.before.if1.true)) (rw (c.before.before.before.before.before.before.before.ask.ensures ∙ ask_any a.c a.body.now a.lent.now) at c.before.before.put_next.ensures)
+returns : tie.Need-returns-then-is_own
+returns c = let a = c.before.before.before.before.before.before.before.before.before.before.args in simp (own_body a.c a.body.now a.lent.now (sym c.before.before.before.before.before.before.is_own.ensures ∙ c.before.before.before.before.before.if-is_own.true)) (rw (c.before.before.before.before.before.before.before.ask-q.ensures ∙ ask_any a.c a.body.now a.lent.now) at c.before.before.put_next.ensures)
 
-returns_2 : tie.Need_returns_2
-returns_2 c = let a = c.before.before.before.before.before.before.before.before.before.before.before.args in simp (pattern_body a.c a.body.now a.lent.now (sym c.before.before.before.before.before.is_echo.ensures ∙ c.before.before.before.before.if2.true)) (rw (c.before.before.before.before.before.before.before.before.ask.ensures ∙ ask_any a.c a.body.now a.lent.now) at c.before.before.next_echo.ensures)
+returns_2 : tie.Need-returns-then-is_echo
+returns_2 c = let a = c.before.before.before.before.before.before.before.before.before.before.before.args in simp (pattern_body a.c a.body.now a.lent.now (sym c.before.before.before.before.before.is_echo.ensures ∙ c.before.before.before.before.if-is_echo.true)) (rw (c.before.before.before.before.before.before.before.before.ask-q.ensures ∙ ask_any a.c a.body.now a.lent.now) at c.before.before.next_echo.ensures)
 
-returns_3 : tie.Need_returns_3
-returns_3 c = let a = c.before.before.before.before.before.before.before.before.before.before.before.args in simp (lent_body a.c a.body.now a.lent.now (sym c.before.before.before.before.before.before.before.is_own.ensures ∙ c.before.before.before.before.before.before.if1.false) (sym c.before.before.before.before.before.is_echo.ensures ∙ c.before.before.before.before.if2.false)) (rw (c.before.before.before.before.before.before.before.before.ask.ensures ∙ ask_any a.c a.body.now a.lent.now) at c.before.before.put_next2.ensures)
+returns_3 : tie.Need-returns-else-is_echo
+returns_3 c = let a = c.before.before.before.before.before.before.before.before.before.before.before.args in simp (lent_body a.c a.body.now a.lent.now (sym c.before.before.before.before.before.before.before.is_own.ensures ∙ c.before.before.before.before.before.before.if-is_own.false) (sym c.before.before.before.before.before.is_echo.ensures ∙ c.before.before.before.before.if-is_echo.false)) (rw (c.before.before.before.before.before.before.before.before.ask-q.ensures ∙ ask_any a.c a.body.now a.lent.now) at c.before.before.put_next-else-is_echo.ensures)
 
 pub next_lent_spec : {M : Type 1} → statement M
 next_lent_spec =

@@ -4,7 +4,7 @@ use borrow.Author.Rules.{rules}
 use Rattle.driver.proofs.parts_of.transmit_part.Statement.{statement}
 use Rattle.driver.proofs.parts_of.transmit_part.Tie as tie
 
-returns : tie.Need_returns
+returns : tie.Need-returns
 returns c = cc
 
 pub transmit_part_spec : {M : Type 1} → statement M
