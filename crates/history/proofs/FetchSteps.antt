@@ -37,7 +37,7 @@ use Rattle.state.specs.declared.Model.{Model}
 use Rattle.state.specs.Model.{fifo_at, frozen_at, with_fifo}
 use Rattle.bank.specs.Registers.{word_of}
 use Rattle.bus.specs.Held.{slot_of}
-use Rattle.history.specs.Command.{Command, HasNext, Peek, Get, lent, started}
+use Rattle.history.specs.Command.{Command, lent, started}
 use Rattle.history.specs.History.{Said, called, idle, hears, heard, settled, goes_on, is_over}
 use Rattle.history.specs.Lists.{only, found_in, accepted_in, handed_out_in, queued_in}
 use Rattle.history.specs.Demand.{NotCaused, Ordinary, Told}

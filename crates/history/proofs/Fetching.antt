@@ -10,7 +10,6 @@ use lib.ListN.{length, get_or, take, drop, length-append, length-take, length-dr
 use lib.Seq.{take-take, take-append-le, take-append_seam, drop-drop, get_or-take, get_or-drop}
 use borrow.Author.Tests.{eq-eqb, le-leb, le-ltb}
 use Rattle.std.specs.Prelude.{if◌then◌else◌}
-use Rattle.laws.proofs.Table.{at}
 use Rattle.field.specs.Field.{read, flag}
 use Rattle.fifo.specs.Control.{RXTSEN, payload_of}
 use Rattle.fifo.proofs.Sizes.{payload_whole}

@@ -11,7 +11,6 @@ use Rattle.tx_fifo.specs.Push.{Push as Pushes}
 use Rattle.fetch.specs.declared.Want.{Want}
 use Rattle.fetch.specs.FetchAt.{FetchAt}
 use Rattle.fetch.specs.Step.{next_at}
-use Rattle.rx_fifo.specs.Fetch.{Fetch}
 use Rattle.rx_fifo.specs.Step as fetch
 use Rattle.rx_fifo.specs.Outcome as found
 use Rattle.driver.specs.CallAt.{CallAt}

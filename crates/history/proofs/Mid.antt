@@ -7,7 +7,6 @@ use mathlib.Core.Bool.{true, false}
 use mathlib.Core.List.{List}
 use lib.ListN.{length}
 use Rattle.fifo.specs.Control.{is_fifo}
-use Rattle.header.specs.declared.Header.{Header}
 use Rattle.message.specs.Message.{Message, body_at, holds, decoding}
 use Rattle.call.specs.declared.Found.{Found}
 use Rattle.tx_fifo.specs.PushAt.{PushAt}
@@ -22,7 +21,6 @@ use Rattle.state.specs.declared.Model.{Model}
 use Rattle.state.specs.Model.{fifo_at, frozen_at}
 use Rattle.bus.specs.Held.{slot_of, item_at}
 use Rattle.bus.specs.Queue.{queue_depth, queue_slot, queue_item}
-use Rattle.history.specs.Command.{Get}
 use Rattle.history.proofs.Bus.{Later}
 use Rattle.history.proofs.Fetching.{plain}
 use Rattle.history.proofs.Replies.{Gentle}

@@ -1,6 +1,6 @@
 -- Each exchange of a checked push to the queue keeps what is true of the world.
 -- Assumes nothing.
-use Prim.Native.Nat.{ℕ, ◌+◌, ◌-◌, ◌≤◌}
+use Prim.Native.Nat.{ℕ, ◌+◌, ◌≤◌}
 use native.Mathlib.Omega.{arith}
 use borrow.Author.Tests.{ltb-false}
 use mathlib.Core.Path.{◌≡◌, refl, ap, ◌∙◌, subst, ap₂}

@@ -20,7 +20,6 @@ use Rattle.words.proofs.Laws.{le_back, le_length}
 use Rattle.fifo.specs.Control.{TXEN, RXTSEN, PLSIZE, UINC, TXREQ, FRESET, payloads, payload_of, is_fifo}
 use Rattle.fifo.specs.Status.{TFNRFNIF, TFERFFIF, RXOVIF}
 use Rattle.spi.specs.declared.refusal.Refusal.{Refusal}
-use Rattle.spi.specs.declared.refusal.Done.{Done}
 use Rattle.spi.specs.declared.ask.Answer.{Answer}
 use Rattle.spi.specs.declared.reply.OneWord.{OneWord}
 use Rattle.spi.specs.Reply.{word_reply}

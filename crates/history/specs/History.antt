@@ -11,7 +11,7 @@ use Rattle.driver.specs.Call.{Call}
 use Rattle.driver.specs.Step.{ask_of, step_of, outcome_of, filled_by}
 use Rattle.driver.specs.Send.{body_of}
 use Rattle.state.specs.declared.Model.{Model}
-use Rattle.model.specs.Exchange.{Reply, failed, received, no_layout, Done, exchange}
+use Rattle.model.specs.Exchange.{Reply, failed, received, no_layout, exchange}
 use Rattle.bus.specs.declared.arrival.Delivery.{Delivery}
 use Rattle.bus.specs.Bus.{Output, send_output, incoming, deliver_of}
 use Rattle.bus.specs.Sort.{sort_of}
