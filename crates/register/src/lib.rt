@@ -129,6 +129,7 @@ pub fn register_ask(c: RegisterNumbers) -> Ask
 }
 
 // Three tries: two mismatches are followed by another.
+#[tactic(auto, unfolding(crate::specs::Step::after_mismatch))]
 fn after_mismatch(m: u16, seen: u8) -> RegisterNumbers
     ensures { register_of result ≡ after_mismatch m seen }
 {
