@@ -39,6 +39,7 @@ fn direction_fits(mode: FifoMode) -> bool
     }
 }
 
+#[tactic(auto, unfolding(crate::specs::Areas::fifo_fits))]
 pub fn fifo_fits(c: FifoConfiguration) -> bool
     ensures { result ≡ fifo_fits c }
 {

@@ -6,7 +6,7 @@ use mathlib.Core.Bool.{Bool, true, false, not, ◌&&◌}
 use mathlib.Core.List.{List, [], ◌∷◌}
 use native.Mathlib.Omega.{arith}
 use lib.Dec.{eqb, leb, lit<}
-use borrow.Author.Tests.{ltb-true, leb-true}
+use borrow.Author.Tests.{lt-ltb, le-ltb, ltb-true, leb-true}
 use Rattle.std.specs.Prelude.{if◌then◌else◌}
 use Rattle.laws.proofs.Table.{both}
 use Rattle.field.specs.Field.{with_field, flag, mark}
@@ -32,7 +32,8 @@ use Rattle.plan.specs.declared.item.Poll.{Poll}
 use Rattle.plan.specs.declared.item.Item.{Item}
 use Rattle.plan.specs.PlanAt.{PlanAt}
 use Rattle.plan.specs.Change.{change_of, change_to}
-use Rattle.plan.specs.Step.{arrived_at, filled, plan_of}
+use Rattle.plan.specs.Step.{arrived_at, filled, plan_of, refused_plan}
+use Rattle.plan.specs.Prepared.{plan_for}
 use Rattle.plan.proofs.Changes.{change_is_lem}
 use Rattle.changes.specs.declared.settings.OscillatorConfiguration.{OscillatorConfiguration}
 use Rattle.changes.specs.declared.settings.BitTimeConfiguration.{BitTimeConfiguration}
@@ -40,12 +41,13 @@ use Rattle.changes.specs.declared.settings.Settings.{Settings}
 use Rattle.areas.specs.declared.settings.TxQueueConfiguration.{TxQueueConfiguration}
 use Rattle.areas.specs.declared.settings.TxQueueSetting.{TxQueueSetting}
 use Rattle.areas.specs.declared.settings.FilterConfiguration.{FilterConfiguration}
-use Rattle.changes.specs.Changes.{when_asked, mode_change, oscillator_change, oscillator_settings, io_change, io_settings, nominal_change, nominal_settings, nominal_to, data_change, data_settings, data_to, delay_change, delay_settings, delay_to, stef_change, txqen_change, counter_change, dncnt_change, dncnt_settings, rtxat_change, interrupt_change, interrupt_to}
+use Rattle.changes.specs.Changes.{when_asked, mode_change, mode_settings, mode_to, oscillator_change, oscillator_settings, io_change, io_settings, nominal_change, nominal_settings, nominal_to, data_change, data_settings, data_to, delay_change, delay_settings, delay_to, stef_change, txqen_change, counter_change, dncnt_change, dncnt_settings, rtxat_change, interrupt_change, interrupt_to}
 use Rattle.changes.proofs.Enables.{enables_is, interrupt_to_lem}
 use Rattle.areas.specs.Areas.{enable_change, queue_change, queue_settings, queue_to, off_change, object_change, object_settings, object_to, mask_change, mask_settings, mask_to, on_change, on_settings, on_to, is_identifier, is_filter, filter_check}
-use Rattle.adjust.specs.Calls.{timing_items, queue_items, filter_items}
+use Rattle.adjust.specs.Calls.{timing_items, queue_items, filter_items, set_op_mode}
 use Rattle.configure.specs.Whole.{configure_items}
 use Rattle.configure.specs.declared.planned.PlanKind.{PlanKind}
+use Rattle.configure.specs.declared.planned.PlanNumbers.{PlanNumbers}
 use Rattle.configure.specs.Numbers.{failed_in, word, items_for, plan_in}
 use Rattle.configure.specs.Moves.{begun_with}
 
@@ -58,6 +60,18 @@ begins_with kind n x body items e = ap (λ l. record { failed = failed_in kind; 
 -- the change to the bits that settings make is the change of the settings
 pub made : (address : ℕ) (ss : List Setting) (bits : ℕ) → bits ≡ (change_of address ss).set → change_to address (fields_of ss) bits ≡ change_of address ss
 made address ss bits e = ap (change_to address (fields_of ss)) e ∙ change_is_lem address ss
+
+-- what sets a mode begins where its definition does, and any other number is refused
+pub mode_begins : (c : PlanNumbers) (m : ℕ) (body : List ℕ) → m < 8 → c ≡ begun_with PlanKind.Mode m (mode_to (mode_change m).set)
+    → plan_in c body ≡ plan_for (set_op_mode m)
+unfolding set_op_mode items_for
+mode_begins c m body l e =
+    let x = made (CiCON.address 0) (mode_settings m) _ refl in
+    simp (e, x, lt-ltb _ _ l) (begins_with PlanKind.Mode m (mode_change m) body _ refl)
+
+pub mode_refused : (c : PlanNumbers) (m : ℕ) (body : List ℕ) → 8 ≤ m → plan_in c body ≡ refused_plan Refusal.BadSetting → plan_in c body ≡ plan_for (set_op_mode m)
+unfolding set_op_mode
+mode_refused c m body l e = simp (le-ltb _ _ l) e
 
 -- ---- what the tests tell
 

@@ -83,6 +83,7 @@ pub fn verify() -> PlanNumbers
     }
 }
 
+#[tactic(auto, using(crate::proofs::Begins::mode_begins, crate::proofs::Begins::mode_refused))]
 pub fn set_op_mode(m: u32) -> PlanNumbers
     ensures { Stands result (plan_for (set_op_mode m)) }
 {
