@@ -3,7 +3,7 @@
 use Prim.Native.Nat.{ℕ}
 use mathlib.Core.Path.{◌≡◌, refl, sym, ap, ◌∙◌}
 use mathlib.Core.Logic.{⊎_elim}
-use mathlib.Core.Bool.{true, false, not, and-false, false≢true}
+use mathlib.Core.Bool.{false, not, and-false, false≢true}
 use native.Mathlib.Omega.{arith}
 use lib.Seq.{get_or-set_same}
 use Rattle.laws.proofs.Choice.{by_if}
