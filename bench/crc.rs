@@ -2,7 +2,7 @@
 // first with a `match` for its table. Rattle and rustc both read this file; it is no .rt, since ./check wants each of these in a crate. What
 // is proved of the last two is that they end: bench/crc compares what they give.
 
-#[no_mangle]
+#[unsafe(no_mangle)]
 pub extern "C" fn driver(s: &[u8]) -> u16 {
     crc::checksum(s)
 }
@@ -25,7 +25,7 @@ fn byte_by_bits(c: u16, b: u8) -> u16 {
     x
 }
 
-#[no_mangle]
+#[unsafe(no_mangle)]
 pub extern "C" fn before(s: &[u8]) -> u16 {
     let mut x = crc::START;
     let mut i = 0;
@@ -67,7 +67,7 @@ fn byte_by_match(c: u16, b: u8) -> u16 {
     nibble(nibble(c, high), low)
 }
 
-#[no_mangle]
+#[unsafe(no_mangle)]
 pub extern "C" fn matched(s: &[u8]) -> u16 {
     let mut x = crc::START;
     let mut i = 0;
