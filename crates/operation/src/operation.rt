@@ -78,6 +78,7 @@ fn checked_at(a: u32, s: &[u8], want: usize) -> Operation
     }
 }
 
+#[tactic(auto, unfolding(crate::specs::Operation::reset_at))]
 fn reset_at(a: u32, s: &[u8], want: usize) -> Operation
     ensures { result ≡ reset_at a s.now want }
 {
@@ -94,6 +95,7 @@ fn reset_at(a: u32, s: &[u8], want: usize) -> Operation
 }
 
 // By the opcode: the exchanges that the chip answers.
+#[tactic(auto, unfolding(crate::specs::Operation::asked))]
 fn by_opcode(op: u32, a: u32, s: &[u8], want: usize) -> Operation
     requires { (2 ≤ length s.now) × (op ≡ opcode s.now) × (a ≡ address s.now) }
     ensures { result ≡ asked s.now want }

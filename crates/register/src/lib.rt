@@ -63,6 +63,7 @@ fn at_stage(stage: RegisterStage, m: u16, w: u32, seen: u8) -> RegisterNumbers
 }
 
 // An address has 12 bits in a command, and one that is wider is refused before any exchange.
+#[tactic(auto, unfolding(crate::specs::Step::addressed))]
 fn at_address(address: u32, stage: RegisterStage, w: u32) -> RegisterNumbers
     ensures { register_of result ≡ addressed address (at_stage stage address w 0 Refusal.WrongAnswer) }
 {
