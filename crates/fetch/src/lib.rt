@@ -171,6 +171,7 @@ fn after_status(c: FetchNumbers, reply: OneWord) -> FetchNumbers
 }
 
 // The object lies 0x400 above the user address.
+#[tactic(auto, unfolding(crate::specs::Step::after_address))]
 fn to_header(c: FetchNumbers, u: u32) -> FetchNumbers
     ensures { standing result ≡ (c.fifo, c.want, after_address u) }
 {

@@ -10,6 +10,7 @@ use header::{Header, first_word, received_len, received_word};
 use spi::{Done, Refusal};
 
 // What a frame with a payload of n bytes is refused for.
+#[tactic(auto, unfolding(crate::specs::Message::arrival_check))]
 pub fn check_arrival(h: Header, dlc: u32, n: usize) -> Done
     ensures { result ≡ arrival_check h dlc n }
 {

@@ -71,6 +71,7 @@ fn single(a: u32) -> Place
     }
 }
 
+#[tactic(auto, unfolding(crate::specs::Place::register_at))]
 pub fn register_at(a: u32) -> Place
     ensures { result ≡ register_at a }
 {
