@@ -160,6 +160,7 @@ pub fn turned(entering: bool, f: Fifo) -> Fifo
     controlled(FifoControl(f.control).with_freset(false).0, f)
 }
 
+#[tactic(auto, unfolding(crate::specs::Ring::sent))]
 pub fn sent(frozen: u32, f: Fifo) -> Fifo
     requires { 0 < f.count }
     ensures { result ≡ sent frozen f }

@@ -32,6 +32,7 @@ pub fn has_next_start(fifo: u8, body: &mut [u8; 76]) -> FetchNumbers
 }
 
 // 20 before 28.
+#[tactic(auto, unfolding(crate::specs::Numbers::fetch_of, crate::specs::Step::lent_start, crate::specs::Step::lent_at))]
 fn lent_start(want: Want, fifo: u8, room: usize, body: &mut [u8; 76]) -> FetchNumbers
     ensures { fetch_of result body.new ≡ lent_start want fifo room }
 {
