@@ -74,6 +74,7 @@ fn settled(m: Model) -> Written
     }
 }
 
+#[tactic(auto, unfolding(crate::specs::Registers::con_written))]
 fn con_written(m: Model, w: u32) -> Written
     ensures { result ≡ con_written m w }
 {
