@@ -2,5 +2,5 @@
 -- Assumes nothing.
 use Rattle.drive.proofs.run.Given as goal
 
-abbrev pub decreases-loop-stdin : goal.decreases-loop-stdin
-decreases-loop-stdin l = l.turns
+abbrev pub decreases-loop-entry : goal.decreases-loop-entry
+decreases-loop-entry l = l.turns

@@ -5,8 +5,8 @@ use Rattle.driver.specs.Demand1.{left}
 use Rattle.driver.specs.Numbers.{call_of}
 use Rattle.looping.proofs.run.Given as goal
 
-abbrev pub invariant-loop-call : goal.invariant-loop-call
-invariant-loop-call l = (length l.tx ≡ length l.initial.tx) × (length l.rx ≡ length l.initial.rx)
+abbrev pub invariant-loop-got : goal.invariant-loop-got
+invariant-loop-got l = (length l.tx ≡ length l.initial.tx) × (length l.rx ≡ length l.initial.rx)
 
-abbrev pub decreases-loop-call : goal.decreases-loop-call
-decreases-loop-call l = left (call_of l.call)
+abbrev pub decreases-loop-got : goal.decreases-loop-got
+decreases-loop-got l = left (call_of l.call)
