@@ -26,6 +26,7 @@ fn word(body: &[u8; 76], k: usize) -> u32
     words::le_at(body, 4 * k)
 }
 
+#[tactic(auto, using(crate::proofs::Stored::stored))]
 pub fn put_word(body: &mut [u8; 76], k: usize, w: u32)
     requires { k < 19 }
     ensures { Stored k w body.old body.new }
