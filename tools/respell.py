@@ -169,7 +169,8 @@ def root_line(t):
 
 def library_words():
     words = set()
-    kit = "/opt/rattle/rattle/"
+    guide = subprocess.run(["rt", "doc"], capture_output=True, text=True).stdout.strip()
+    kit = os.path.join(os.path.dirname(guide), "rattle", "")
     for part in ("std core std_alloc std_collections std_heap std_io io libc os logic antt/lib antt/port/mathlib/src/Core").split():
         for f in glob.glob(kit + part + "/**/*.antt", recursive=True):
             words.update(re.findall(TOKEN, open(f, encoding="utf-8", errors="replace").read()))
