@@ -163,20 +163,12 @@ fn run(
     let mut turns = u64::MAX;
     loop {
         r = reading::next_line(stdin, stderr, r, piece, buf);
-        let kind = r.kind;
         let line = text::front(buf, r.len);
-        let entry = script::entry_of(line, reading::is_long(kind), numbers, lent);
-        let end = reading::is_end(kind);
+        let entry = script::entry_of(line, reading::is_long(r.kind), numbers, lent);
+        let end = reading::is_end(r.kind);
+        let over = end || script::ends(entry);
         p = next(p);
-        m = run_call(
-            stdout,
-            m,
-            p,
-            end || script::ends(entry),
-            head,
-            notes,
-            scrubber,
-        );
+        m = run_call(stdout, m, p, over, head, notes, scrubber);
         if end {
             return;
         }

@@ -36,32 +36,20 @@ fn run(
     let mut turns = u64::MAX;
     loop {
         r = reading::next_line(stdin, stderr, r, piece, buf);
-        let kind = r.kind;
-        let long = reading::is_long(kind);
+        let long = reading::is_long(r.kind);
         let line = text::front(buf, r.len);
         let item = items::item_of(line, long, rx);
         let due = judge::is_due(s, item);
         let read = classes::read_of(seen);
         let n = port::line(call, due, read, lent, s.lent, rx, s.got, out);
-        s = judge::settled(
-            stdout,
-            stderr,
-            s,
-            item,
-            line,
-            text::front(out, n),
-            note,
-            counts,
-        );
+        let said = text::front(out, n);
+        s = judge::settled(stdout, stderr, s, item, line, said, note, counts);
         let heard = judge::hear(item, line, long, numbers, lent);
         s = judge::after(stdout, stderr, s, item, heard, seen, line);
         seen = judge::seen_after(seen, item, heard, line, numbers, rx);
         let step = step_of(s, item, heard);
         call = port::moved(call, step, numbers, lent, s.lent, rx, s.got);
-        if reading::is_end(kind) {
-            return;
-        }
-        if turns < 1 {
+        if reading::is_end(r.kind) || turns < 1 {
             return;
         }
         turns -= 1;

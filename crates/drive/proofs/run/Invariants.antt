@@ -2,5 +2,5 @@
 -- Assumes nothing.
 use Rattle.drive.proofs.run.Given as goal
 
-abbrev pub decreases-loop-entry : goal.decreases-loop-entry
-decreases-loop-entry l = l.turns
+abbrev pub decreases-loop-over : goal.decreases-loop-over
+decreases-loop-over l = l.turns
