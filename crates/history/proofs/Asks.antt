@@ -10,6 +10,7 @@ use borrow.Author.Tests.{le-leb, lt-leb, eq-eqb}
 use lib.Dec.{eqb}
 use lib.Pow.{pow_pos}
 use lib.ListN.{length, take, drop}
+use Rattle.std.specs.Prelude.{Option, Some, None}
 use Rattle.laws.proofs.Choice.{by_if}
 use Rattle.words.specs.Words.{le_bytes, be_bytes}
 use Rattle.parts.specs.Parts.{part}
@@ -23,7 +24,6 @@ use Rattle.spi.specs.Ask.{head_of, body_of, wanted, sent}
 use Rattle.spi.specs.Instruction.{code_of, command_of}
 use Rattle.spi.specs.Ram.{in_range}
 use Rattle.place.specs.declared.Register.{Register}
-use Rattle.place.specs.declared.Place.{Place}
 use Rattle.operation.specs.declared.operation.Operation.{Operation}
 use Rattle.place.specs.Place.{register_at}
 use Rattle.operation.specs.Operation.{in_ram, at, read_at, asked}
@@ -73,7 +73,7 @@ unfolding exchange
 does q b c o e = ap (λ (x : Operation). hearing (performed x (sent q b) (wanted q) c)) e
 
 module _ (b : List ℕ) (c : Model) where
-  module _ (a : ℕ) (r : Register) (is : register_at a ≡ Place.Is r) (off : in_ram a 4 ≡ false) (h : a < 2 ^ 12) where
+  module _ (a : ℕ) (r : Register) (is : register_at a ≡ Some r) (off : in_ram a 4 ≡ false) (h : a < 2 ^ 12) where
     -- a register's word is read
     pub hear_register : spoken (Ask.Read a 4) b c ≡ hears Answer.Exchanged (le_bytes (word_of c r)) c
     unfolding read_at performed
@@ -87,16 +87,16 @@ module _ (b : List ℕ) (c : Model) where
     tell_register w l =
         does (Ask.Word a w) b c (Operation.Write r w)
         (ap (λ (s : List ℕ). asked s 0) (sent_head (Ask.Word a w) b refl) ∙ asks_word_lem a w h ∙ writes_word_lem a w off l
-        ∙ ap (λ (p : Place). at p (λ x. Operation.Write x w)) is)
+        ∙ ap (λ (p : Option Register). at p (λ x. Operation.Write x w)) is)
 
   -- a register's word is read, checked
-  pub hear_checked : (a : ℕ) (r : Register) → register_at a ≡ Place.Is r → a < 2 ^ 12
+  pub hear_checked : (a : ℕ) (r : Register) → register_at a ≡ Some r → a < 2 ^ 12
       → spoken (Ask.Checked a) b c ≡ hears Answer.Exchanged (checked_bytes (head_of (Ask.Checked a)) (word_of c r)) c
   unfolding performed
   hear_checked a r is h =
       let s = sent_head (Ask.Checked a) b refl in
       does (Ask.Checked a) b c (Operation.Checked r)
-      (ap (λ (x : List ℕ). asked x 6) s ∙ asks_checked_lem a h ∙ ap (λ (p : Place). at p Operation.Checked) is)
+      (ap (λ (x : List ℕ). asked x 6) s ∙ asks_checked_lem a h ∙ ap (λ (p : Option Register). at p Operation.Checked) is)
       ∙ ap (λ (x : List ℕ). hears Answer.Exchanged (checked_bytes x (word_of c r)) c) s
 
   module _ (n : ℕ) (f : is_fifo n ≡ true) where
@@ -123,7 +123,7 @@ module _ (b : List ℕ) (c : Model) where
         tell_register (CiFIFOCON.address n) (Register.Control n) (all_carried_lem.control n l h) (ram_low (CiFIFOCON.address n) 4 (omega arith)) (omega arith)
 
   -- the queue's registers and CiCON
-  module _ (a : ℕ) (r : Register) (is : register_at a ≡ Place.Is r) (low : a < 0x400) where
+  module _ (a : ℕ) (r : Register) (is : register_at a ≡ Some r) (low : a < 0x400) where
     pub hear_low : spoken (Ask.Read a 4) b c ≡ hears Answer.Exchanged (le_bytes (word_of c r)) c
     hear_low = hear_register a r is (ram_low a 4 low) (omega arith)
 
@@ -189,11 +189,11 @@ low_address : (op : OpCode) (a : ℕ) → command_of op a ≡ command_of op (a %
 unfolding command_of
 low_address op a = let e : a % 2 ^ 12 ≡ a % 2 ^ 12 % 2 ^ 12 = omega arith in ap (λ (x : ℕ). be_bytes (code_of op * 2 ^ 12 + x)) e
 
-at_keeps : (s : List ℕ) (want : ℕ) (c : Model) (p : Place) (f : Register → Operation) → ((r : Register) → (performed (f r) s want c).model ≡ c)
+at_keeps : (s : List ℕ) (want : ℕ) (c : Model) (p : Option Register) (f : Register → Operation) → ((r : Register) → (performed (f r) s want c).model ≡ c)
     → (performed (at p f) s want c).model ≡ c
 unfolding performed
-at_keeps s want c (Place.Is r) f h = h r
-at_keeps s want c Place.None f h = refl
+at_keeps s want c (Some r) f h = h r
+at_keeps s want c None f h = refl
 
 read_keeps : (s : List ℕ) (a k : ℕ) (c : Model) → (performed (read_at a k) s k c).model ≡ c
 unfolding read_at performed
@@ -238,9 +238,9 @@ module _ (b : List ℕ) (c : Model) (a : ℕ) where
       ap (λ (s : List ℕ). asked s 6) head ∙ ap (λ (s : List ℕ). asked (s ++ (4 ∷ [])) 6) (low_address OpCode.ReadCrc a) ∙ asks_checked_lem x (mod-lt a (pow_pos 12)) in
       subst P (sym (does (Ask.Checked a) b c (at (register_at x) Operation.Checked) is ∙ ap (λ (s : List ℕ). said s (register_at x)) head)) (go (register_at x))
     where
-      said : List ℕ → Place → Heard
+      said : List ℕ → Option Register → Heard
       said s p = hearing (performed (at p Operation.Checked) s 6 c)
 
-      go : (p : Place) → P (said (head_of (Ask.Checked a)) p)
-      go (Place.Is r) = good (word_of c r)
-      go Place.None = bad
+      go : (p : Option Register) → P (said (head_of (Ask.Checked a)) p)
+      go (Some r) = good (word_of c r)
+      go None = bad

@@ -6,13 +6,13 @@ use mathlib.Core.Bool.{true, false}
 use mathlib.Core.List.{List, [], ◌∷◌, ◌++◌}
 use lib.Dec.{eqb}
 use lib.ListN.{length, drop, replicate}
+use Rattle.std.specs.Prelude.{Some}
 use Rattle.laws.proofs.Choice.{by_if}
 use Rattle.words.specs.Words.{le_bytes, le_at}
 use Rattle.field.specs.Field.{read}
 use Rattle.configuration.specs.CanControl.{CiCON, REQOP}
 use Rattle.fifo.specs.Control.{CiFIFOCON, TXREQ, is_fifo}
 use Rattle.place.specs.declared.Register.{Register}
-use Rattle.place.specs.declared.Place.{Place}
 use Rattle.place.specs.Place.{register_at}
 use Rattle.operation.specs.Operation.{in_ram}
 use Rattle.spi.specs.declared.refusal.Refusal.{Refusal}
@@ -52,7 +52,7 @@ Setup Register.QueueAddress = ⊥
 -- a is the address of such a register
 pub record Aside (a : ℕ) : Type 0 where
   pub register : Register
-  pub is : register_at a ≡ Place.Is register
+  pub is : register_at a ≡ Some register
   pub setup : Setup register
   pub outside : in_ram a 4 ≡ false
   pub small : a < 2 ^ 12

@@ -6,6 +6,7 @@ use mathlib.Core.Bool.{Bool, true, false, not, ◌&&◌}
 use mathlib.Core.List.{List, [], ◌∷◌}
 use native.Mathlib.Omega.{arith}
 use borrow.Author.Tests.{ltb-true, lt-leb, not-false}
+use Rattle.std.specs.Prelude.{Some}
 use Rattle.laws.specs.All.{all}
 use Rattle.laws.proofs.Choice.{by_if}
 use Rattle.laws.proofs.Table.{both}
@@ -23,7 +24,6 @@ use Rattle.filter.specs.Control.{CiFLTCON}
 use Rattle.filter.specs.Object.{CiFLTOBJ}
 use Rattle.filter.specs.Mask.{CiMASK}
 use Rattle.place.specs.declared.Register.{Register}
-use Rattle.place.specs.declared.Place.{Place}
 use Rattle.place.specs.Place.{register_at}
 use Rattle.operation.specs.Operation.{in_ram}
 use Rattle.place.proofs.Laws.{all_carried_lem}
@@ -127,7 +127,7 @@ enable_harmless X on =
 -- ---- registers that hold as written
 
 -- below the RAM
-low_aside : (a : ℕ) (r : Register) → register_at a ≡ Place.Is r → Setup r → a < 0x400 → Aside a
+low_aside : (a : ℕ) (r : Register) → register_at a ≡ Some r → Setup r → a < 0x400 → Aside a
 unfolding in_ram in_range
 low_aside a r e s h = record { register = r; is = e; setup = s; outside = simp (lt-leb 0x400 a h); small = omega arith }
 

@@ -10,14 +10,13 @@ use lib.Dec.{eqb, ltb}
 use lib.ListN.{length}
 use lib.Seq.{get_or-set_same}
 use borrow.Author.Tests.{ltb-true, eqb-true, eqb-false}
-use Rattle.std.specs.Prelude.{if◌then◌else◌}
+use Rattle.std.specs.Prelude.{if◌then◌else◌, is_some, Option, Some, None}
 use Rattle.laws.proofs.Choice.{by_if}
 use Rattle.field.specs.Field.{bit, read}
 use Rattle.field.proofs.Laws.{field_lt, write_other}
 use Rattle.chip.specs.OscillatorControl.{PLLEN, PLLRDY}
 use Rattle.place.specs.declared.Register.{Register}
-use Rattle.place.specs.declared.Place.{Place}
-use Rattle.place.specs.Place.{of_fifo, of_filter, single, register_at, carried, is_carried}
+use Rattle.place.specs.Place.{of_fifo, of_filter, single, register_at, is_carried}
 use Rattle.place.proofs.Laws.{behind_filters, short}
 use Rattle.operation.specs.Operation.{in_ram}
 use Rattle.operation.proofs.Laws.{ram_told}
@@ -54,10 +53,10 @@ use Rattle.history.proofs.Checked.{checked_back}
 
 -- ---- registers' places
 
-module _ (a : ℕ) (r : Register) (is : register_at a ≡ Place.Is r) where
+module _ (a : ℕ) (r : Register) (is : register_at a ≡ Some r) where
   is_carried_lem : is_carried a ≡ true
   unfolding is_carried
-  is_carried_lem = ap carried is
+  is_carried_lem = ap is_some is
 
   small : a < 2 ^ 12
   small = short a is_carried_lem
@@ -70,7 +69,7 @@ module _ (a : ℕ) (r : Register) (is : register_at a ≡ Place.Is r) where
       go false e = e
       go true e =
           let (low, high) = ram_told a 4 e in
-          absurd (true≢false (sym (ap carried is) ∙ behind_filters a (omega arith) (λ q. omega arith) (λ q. omega arith)))
+          absurd (true≢false (sym (ap is_some is) ∙ behind_filters a (omega arith) (λ q. omega arith) (λ q. omega arith)))
 
 -- the numbers of the registers that hold what is written
 abbrev Numbered : Register → Type 0
@@ -87,9 +86,9 @@ Numbered Register.QueueControl = Unit {0}
 Numbered Register.QueueStatus = Unit {0}
 Numbered Register.QueueAddress = Unit {0}
 
-abbrev Known : Place → Type 0
-Known (Place.Is r) = Numbered r
-Known Place.None = Unit {0}
+abbrev Known : Option Register → Type 0
+Known (Some r) = Numbered r
+Known None = Unit {0}
 
 single_known : (a : ℕ) → Known (single a)
 unfolding single
@@ -242,7 +241,7 @@ module _ (c : Model) (s : Scrub) where
   answered_as at e = ap (λ (x : ScrubAt). spoken (ask_at x s.entry) body c) e
 
   -- a step that stands at its visit reads the register's word
-  visit_heard : (count : ℕ) (r : Register) → s.at ≡ ScrubAt.Visit count → register_at s.entry.address ≡ Place.Is r → heard_by c s ≡ seen s (word_of c r % 2 ^ 32) count
+  visit_heard : (count : ℕ) (r : Register) → s.at ≡ ScrubAt.Visit count → register_at s.entry.address ≡ Some r → heard_by c s ≡ seen s (word_of c r % 2 ^ 32) count
   unfolding heard_by step_of
   visit_heard count r e is =
       let a : ℕ = s.entry.address in
@@ -280,7 +279,7 @@ takes_bit c g Register.QueueControl n w i t = absurd t
 takes_bit c g Register.QueueStatus n w i t = absurd t
 takes_bit c g Register.QueueAddress n w i t = absurd t
 
-module _ (c : Model) (s : Scrub) (word first : ℕ) (r : Register) (e : s.at ≡ ScrubAt.Write word first) (is : register_at s.entry.address ≡ Place.Is r)
+module _ (c : Model) (s : Scrub) (word first : ℕ) (r : Register) (e : s.at ≡ ScrubAt.Write word first) (is : register_at s.entry.address ≡ Some r)
     (h : s.entry.care < 2 ^ 32) where
   abbrev new : ℕ
   new = rewritten word s.entry.wanted s.entry.care

@@ -1,10 +1,9 @@
 -- Document 02, request 4, over the modelled chip: what a scrub step reports of a register, and what its rewrite leaves there.
 -- Assumes nothing.
-use Rattle.std.specs.Prelude.{ℕ, ◌%◌, ◌^◌, ◌<◌, ◌≡◌, true, List, if◌then◌else◌}
+use Rattle.std.specs.Prelude.{ℕ, ◌%◌, ◌^◌, ◌<◌, ◌≡◌, true, List, if◌then◌else◌, Some}
 use Rattle.field.specs.Field.{bit, read, flag, apart}
 use Rattle.chip.specs.OscillatorControl.{PLLRDY}
 use Rattle.place.specs.declared.Register.{Register}
-use Rattle.place.specs.declared.Place.{Place}
 use Rattle.place.specs.Place.{register_at}
 use Rattle.spi.specs.declared.ask.Answer.{Answer}
 use Rattle.spi.specs.Talk.{run}
@@ -34,7 +33,7 @@ heard_by c s = let h : Heard = answered (of_scrub s) c in step_of s h.answer h.r
 -- both words if a cared-for bit is flipped, and agreement if none is, with that count
 abbrev pub FlipReported : Type 0
 FlipReported =
-    (c : Model) (s : Scrub) (count : ℕ) (r : Register) → s.at ≡ ScrubAt.Visit count → register_at s.entry.address ≡ Place.Is r
+    (c : Model) (s : Scrub) (count : ℕ) (r : Register) → s.at ≡ ScrubAt.Visit count → register_at s.entry.address ≡ Some r
     → let word : ℕ = word_of c r % 2 ^ 32 in
     (xs : List (Answer × List ℕ)) (o : Report) → outcome_of (run step_of (heard_by c s) xs) ≡ Outcome.Scrubbed o
     → (Flipped s.entry word → (x : Rewrite) × (o ≡ differs s.entry word count x))
@@ -60,6 +59,6 @@ Takes Register.QueueAddress i = ⊥
 -- the WRITE is answered by the chip: a cared-for bit that the register takes as written is the wanted one, any other as it was read
 abbrev pub RewriteLeaves : Type 0
 RewriteLeaves =
-    (c : Model) → Reached c → (s : Scrub) (word first : ℕ) (r : Register) → s.at ≡ ScrubAt.Write word first → register_at s.entry.address ≡ Place.Is r
+    (c : Model) → Reached c → (s : Scrub) (word first : ℕ) (r : Register) → s.at ≡ ScrubAt.Write word first → register_at s.entry.address ≡ Some r
     → s.entry.care < 2 ^ 32 → (i : ℕ) → i < 32 → Takes r i
     → read (bit i) (word_of (answered (of_scrub s) c).chip r) ≡ (if flag (bit i) s.entry.care then read (bit i) s.entry.wanted else read (bit i) word)

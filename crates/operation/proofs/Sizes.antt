@@ -8,11 +8,11 @@ use native.Mathlib.Omega.{arith}
 use lib.Dec.{eqb, ltb}
 use lib.ListN.{length, get_or}
 use borrow.Author.Tests.{ltb-false, eqb-true}
+use Rattle.std.specs.Prelude.{Option, Some, None}
 use Rattle.laws.proofs.Choice.{by_if}
 use Rattle.laws.proofs.Table.{both}
 use Rattle.spi.specs.declared.instruction.OpCode.{OpCode}
 use Rattle.spi.specs.Instruction.{code_of}
-use Rattle.place.specs.declared.Place.{Place}
 use Rattle.place.specs.declared.Register.{Register}
 use Rattle.operation.specs.declared.operation.Operation.{Operation}
 use Rattle.operation.specs.Operation.{opcode, address, in_ram, at, read_at, write_at, checked_at, reset_at, asked}
@@ -22,9 +22,9 @@ use Rattle.operation.proofs.Laws.{ram_told}
 
 module _ (s : List ℕ) (want : ℕ) where
   -- a register is carried, or nothing is asked
-  at_sized : (p : Place) (f : Register → Operation) → ((r : Register) → Sized s want (f r)) → Sized s want (at p f)
-  at_sized (Place.Is r) f h = h r
-  at_sized Place.None f h = tt
+  at_sized : (p : Option Register) (f : Register → Operation) → ((r : Register) → Sized s want (f r)) → Sized s want (at p f)
+  at_sized (Some r) f h = h r
+  at_sized None f h = tt
 
   read_sized : (a : ℕ) → Sized s want (read_at a want)
   unfolding read_at

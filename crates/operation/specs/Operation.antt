@@ -1,13 +1,12 @@
 -- What the bytes of an exchange ask the chip for: the bytes sent, and how many are wanted.
 -- Assumes nothing.
-use Rattle.std.specs.Prelude.{ℕ, ◌-◌, ◌%◌, Bool, ◌&&◌, List, length, get_or, eqb, ltb, if◌then◌else◌}
+use Rattle.std.specs.Prelude.{ℕ, ◌-◌, ◌%◌, Bool, ◌&&◌, List, length, get_or, eqb, ltb, if◌then◌else◌, Option, Some, None}
 use Rattle.field.specs.Field.{◌‥◌, read}
 use Rattle.words.specs.Words.{be_at, le_at}
 use Rattle.spi.specs.declared.instruction.OpCode.{OpCode}
 use Rattle.spi.specs.Instruction.{code_of}
 use Rattle.spi.specs.Ram.{in_range}
 use Rattle.place.specs.declared.Register.{Register}
-use Rattle.place.specs.declared.Place.{Place}
 use Rattle.operation.specs.declared.operation.Operation.{Operation}
 use Rattle.place.specs.Place.{register_at}
 
@@ -23,9 +22,9 @@ unfoldable pub in_ram : ℕ → ℕ → Bool
 in_ram a n = in_range a n && eqb (n % 4) 0
 
 -- of a register that is not carried there is nothing to be had
-abbrev pub at : Place → (Register → Operation) → Operation
-at (Place.Is r) f = f r
-at Place.None f = Operation.None
+abbrev pub at : Option Register → (Register → Operation) → Operation
+at (Some r) f = f r
+at None f = Operation.None
 
 -- READ: RAM, or a register's word
 unfoldable pub read_at : (a want : ℕ) → Operation

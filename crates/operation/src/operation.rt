@@ -2,7 +2,7 @@
 ghost use Rattle.std.specs.Prelude.{◌≡◌, ◌≤◌, length};
 ghost use Rattle.operation.specs.Operation.{opcode, address, in_ram, read_at, write_at, checked_at, reset_at, asked};
 
-use place::{Place, Register, register_at};
+use place::{Register, register_at};
 
 #[derive(Clone, Copy)]
 pub enum Operation {
@@ -37,8 +37,8 @@ fn read_at(a: u32, want: usize) -> Operation
         return Operation::None;
     }
     match register_at(a) {
-        Place::Is(r) => Operation::Read(r),
-        Place::None => Operation::None,
+        Some(r) => Operation::Read(r),
+        None => Operation::None,
     }
 }
 
@@ -54,8 +54,8 @@ fn write_at(a: u32, s: &[u8]) -> Operation
         return Operation::None;
     }
     match register_at(a) {
-        Place::Is(r) => Operation::Write(r, words::le_at(s, 2)),
-        Place::None => Operation::None,
+        Some(r) => Operation::Write(r, words::le_at(s, 2)),
+        None => Operation::None,
     }
 }
 
@@ -73,8 +73,8 @@ fn checked_at(a: u32, s: &[u8], want: usize) -> Operation
         return Operation::None;
     }
     match register_at(a) {
-        Place::Is(r) => Operation::Checked(r),
-        Place::None => Operation::None,
+        Some(r) => Operation::Checked(r),
+        None => Operation::None,
     }
 }
 

@@ -7,6 +7,7 @@ use Prim.Native.Nat.{ℕ, ◌+◌, ◌-◌, ◌*◌, ◌/◌, ◌%◌, ◌^◌, 
 use native.Mathlib.Omega.{arith}
 use lib.Dec.{eqb, ltb}
 use borrow.Author.Tests.{lt-ltb, le-ltb, ltb-true, ltb-false, eqb-true, ne_eqb}
+use Rattle.std.specs.Prelude.{is_some, Option, Some}
 use Rattle.laws.specs.All.{all}
 use Rattle.laws.proofs.Table.{both, every, at}
 use Rattle.laws.proofs.Choice.{by_if}
@@ -17,27 +18,26 @@ use Rattle.filter.specs.Control.{CiFLTCON}
 use Rattle.filter.specs.Object.{CiFLTOBJ}
 use Rattle.filter.specs.Mask.{CiMASK}
 use Rattle.registers.specs.Registers.{kinds, addresses_of}
-use Rattle.place.specs.declared.Place.{Place}
 use Rattle.place.specs.declared.Register.{Register}
-use Rattle.place.specs.Place.{of_fifo, of_filter, single, register_at, carried, is_carried}
+use Rattle.place.specs.Place.{of_fifo, of_filter, single, register_at, is_carried}
 use Rattle.place.specs.Laws.{Carried, among, Exactly, Short, Laws}
 
 -- word k of FIFO n's registers
-fifo_at_lem : (a n k : ℕ) → a ≡ 0x050 + 12 * n + 4 * k → 1 ≤ n → n ≤ 31 → k < 3 → register_at a ≡ Place.Is (of_fifo n k)
+fifo_at_lem : (a n k : ℕ) → a ≡ 0x050 + 12 * n + 4 * k → 1 ≤ n → n ≤ 31 → k < 3 → register_at a ≡ Some (of_fifo n k)
 unfolding register_at
 fifo_at_lem a n k q l h j =
     let e : (a - 0x050) / 12 ≡ n = omega arith in
     let f : (a - 0x050) % 12 / 4 ≡ k = omega arith in
     simp (le-ltb 0 (a % 4) (omega arith), le-ltb a 0x05C (omega arith), lt-ltb a 0x1D0 (omega arith), e, f)
 
-control_at_lem : (a k : ℕ) → a ≡ 0x1D0 + 4 * k → k ≤ 7 → register_at a ≡ Place.Is (Register.Filter k)
+control_at_lem : (a k : ℕ) → a ≡ 0x1D0 + 4 * k → k ≤ 7 → register_at a ≡ Some (Register.Filter k)
 unfolding register_at
 control_at_lem a k q h =
     let e : (a - 0x1D0) / 4 ≡ k = omega arith in
     simp (le-ltb 0 (a % 4) (omega arith), le-ltb a 0x05C (omega arith), le-ltb a 0x1D0 (omega arith), lt-ltb a 0x1F0 (omega arith), e)
 
 -- word k of filter m's registers
-filter_at : (a m k : ℕ) → a ≡ 0x1F0 + 8 * m + 4 * k → m ≤ 31 → k < 2 → register_at a ≡ Place.Is (of_filter m k)
+filter_at : (a m k : ℕ) → a ≡ 0x1F0 + 8 * m + 4 * k → m ≤ 31 → k < 2 → register_at a ≡ Some (of_filter m k)
 unfolding register_at
 filter_at a m k q h j =
     let e : (a - 0x1F0) / 8 ≡ m = omega arith in
@@ -67,7 +67,7 @@ all_carried_lem = record {
 }
 
 abbrev listed : ℕ → Bool
-listed k = not (carried (register_at (4 * k))) || among (addresses_of kinds) (4 * k)
+listed k = not (is_some (register_at (4 * k))) || among (addresses_of kinds) (4 * k)
 
 -- of the addresses that are multiples of 4, those carried are in the table, by computing
 multiples : every listed 1024 ≡ true
@@ -75,7 +75,7 @@ unfolding kinds register_at single
 multiples = refl
 
 -- those in the table are carried, by computing
-all_listed : all (λ x. carried (register_at x)) (addresses_of kinds) ≡ true
+all_listed : all (λ x. is_some (register_at x)) (addresses_of kinds) ≡ true
 unfolding kinds register_at single
 all_listed = refl
 
@@ -105,24 +105,24 @@ off (x ∷ xs) e a h =
     simp (ne_eqb a x (λ q. omega (arith, ap (λ (y : ℕ). y % 4) q)), off xs g a h)
 
 -- below 0x1000
-low : (a : ℕ) → a < 2 ^ 12 → carried (register_at a) ≡ among (addresses_of kinds) a
+low : (a : ℕ) → a < 2 ^ 12 → is_some (register_at a) ≡ among (addresses_of kinds) a
 unfolding register_at
 low a h = go (ltb 0 (a % 4)) refl
   where
-    go : (b : Bool) → ltb 0 (a % 4) ≡ b → carried (register_at a) ≡ among (addresses_of kinds) a
+    go : (b : Bool) → ltb 0 (a % 4) ≡ b → is_some (register_at a) ≡ among (addresses_of kinds) a
     go true e = simp (e, off (addresses_of kinds) aligned a (ltb-true 0 (a % 4) e))
     go false e =
         let l = ltb-false 0 (a % 4) e in
         let q : 4 * (a / 4) ≡ a = omega arith in
-        subst (λ (x : ℕ). carried (register_at x) ≡ among (addresses_of kinds) x) q
-        (meets (carried (register_at (4 * (a / 4)))) (among (addresses_of kinds) (4 * (a / 4))) (at listed 1024 multiples (a / 4) (omega arith))
-        (of_all (λ x. carried (register_at x)) (addresses_of kinds) all_listed (4 * (a / 4))))
+        subst (λ (x : ℕ). is_some (register_at x) ≡ among (addresses_of kinds) x) q
+        (meets (is_some (register_at (4 * (a / 4)))) (among (addresses_of kinds) (4 * (a / 4))) (at listed 1024 multiples (a / 4) (omega arith))
+        (of_all (λ x. is_some (register_at x)) (addresses_of kinds) all_listed (4 * (a / 4))))
 
 -- behind the filters only OSC and IOCON are
-pub behind_filters : (a : ℕ) → 0x2F0 ≤ a → (a ≡ 0xE00 → ⊥) → (a ≡ 0xE04 → ⊥) → carried (register_at a) ≡ false
+pub behind_filters : (a : ℕ) → 0x2F0 ≤ a → (a ≡ 0xE00 → ⊥) → (a ≡ 0xE04 → ⊥) → is_some (register_at a) ≡ false
 unfolding register_at single
 behind_filters a h m n =
-    by_if (λ (p : Place). carried p ≡ false) (ltb 0 (a % 4)) (λ e. refl)
+    by_if (λ (p : Option Register). is_some p ≡ false) (ltb 0 (a % 4)) (λ e. refl)
     (λ e.
     simp (
       le-ltb a 0x05C (omega arith),
@@ -143,7 +143,7 @@ behind_filters a h m n =
     ))
 
 -- so from 0x1000 on nothing is carried
-above : (a : ℕ) → 2 ^ 12 ≤ a → carried (register_at a) ≡ false
+above : (a : ℕ) → 2 ^ 12 ≤ a → is_some (register_at a) ≡ false
 above a h = behind_filters a (omega arith) (λ q. omega arith) (λ q. omega arith)
 
 -- nor is it in the table, by computing
@@ -162,7 +162,7 @@ pub exactly : Exactly
 unfolding is_carried
 exactly a = go (ltb a 0x1000) refl
   where
-    go : (b : Bool) → ltb a 0x1000 ≡ b → carried (register_at a) ≡ among (addresses_of kinds) a
+    go : (b : Bool) → ltb a 0x1000 ≡ b → is_some (register_at a) ≡ among (addresses_of kinds) a
     go true e = low a (ltb-true a 0x1000 e)
     go false e = let h = ltb-false a 0x1000 e in above a h ∙ sym (unlisted (addresses_of kinds) narrow a h)
 

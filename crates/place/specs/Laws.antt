@@ -1,6 +1,6 @@
 -- What is proved of the registers' addresses, as statements.
 -- Assumes nothing.
-use Rattle.std.specs.Prelude.{ℕ, ◌^◌, ◌≤◌, ◌<◌, ◌≡◌, Bool, true, false, ◌||◌, List, [], ◌∷◌, eqb}
+use Rattle.std.specs.Prelude.{ℕ, ◌^◌, ◌≤◌, ◌<◌, ◌≡◌, Bool, true, false, ◌||◌, List, [], ◌∷◌, eqb, Some}
 use Rattle.fifo.specs.Control.{CiFIFOCON}
 use Rattle.fifo.specs.Status.{CiFIFOSTA}
 use Rattle.fifo.specs.UserAddress.{CiFIFOUA}
@@ -20,12 +20,11 @@ use Rattle.chip.specs.OscillatorControl.{OSC}
 use Rattle.chip.specs.IoControl.{IOCON}
 use Rattle.registers.specs.Registers.{kinds, addresses_of}
 use Rattle.place.specs.declared.Register.{Register}
-use Rattle.place.specs.declared.Place.{Place}
 use Rattle.place.specs.Place.{register_at, is_carried}
 
 -- the registers with the numbers from low to high stand at these addresses
 abbrev pub Stand : (low high : ℕ) → (ℕ → ℕ) → (ℕ → Register) → Type 0
-Stand low high address r = (n : ℕ) → low ≤ n → n ≤ high → register_at (address n) ≡ Place.Is (r n)
+Stand low high address r = (n : ℕ) → low ≤ n → n ≤ high → register_at (address n) ≡ Some (r n)
 
 -- every register of the table is carried, at its address
 pub record Carried : Type 0 where
@@ -35,17 +34,17 @@ pub record Carried : Type 0 where
   pub filter : Stand 0 7 CiFLTCON.address Register.Filter
   pub object : Stand 0 31 CiFLTOBJ.address Register.Object
   pub mask : Stand 0 31 CiMASK.address Register.Mask
-  pub con : register_at (CiCON.address 0) ≡ Place.Is Register.Con
-  pub osc : register_at (OSC.address 0) ≡ Place.Is Register.Osc
-  pub nominal : register_at (CiNBTCFG.address 0) ≡ Place.Is (Register.Plain 0)
-  pub data_phase : register_at (CiDBTCFG.address 0) ≡ Place.Is (Register.Plain 1)
-  pub delay : register_at (CiTDC.address 0) ≡ Place.Is (Register.Plain 2)
-  pub stamp : register_at (CiTSCON.address 0) ≡ Place.Is (Register.Plain 3)
-  pub interrupt : register_at (CiINT.address 0) ≡ Place.Is (Register.Plain 4)
-  pub queue_control : register_at (CiTXQCON.address 0) ≡ Place.Is Register.QueueControl
-  pub queue_status : register_at (CiTXQSTA.address 0) ≡ Place.Is Register.QueueStatus
-  pub queue_address : register_at (CiTXQUA.address 0) ≡ Place.Is Register.QueueAddress
-  pub pins : register_at (IOCON.address 0) ≡ Place.Is (Register.Plain 5)
+  pub con : register_at (CiCON.address 0) ≡ Some Register.Con
+  pub osc : register_at (OSC.address 0) ≡ Some Register.Osc
+  pub nominal : register_at (CiNBTCFG.address 0) ≡ Some (Register.Plain 0)
+  pub data_phase : register_at (CiDBTCFG.address 0) ≡ Some (Register.Plain 1)
+  pub delay : register_at (CiTDC.address 0) ≡ Some (Register.Plain 2)
+  pub stamp : register_at (CiTSCON.address 0) ≡ Some (Register.Plain 3)
+  pub interrupt : register_at (CiINT.address 0) ≡ Some (Register.Plain 4)
+  pub queue_control : register_at (CiTXQCON.address 0) ≡ Some Register.QueueControl
+  pub queue_status : register_at (CiTXQSTA.address 0) ≡ Some Register.QueueStatus
+  pub queue_address : register_at (CiTXQUA.address 0) ≡ Some Register.QueueAddress
+  pub pins : register_at (IOCON.address 0) ≡ Some (Register.Plain 5)
 
 -- a number is one of a list
 abbrev pub among : List ℕ → ℕ → Bool

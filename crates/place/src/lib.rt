@@ -24,12 +24,6 @@ pub enum Register {
     QueueAddress,
 }
 
-#[derive(Clone, Copy)]
-pub enum Place {
-    Is(Register),
-    None,
-}
-
 fn of_fifo(n: u8, word: u32) -> Register
     ensures { result ≡ of_fifo n word }
 {
@@ -52,43 +46,43 @@ fn of_filter(m: usize, word: u32) -> Register
 }
 
 #[tactic(auto, unfolding(crate::specs::Place::single))]
-fn single(a: u32) -> Place
+fn single(a: u32) -> Option<Register>
     ensures { result ≡ single a }
 {
     match a {
-        0x000 => Place::Is(Register::Con),
-        0x004 => Place::Is(Register::Plain(0)),
-        0x008 => Place::Is(Register::Plain(1)),
-        0x00C => Place::Is(Register::Plain(2)),
-        0x014 => Place::Is(Register::Plain(3)),
-        0x01C => Place::Is(Register::Plain(4)),
-        0x050 => Place::Is(Register::QueueControl),
-        0x054 => Place::Is(Register::QueueStatus),
-        0x058 => Place::Is(Register::QueueAddress),
-        0xE00 => Place::Is(Register::Osc),
-        0xE04 => Place::Is(Register::Plain(5)),
-        _ => Place::None,
+        0x000 => Some(Register::Con),
+        0x004 => Some(Register::Plain(0)),
+        0x008 => Some(Register::Plain(1)),
+        0x00C => Some(Register::Plain(2)),
+        0x014 => Some(Register::Plain(3)),
+        0x01C => Some(Register::Plain(4)),
+        0x050 => Some(Register::QueueControl),
+        0x054 => Some(Register::QueueStatus),
+        0x058 => Some(Register::QueueAddress),
+        0xE00 => Some(Register::Osc),
+        0xE04 => Some(Register::Plain(5)),
+        _ => None,
     }
 }
 
 #[tactic(auto, unfolding(crate::specs::Place::register_at))]
-pub fn register_at(a: u32) -> Place
+pub fn register_at(a: u32) -> Option<Register>
     ensures { result ≡ register_at a }
 {
     if 0 < a % 4 {
-        return Place::None;
+        return None;
     }
     if a < 0x05C {
         return single(a);
     }
     if a < 0x1D0 {
-        return Place::Is(of_fifo(((a - 0x050) / 12) as u8, (a - 0x050) % 12 / 4));
+        return Some(of_fifo(((a - 0x050) / 12) as u8, (a - 0x050) % 12 / 4));
     }
     if a < 0x1F0 {
-        return Place::Is(Register::Filter(((a - 0x1D0) / 4) as usize));
+        return Some(Register::Filter(((a - 0x1D0) / 4) as usize));
     }
     if a < 0x2F0 {
-        return Place::Is(of_filter(((a - 0x1F0) / 8) as usize, (a - 0x1F0) % 8 / 4));
+        return Some(of_filter(((a - 0x1F0) / 8) as usize, (a - 0x1F0) % 8 / 4));
     }
     single(a)
 }
@@ -98,8 +92,5 @@ pub fn register_at(a: u32) -> Place
 pub fn is_carried(a: u32) -> bool
     ensures { result ≡ is_carried a }
 {
-    match register_at(a) {
-        Place::Is(_) => true,
-        Place::None => false,
-    }
+    register_at(a).is_some()
 }

@@ -9,6 +9,7 @@ use borrow.Author.Tests.{ltb-false}
 use lib.Dec.{ltb, eqb}
 use lib.ListN.{length, get_or}
 use lib.Seq.{get_or-set_other}
+use Rattle.std.specs.Prelude.{Option, Some, None}
 use Rattle.laws.proofs.Choice.{by_if}
 use Rattle.field.specs.Field.{read, flag, write}
 use Rattle.field.proofs.Laws.{read_write}
@@ -19,7 +20,6 @@ use Rattle.header.specs.declared.Header.{Header}
 use Rattle.spi.specs.Instruction.{code_of}
 use Rattle.spi.specs.declared.instruction.OpCode.{OpCode}
 use Rattle.place.specs.declared.Register.{Register}
-use Rattle.place.specs.declared.Place.{Place}
 use Rattle.place.specs.Place.{of_fifo, of_filter, single, register_at}
 use Rattle.operation.specs.declared.operation.Operation.{Operation}
 use Rattle.operation.specs.Operation.{in_ram, opcode, address, at, read_at, write_at, checked_at, reset_at, asked}
@@ -57,9 +57,9 @@ Numbered Register.QueueControl = Unit {0}
 Numbered Register.QueueStatus = Unit {0}
 Numbered Register.QueueAddress = Unit {0}
 
-abbrev Known : Place → Type 0
-Known (Place.Is r) = Numbered r
-Known Place.None = Unit {0}
+abbrev Known : Option Register → Type 0
+Known (Some r) = Numbered r
+Known None = Unit {0}
 
 single_known : (a : ℕ) → Known (single a)
 unfolding single
@@ -102,9 +102,9 @@ Fair (Operation.WriteRam a) = Unit {0}
 Fair Operation.Reset = Unit {0}
 Fair Operation.None = Unit {0}
 
-at_fair : (p : Place) (f : Register → Operation) → Known p → ((r : Register) → Numbered r → Fair (f r)) → Fair (at p f)
-at_fair (Place.Is r) f k h = h r k
-at_fair Place.None f k h = tt
+at_fair : (p : Option Register) (f : Register → Operation) → Known p → ((r : Register) → Numbered r → Fair (f r)) → Fair (at p f)
+at_fair (Some r) f k h = h r k
+at_fair None f k h = tt
 
 asked_fair : (s : List ℕ) (want : ℕ) → Fair (asked s want)
 unfolding asked read_at write_at checked_at reset_at
