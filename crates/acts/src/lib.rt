@@ -1,9 +1,8 @@
 // What stands between calls: bus steps, raw exchanges, what a FIFO or the transmit queue holds, a new chip. Each is done and written.
 #![tactic(auto)]
 
-use bus::{Delivery, Sending, Sent};
-use header::Dlc;
-use message::{Decoded, Frame, Reading};
+use bus::{Delivery, Sent, Unsent};
+use message::{Frame, Undecoded};
 use model::Heard;
 use output::{write, write_line};
 use spi::Refusal;
@@ -11,12 +10,12 @@ use spoken::Spoken;
 use state::Model;
 use std::rt::Stdout;
 
-fn sent_answer(sending: Sending, f: Frame, out: &mut [u8]) -> usize {
-    match sending {
-        Sending::Frame => lines::frame(out, 0, true, f),
-        Sending::NoFrame => lines::put(out, 0, b"no frame"),
-        Sending::Nothing => lines::put(out, 0, b"nothing sent"),
-        Sending::Refused(r) => lines::refusal(out, 0, r),
+fn sent_answer(sent: Result<Frame, Unsent>, out: &mut [u8]) -> usize {
+    match sent {
+        Ok(f) => lines::frame(out, 0, true, f),
+        Err(Unsent::NoFrame) => lines::put(out, 0, b"no frame"),
+        Err(Unsent::Nothing) => lines::put(out, 0, b"nothing sent"),
+        Err(Unsent::Refused(r)) => lines::refusal(out, 0, r),
     }
 }
 
@@ -55,10 +54,8 @@ fn answered(stdout: Stdout, words: &[u8], answer: &[u8]) {
 }
 
 fn sent(stdout: Stdout, s: Sent, words: &[u8]) -> Model {
-    let sending = s.sending;
-    let f = s.frame;
     let mut out = [0u8; 256];
-    let n = sent_answer(sending, f, &mut out);
+    let n = sent_answer(s.sent, &mut out);
     answered(stdout, words, text::front(&out, n));
     s.model
 }
@@ -66,8 +63,8 @@ fn sent(stdout: Stdout, s: Sent, words: &[u8]) -> Model {
 // The DLC that a payload's length has; 16, which is refused by the same number, where it has none.
 fn dlc_for(n: usize, fdf: bool) -> u32 {
     match header::dlc_for_len(n, fdf) {
-        Dlc::Is(d) => if d < 16 { d as u32 } else { 16 },
-        Dlc::Bad => 16,
+        Some(d) => if d < 16 { d as u32 } else { 16 },
+        None => 16,
     }
 }
 
@@ -192,11 +189,11 @@ fn raw(stdout: Stdout, m: Model, sent: &[u8], want: usize) -> Model {
     x.model
 }
 
-fn put_item(reading: Reading, sending: bool, f: Frame, out: &mut [u8]) -> usize {
+fn put_item(held: Result<Frame, Undecoded>, sending: bool, out: &mut [u8]) -> usize {
     let a = lines::put(out, 0, b"+ ");
-    match reading {
-        Reading::Whole => lines::frame(out, a, sending, f),
-        _ => lines::put(out, a, b"no frame"),
+    match held {
+        Ok(f) => lines::frame(out, a, sending, f),
+        Err(_) => lines::put(out, a, b"no frame"),
     }
 }
 
@@ -208,11 +205,9 @@ fn is_sending(m: Model, n: u32) -> bool {
     }
 }
 
-fn item(stdout: Stdout, d: Decoded, sending: bool) {
-    let reading = d.reading;
-    let f = d.frame;
+fn item(stdout: Stdout, held: Result<Frame, Undecoded>, sending: bool) {
     let mut out = [0u8; 256];
-    let a = put_item(reading, sending, f, &mut out);
+    let a = put_item(held, sending, &mut out);
     write_line(stdout, text::front(&out, a));
 }
 

@@ -1,6 +1,7 @@
 -- The calls that set one part of the chip up: their items, one after the other, and what is refused before any exchange.
 -- Assumes nothing.
-use Rattle.std.specs.Prelude.{ℕ, true, false, not, List, [], ◌∷◌, if◌then◌else◌}
+use Rattle.areas.specs.declared.settings.TxQueueConfiguration.{TxQueueConfiguration}
+use Rattle.std.specs.Prelude.{ℕ, true, false, not, List, [], ◌∷◌, if◌then◌else◌, Option, Some, None}
 use Rattle.configuration.specs.CanControl.{REQOP}
 use Rattle.fifo.specs.Control.{is_fifo}
 use Rattle.spi.specs.declared.refusal.Refusal.{Refusal}
@@ -12,7 +13,6 @@ use Rattle.changes.specs.declared.settings.OscillatorConfiguration.{OscillatorCo
 use Rattle.changes.specs.declared.settings.IoConfiguration.{IoConfiguration}
 use Rattle.changes.specs.declared.settings.BitTimeConfiguration.{BitTimeConfiguration}
 use Rattle.areas.specs.declared.settings.FifoConfiguration.{FifoConfiguration}
-use Rattle.areas.specs.declared.settings.TxQueueSetting.{TxQueueSetting}
 use Rattle.areas.specs.declared.settings.FilterConfiguration.{FilterConfiguration}
 use Rattle.changes.specs.Changes.{fits, when_asked, mode_change, oscillator_change, io_change, timing_fits, nominal_change, data_change, delay_change}
 use Rattle.areas.specs.Areas.{fifo_fits, fifo_change, enable_change, queue_change, setting_fits, off_change, object_change, mask_change, on_change, is_filter, filter_check}
@@ -35,9 +35,9 @@ abbrev pub timing_items : BitTimeConfiguration → List Item
 timing_items b = Item.Change (nominal_change b.nominal) ∷ Item.Change (data_change b.data) ∷ Item.Change (delay_change b.data) ∷ []
 
 -- TXQEN written; where the queue is on, its control
-abbrev pub queue_items : TxQueueSetting → List Item
-queue_items TxQueueSetting.Off = Item.Change (enable_change false) ∷ []
-queue_items (TxQueueSetting.On c) = Item.Change (enable_change true) ∷ Item.Change (queue_change c) ∷ []
+abbrev pub queue_items : Option TxQueueConfiguration → List Item
+queue_items None = Item.Change (enable_change false) ∷ []
+queue_items (Some c) = Item.Change (enable_change true) ∷ Item.Change (queue_change c) ∷ []
 
 abbrev pub filter_items : ℕ → FilterConfiguration → List Item
 filter_items f c =
@@ -67,7 +67,7 @@ configure_fifo n c =
     else if not (fifo_fits c) then turned_down Refusal.BadSetting
     else ready Refusal.SpiRead (Item.Change (fifo_change n c) ∷ [])
 
-unfoldable pub configure_tx_queue : TxQueueSetting → Prepared
+unfoldable pub configure_tx_queue : Option TxQueueConfiguration → Prepared
 configure_tx_queue q = if setting_fits q then ready failed (queue_items q) else turned_down Refusal.BadSetting
 
 -- "off" is only the first change

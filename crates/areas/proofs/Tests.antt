@@ -6,11 +6,10 @@ use mathlib.Core.Bool.{Bool, true, false, not, ◌&&◌}
 use native.Mathlib.Omega.{arith}
 use lib.Dec.{leb}
 use borrow.Author.Tests.{leb-true}
-use Rattle.std.specs.Prelude.{if◌then◌else◌}
+use Rattle.std.specs.Prelude.{if◌then◌else◌, Result, Ok, Err}
 use Rattle.laws.proofs.Table.{both}
 use Rattle.header.specs.Header.{top_id}
 use Rattle.spi.specs.declared.refusal.Refusal.{Refusal}
-use Rattle.spi.specs.declared.refusal.Done.{Done}
 use Rattle.field.specs.Field.{Fits}
 use Rattle.fifo.specs.Control.{PLSIZE, TXPRI, TXAT, is_fifo}
 use Rattle.changes.specs.Changes.{fits}
@@ -41,21 +40,21 @@ queue_told c e =
     let (p, q) = transmit_told t d in
     (a, b, p, q)
 
-abbrev good : Done → ℕ
-good Done.Good = 1
-good (Done.Bad r) = 0
+abbrev good : Result (Unit {0}) Refusal → ℕ
+good (Ok _) = 1
+good (Err r) = 0
 
-not_good : {r : Refusal} → Done.Bad r ≡ Done.Good → ⊥
+not_good : {r : Refusal} → Err r ≡ Ok tt → ⊥
 not_good e = let z : ◌≡◌ {A = ℕ} 0 1 = ap good e in absurd (omega arith)
 
 -- what a filter's configuration that is not refused has
-pub filter_told_lem : (f : ℕ) (c : FilterConfiguration) → filter_check f c ≡ Done.Good
+pub filter_told_lem : (f : ℕ) (c : FilterConfiguration) → filter_check f c ≡ Ok tt
     → (c.object.id ≤ top_id c.object.extended) × (c.mask.id ≤ top_id c.mask.extended) × (c.fifo < 32)
 unfolding filter_check is_fifo
 filter_told_lem f c = go (is_filter f) (leb 1 c.fifo) (leb c.fifo 31) (is_identifier c.object) (is_identifier c.mask) refl refl refl
   where
     go : (a l u i j : Bool) → leb c.fifo 31 ≡ u → is_identifier c.object ≡ i → is_identifier c.mask ≡ j
-        → (if not (a && (l && u)) then Done.Bad Refusal.BadNumber else if not (i && j) then Done.Bad Refusal.BadIdentifier else Done.Good) ≡ Done.Good
+        → (if not (a && (l && u)) then Err Refusal.BadNumber else if not (i && j) then Err Refusal.BadIdentifier else Ok tt) ≡ Ok tt
         → (c.object.id ≤ top_id c.object.extended) × (c.mask.id ≤ top_id c.mask.extended) × (c.fifo < 32)
     go true true true true true u i j e = (leb-true c.object.id (top_id c.object.extended) i, leb-true c.mask.id (top_id c.mask.extended) j, omega (arith, leb-true c.fifo 31 u))
     go true true true true false u i j e = absurd (not_good e)

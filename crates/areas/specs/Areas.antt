@@ -1,7 +1,7 @@
 -- The changes that configure a FIFO, the transmit queue and a filter. `To`: the change of the same fields to bits of a word, which is what
 -- a plan keeps of a change.
 -- Assumes nothing.
-use Rattle.std.specs.Prelude.{ℕ, ◌/◌, ◌%◌, Bool, true, false, not, ◌&&◌, List, [], ◌∷◌, ltb, leb, if◌then◌else◌}
+use Rattle.std.specs.Prelude.{ℕ, ◌/◌, ◌%◌, Bool, true, false, not, ◌&&◌, List, [], ◌∷◌, ltb, leb, if◌then◌else◌, Option, Some, None, Result, Ok, Err}
 use Rattle.field.specs.Field.{digit}
 use Rattle.field.specs.Settings.{Setting, ◌:=◌}
 use Rattle.configuration.specs.CanControl.{CiCON, TXQEN}
@@ -12,13 +12,11 @@ use Rattle.filter.specs.Object.{CiFLTOBJ, SID, EID, EXIDE}
 use Rattle.filter.specs.Mask.{CiMASK, MSID, MEID, MIDE}
 use Rattle.header.specs.Header.{top_id, sid_of, eid_of}
 use Rattle.spi.specs.declared.refusal.Refusal.{Refusal}
-use Rattle.spi.specs.declared.refusal.Done.{Done}
 use Rattle.plan.specs.declared.change.Change.{Change}
 use Rattle.plan.specs.Change.{change_of, change_to}
 use Rattle.areas.specs.declared.settings.FifoMode.{FifoMode}
 use Rattle.areas.specs.declared.settings.FifoConfiguration.{FifoConfiguration}
 use Rattle.areas.specs.declared.settings.TxQueueConfiguration.{TxQueueConfiguration}
-use Rattle.areas.specs.declared.settings.TxQueueSetting.{TxQueueSetting}
 use Rattle.areas.specs.declared.settings.Identifier.{Identifier}
 use Rattle.areas.specs.declared.settings.FilterMode.{FilterMode}
 use Rattle.areas.specs.declared.settings.FilterConfiguration.{FilterConfiguration}
@@ -71,9 +69,9 @@ queue_to bits = change_to (CiTXQCON.address 0) (TXAT ∷ TXPRI ∷ FSIZE ∷ PLS
 unfoldable pub queue_fits : TxQueueConfiguration → Bool
 queue_fits c = leb 1 c.size && (fits PLSIZE c.plsize && (fits TXPRI c.txpri && fits TXAT c.txat))
 
-abbrev pub setting_fits : TxQueueSetting → Bool
-setting_fits TxQueueSetting.Off = true
-setting_fits (TxQueueSetting.On c) = queue_fits c
+abbrev pub setting_fits : Option TxQueueConfiguration → Bool
+setting_fits None = true
+setting_fits (Some c) = queue_fits c
 
 -- ---- a filter: disabled, object, mask, then target and enabled
 
@@ -130,8 +128,8 @@ abbrev pub is_filter : ℕ → Bool
 is_filter f = ltb f 32
 
 -- 20 for the filter's number and its target, then 21 for both identifiers
-unfoldable pub filter_check : ℕ → FilterConfiguration → Done
+unfoldable pub filter_check : ℕ → FilterConfiguration → Result (Unit {0}) Refusal
 filter_check f c =
-    if not (is_filter f && is_fifo c.fifo) then Done.Bad Refusal.BadNumber
-    else if not (is_identifier c.object && is_identifier c.mask) then Done.Bad Refusal.BadIdentifier
-    else Done.Good
+    if not (is_filter f && is_fifo c.fifo) then Err Refusal.BadNumber
+    else if not (is_identifier c.object && is_identifier c.mask) then Err Refusal.BadIdentifier
+    else Ok tt

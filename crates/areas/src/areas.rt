@@ -1,8 +1,7 @@
 // The changes that configure a FIFO, the transmit queue and a filter: the bits that they set, and the change of a register to these
 // bits, where the bits that are kept are all but those of its fields. And the change that requests a transmission.
-ghost use Rattle.std.specs.Prelude.{◌≡◌, true, not, ◌&&◌, ◌-◌, ◌^◌, ◌<◌, ◌≤◌, [], ◌∷◌, if◌then◌else◌};
+ghost use Rattle.std.specs.Prelude.{◌≡◌, true, not, ◌&&◌, ◌-◌, ◌^◌, ◌<◌, ◌≤◌, [], ◌∷◌, if◌then◌else◌, Ok, Err};
 ghost use Rattle.spi.specs.declared.refusal.Refusal.{Refusal};
-ghost use Rattle.spi.specs.declared.refusal.Done.{Done};
 ghost use Rattle.header.specs.Header.{top_id};
 ghost use Rattle.field.specs.Field.{Fits};
 ghost use Rattle.field.specs.Settings.{◌:=◌, fields_of, settings};
@@ -19,7 +18,7 @@ use fifo::{FifoControl, TxQueueControl, is_fifo};
 use filter::{FilterControl, FilterMask, FilterObject};
 use header::{eid_of, sid_of};
 use plan::Change;
-use spi::{Done, Refusal};
+use spi::Refusal;
 
 fn transmit_fits(t: TxFifo) -> bool
     ensures { result ≡ direction_fits (FifoMode.Transmit t) }
@@ -322,23 +321,23 @@ pub fn mask_change(f: u8, bits: u32) -> Change
 }
 
 // What the tests of a filter's number, its target, its object and its mask say.
-fn checked(filter: bool, fifo: bool, object: bool, mask: bool) -> Done
-    ensures { result ≡ (if not (filter && fifo) then Done.Bad Refusal.BadNumber else if not (object && mask) then Done.Bad Refusal.BadIdentifier else Done.Good) }
+fn checked(filter: bool, fifo: bool, object: bool, mask: bool) -> Result<(), Refusal>
+    ensures { result ≡ (if not (filter && fifo) then Err Refusal.BadNumber else if not (object && mask) then Err Refusal.BadIdentifier else Ok tt) }
 {
     if filter {
         if fifo {
             if object {
                 if mask {
-                    return Done::Good;
+                    return Ok(());
                 }
             }
-            return Done::Bad(Refusal::BadIdentifier);
+            return Err(Refusal::BadIdentifier);
         }
     }
-    Done::Bad(Refusal::BadNumber)
+    Err(Refusal::BadNumber)
 }
 
-pub fn filter_check(f: u32, c: FilterConfiguration) -> Done
+pub fn filter_check(f: u32, c: FilterConfiguration) -> Result<(), Refusal>
     ensures { result ≡ filter_check f c }
 {
     let object = c.object;

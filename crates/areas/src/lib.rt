@@ -11,5 +11,5 @@ pub use areas::{
 };
 pub use settings::{
     FifoConfiguration, FifoMode, FilterConfiguration, FilterMode, Identifier, RxFifo, TxFifo,
-    TxQueueConfiguration, TxQueueSetting,
+    TxQueueConfiguration,
 };

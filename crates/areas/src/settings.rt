@@ -49,13 +49,6 @@ pub struct TxQueueConfiguration {
     pub notfull: bool,
 }
 
-// The queue is off, or on with this configuration.
-#[derive(Clone, Copy)]
-pub enum TxQueueSetting {
-    Off,
-    On(TxQueueConfiguration),
-}
-
 #[derive(Clone, Copy)]
 pub struct Identifier {
     pub extended: bool,

@@ -9,12 +9,11 @@ use native.Mathlib.Omega.{arith}
 use borrow.Author.Tests.{le-ltb, eq-eqb, ltb-true, ltb-false, leb-true, leb-false, eqb-true, not-true, not-false}
 use lib.Dec.{ltb, leb, eqb}
 use lib.ListN.{length, get_or}
-use Rattle.std.specs.Prelude.{if◌then◌else◌}
+use Rattle.std.specs.Prelude.{if◌then◌else◌, Result, Ok, Err}
 use Rattle.laws.proofs.Choice.{by_if}
 use Rattle.laws.proofs.Table.{both}
 use Rattle.fifo.specs.Control.{payload_of, is_fifo}
 use Rattle.spi.specs.declared.refusal.Refusal.{Refusal}
-use Rattle.spi.specs.declared.refusal.Done.{Done}
 use Rattle.header.specs.declared.Header.{Header}
 use Rattle.header.specs.Dlc.{received_length}
 use Rattle.header.specs.Header.{top_id}
@@ -36,10 +35,10 @@ pub clash : {X : Type 0} {b : Bool} → b ≡ false → b ≡ true → X
 clash f t = absurd (false≢true (sym f ∙ t))
 
 -- what holds of each result of a frame's check holds of the check
-by_checked : (Q : Done → Type 0) (t a e : Bool)
-    → (t ≡ true → Q (Done.Bad Refusal.BadIdentifier)) → (t ≡ false → (not a && e) ≡ false → Q (Done.Bad Refusal.BadPayload))
-    → (t ≡ false → (not a && e) ≡ true → Q Done.Good)
-    → Q (if t then Done.Bad Refusal.BadIdentifier else if a then Done.Bad Refusal.BadPayload else if e then Done.Good else Done.Bad Refusal.BadPayload)
+by_checked : (Q : Result (Unit {0}) Refusal → Type 0) (t a e : Bool)
+    → (t ≡ true → Q (Err Refusal.BadIdentifier)) → (t ≡ false → (not a && e) ≡ false → Q (Err Refusal.BadPayload))
+    → (t ≡ false → (not a && e) ≡ true → Q (Ok tt))
+    → Q (if t then Err Refusal.BadIdentifier else if a then Err Refusal.BadPayload else if e then Ok tt else Err Refusal.BadPayload)
 by_checked Q true a e x y z = x refl
 by_checked Q false true e x y z = y refl refl
 by_checked Q false false true x y z = z refl refl
@@ -62,10 +61,10 @@ module _ (m : Model) (n : ℕ) (header : Header) (dlc time : ℕ) (payload : Lis
   abbrev pub means : Bool
   means = means_payload header dlc payload
 
-  pub by_check_lem : (Q : Done → Type 0)
-      → (too_high ≡ true → Q (Done.Bad Refusal.BadIdentifier))
-      → (too_high ≡ false → means ≡ false → Q (Done.Bad Refusal.BadPayload))
-      → (too_high ≡ false → means ≡ true → arrival_check header dlc (length payload) ≡ Done.Good → Q Done.Good)
+  pub by_check_lem : (Q : Result (Unit {0}) Refusal → Type 0)
+      → (too_high ≡ true → Q (Err Refusal.BadIdentifier))
+      → (too_high ≡ false → means ≡ false → Q (Err Refusal.BadPayload))
+      → (too_high ≡ false → means ≡ true → arrival_check header dlc (length payload) ≡ Ok tt → Q (Ok tt))
       → Q (arrival_check header dlc (length payload))
   unfolding arrival_check
   by_check_lem Q a b c =
@@ -77,7 +76,7 @@ module _ (m : Model) (n : ℕ) (header : Header) (dlc time : ℕ) (payload : Lis
       → (is_fifo n ≡ false → P (delivered (Delivery.Refused Refusal.BadNumber) m))
       → (is_fifo n ≡ true → too_high ≡ true → P (delivered (Delivery.Refused Refusal.BadIdentifier) m))
       → (is_fifo n ≡ true → too_high ≡ false → means ≡ false → P (delivered (Delivery.Refused Refusal.BadPayload) m))
-      → (is_fifo n ≡ true → too_high ≡ false → means ≡ true → arrival_check header dlc (length payload) ≡ Done.Good
+      → (is_fifo n ≡ true → too_high ≡ false → means ≡ true → arrival_check header dlc (length payload) ≡ Ok tt
       → P (give m n 0 dlc header time payload))
       → P (deliver_of m n header dlc time payload)
   unfolding deliver_of

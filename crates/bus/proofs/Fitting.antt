@@ -6,13 +6,12 @@ use mathlib.Core.Bool.{Bool, true, false}
 use mathlib.Core.List.{List}
 use native.Mathlib.Omega.{arith}
 use lib.ListN.{length}
-use Rattle.std.specs.Prelude.{if◌then◌else◌}
+use Rattle.std.specs.Prelude.{if◌then◌else◌, Some, None}
 use Rattle.fifo.specs.Control.{payload_of}
 use Rattle.fifo.proofs.Sizes.{payload_whole}
 use Rattle.words.proofs.Laws.{le_length}
 use Rattle.header.specs.declared.Header.{Header}
 use Rattle.header.specs.Header.{word0, received1}
-use Rattle.message.specs.declared.object.Stamp.{Stamp}
 use Rattle.message.specs.Object.{stamp_bytes}
 use Rattle.message.specs.Message.{arriving}
 use Rattle.message.proofs.Round.{object_length}
@@ -21,7 +20,7 @@ use Rattle.state.specs.declared.Model.{Model}
 use Rattle.state.specs.Model.{frozen_at}
 use Rattle.bus.specs.Bus.{stamp_for}
 
-stamp_length : (b : Bool) (time : ℕ) → length (stamp_bytes (if b then Stamp.At time else Stamp.None)) ≡ (if b then 4 else 0)
+stamp_length : (b : Bool) (time : ℕ) → length (stamp_bytes (if b then Some time else None)) ≡ (if b then 4 else 0)
 stamp_length true time = le_length time
 stamp_length false time = refl
 

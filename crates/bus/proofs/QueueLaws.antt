@@ -8,7 +8,7 @@ use native.Mathlib.Omega.{arith}
 use borrow.Author.Tests.{ltb-true}
 use lib.Dec.{ltb, leb}
 use lib.ListN.{length}
-use Rattle.std.specs.Prelude.{if◌then◌else◌}
+use Rattle.std.specs.Prelude.{if◌then◌else◌, Option, Some, None}
 use Rattle.laws.proofs.Choice.{by_if}
 use Rattle.laws.proofs.Table.{both}
 use Rattle.parts.specs.Parts.{part}
@@ -16,7 +16,6 @@ use Rattle.words.specs.Words.{le_at}
 use Rattle.field.specs.Field.{read, flag}
 use Rattle.field.proofs.Laws.{field_lt}
 use Rattle.fifo.specs.Control.{TXREQ}
-use Rattle.header.specs.declared.dlc.Length.{Length}
 use Rattle.header.specs.declared.Header.{Header}
 use Rattle.header.specs.Header.{SID, EID, IDE, DLC, FDF, sid_of, eid_of, id_in, header_of}
 use Rattle.message.specs.Message.{Message, Decoding, holds, message_in, body_at, length_in, by_length, decoding}
@@ -65,13 +64,13 @@ module _ (sending stamped : Bool) (b : List ℕ) (x : Message) where
   abbrev Says : Decoding → Type 0
   Says d = d ≡ holds x → x.header ≡ header_of (le_at b 0) (le_at b 4)
 
-  by_length_lem : (n : Length) → Says (by_length n sending stamped b)
+  by_length_lem : (n : Option ℕ) → Says (by_length n sending stamped b)
   unfolding message_in
-  by_length_lem (Length.Is n) =
+  by_length_lem (Some n) =
       by_if Says (leb (body_at stamped + n) (length b))
       (λ t e. let i : message_in sending stamped n b ≡ x = cc in ap (λ (y : Message). y.header) (sym i))
       (λ t e. let z : ◌≡◌ {A = ℕ} 0 1 = cc in absurd (omega arith))
-  by_length_lem Length.Bad = λ e. let z : ◌≡◌ {A = ℕ} 0 1 = cc in absurd (omega arith)
+  by_length_lem None = λ e. let z : ◌≡◌ {A = ℕ} 0 1 = cc in absurd (omega arith)
 
   -- a message that bytes hold has the header that their first two words say
   pub header_in : Says (decoding sending stamped b)

@@ -1,5 +1,6 @@
 -- What sort answers and leaves.
 -- Assumes nothing.
+use Rattle.std.specs.Prelude.{Ok}
 use Prim.Native.Nat.{ℕ}
 use mathlib.Core.Path.{◌≡◌, refl}
 use mathlib.Core.Bool.{true, false, not}
@@ -13,7 +14,6 @@ use Rattle.laws.proofs.Choice.{by_if}
 use Rattle.field.specs.Field.{read}
 use Rattle.configuration.specs.CanControl.{DNCNT}
 use Rattle.spi.specs.declared.refusal.Refusal.{Refusal}
-use Rattle.spi.specs.declared.refusal.Done.{Done}
 use Rattle.header.specs.declared.Header.{Header}
 use Rattle.header.specs.Header.{top_id}
 use Rattle.message.specs.Message.{arrival_check}
@@ -36,7 +36,7 @@ module _ (m : Model) (header : Header) (dlc time : ℕ) (payload : List ℕ) whe
       → (ltb (top_id header.extended) header.id ≡ false → means_payload header dlc payload ≡ true
       → eqb (read DNCNT m.setup.con) 0 ≡ true → leb filter_count (filter_for m header) ≡ true → P (unsorted Refusal.NoMatch m))
       → (ltb (top_id header.extended) header.id ≡ false → means_payload header dlc payload ≡ true
-      → eqb (read DNCNT m.setup.con) 0 ≡ true → leb filter_count (filter_for m header) ≡ false → arrival_check header dlc (length payload) ≡ Done.Good
+      → eqb (read DNCNT m.setup.con) 0 ≡ true → leb filter_count (filter_for m header) ≡ false → arrival_check header dlc (length payload) ≡ Ok tt
       → P (taken_by m (filter_for m header) dlc header time payload))
       → P (sort_of m header dlc time payload)
   unfolding sort_of

@@ -1,19 +1,17 @@
 -- The bus steps: the chip sends from a FIFO, and a frame arrives for one.
 -- Assumes nothing.
-use Rattle.std.specs.Prelude.{ℕ, Bool, true, ◌&&◌, not, List, length, ltb, leb, if◌then◌else◌}
+use Rattle.std.specs.Prelude.{ℕ, Bool, true, ◌&&◌, not, List, length, ltb, leb, if◌then◌else◌, Option, Some, None, Result, Ok, Err}
 use Rattle.field.specs.Field.{flag}
 use Rattle.fifo.specs.Control.{TXREQ, payload_of, is_fifo}
 use Rattle.spi.specs.declared.refusal.Refusal.{Refusal}
-use Rattle.spi.specs.declared.refusal.Done.{Done}
 use Rattle.header.specs.declared.Header.{Header}
-use Rattle.message.specs.declared.object.Stamp.{Stamp}
 use Rattle.message.specs.Message.{Message, arrival_check, arriving, Decoding, holds, short}
-use Rattle.message.specs.Structs.{frame_of, blank}
+use Rattle.message.specs.Structs.{frame_of}
 use Rattle.ring.specs.Ring.{sending, depth, sent, claimed, overflowed}
 use Rattle.ring.specs.Layout.{stamped}
 use Rattle.state.specs.declared.Model.{Model}
 use Rattle.state.specs.Model.{fifo_at, frozen_at, with_fifo, written}
-use Rattle.bus.specs.declared.departure.Sending.{Sending}
+use Rattle.bus.specs.declared.departure.Unsent.{Unsent}
 use Rattle.bus.specs.declared.departure.Sent.{Sent}
 use Rattle.bus.specs.declared.arrival.Delivery.{Delivery}
 use Rattle.bus.specs.declared.arrival.Delivered.{Delivered}
@@ -46,18 +44,18 @@ send_output m n =
 unfoldable pub send_model : Model → ℕ → Model
 send_model m n = if is_fifo n && sends m n then with_fifo m n (sent (frozen_at m n) (fifo_at m n)) else m
 
--- as the code has it: a frame of no content stands beside every answer but a frame
+-- as the code has it: a frame, or why none is sent
 abbrev pub sent_as : Output → Model → Sent
-sent_as (frame x) m = record { sending = Sending.Frame; frame = frame_of x; model = m }
-sent_as no_frame m = record { sending = Sending.NoFrame; frame = frame_of blank; model = m }
-sent_as nothing m = record { sending = Sending.Nothing; frame = frame_of blank; model = m }
-sent_as (refused r) m = record { sending = Sending.Refused r; frame = frame_of blank; model = m }
+sent_as (frame x) m = record { sent = Ok (frame_of x); model = m }
+sent_as no_frame m = record { sent = Err Unsent.NoFrame; model = m }
+sent_as nothing m = record { sent = Err Unsent.Nothing; model = m }
+sent_as (refused r) m = record { sent = Err (Unsent.Refused r); model = m }
 
 -- ---- deliver
 
 -- the timestamp that a step brings, only if RXTSEN is 1
-abbrev pub stamp_for : Model → (n time : ℕ) → Stamp
-stamp_for m n time = if stamped (frozen_at m n) then Stamp.At time else Stamp.None
+abbrev pub stamp_for : Model → (n time : ℕ) → Option ℕ
+stamp_for m n time = if stamped (frozen_at m n) then Some time else None
 
 -- a frame that filter `hit` took, as FIFO n receives it: with its DLC and that filter, and no SEQ
 unfoldable pub incoming : Model → (n hit : ℕ) → Header → (dlc time : ℕ) → List ℕ → Message
@@ -85,9 +83,9 @@ unfoldable pub give : Model → (n hit dlc : ℕ) → Header → ℕ → List �
 give m n hit dlc header time payload = appended m n (length payload) (arriving header dlc hit (stamp_for m n time) payload)
 
 -- 21 and 22; a frame that names its FIFO has filter 0
-abbrev pub by_check : Done → Model → ℕ → Header → (dlc time : ℕ) → List ℕ → Delivered
-by_check (Done.Bad r) m n header dlc time payload = delivered (Delivery.Refused r) m
-by_check Done.Good m n header dlc time payload = give m n 0 dlc header time payload
+abbrev pub by_check : Result (Unit {0}) Refusal → Model → ℕ → Header → (dlc time : ℕ) → List ℕ → Delivered
+by_check (Err r) m n header dlc time payload = delivered (Delivery.Refused r) m
+by_check (Ok _) m n header dlc time payload = give m n 0 dlc header time payload
 
 -- a frame arrives for FIFO n
 unfoldable pub deliver_of : Model → ℕ → Header → (dlc time : ℕ) → List ℕ → Delivered

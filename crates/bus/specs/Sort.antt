@@ -1,10 +1,9 @@
 -- Document 02, request 1: a frame arrives, and the filters sort it.
 -- Assumes nothing.
-use Rattle.std.specs.Prelude.{ℕ, not, List, length, leb, eqb, if◌then◌else◌}
+use Rattle.std.specs.Prelude.{ℕ, not, List, length, leb, eqb, if◌then◌else◌, Result, Ok, Err}
 use Rattle.field.specs.Field.{read}
 use Rattle.configuration.specs.CanControl.{DNCNT}
 use Rattle.spi.specs.declared.refusal.Refusal.{Refusal}
-use Rattle.spi.specs.declared.refusal.Done.{Done}
 use Rattle.header.specs.declared.Header.{Header}
 use Rattle.header.specs.Header.{sid_of, eid_of}
 use Rattle.message.specs.Message.{arrival_check}
@@ -43,9 +42,9 @@ filtered m dlc header time payload =
     else taken_by m (filter_for m header) dlc header time payload
 
 -- before these 21 and 22
-abbrev pub sorted_by : Done → Model → Header → (dlc time : ℕ) → List ℕ → Sorted
-sorted_by (Done.Bad r) m header dlc time payload = unsorted r m
-sorted_by Done.Good m header dlc time payload = filtered m dlc header time payload
+abbrev pub sorted_by : Result (Unit {0}) Refusal → Model → Header → (dlc time : ℕ) → List ℕ → Sorted
+sorted_by (Err r) m header dlc time payload = unsorted r m
+sorted_by (Ok _) m header dlc time payload = filtered m dlc header time payload
 
 -- a frame arrives
 unfoldable pub sort_of : Model → Header → (dlc time : ℕ) → List ℕ → Sorted

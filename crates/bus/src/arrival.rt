@@ -12,8 +12,7 @@ ghost use Rattle.bus.specs.Bus.{stamp_for, delivered, receives, appended, give, 
 use crate::held;
 use fifo::FifoControl;
 use header::Header;
-use message::Stamp;
-use spi::{Done, Refusal};
+use spi::Refusal;
 use state::{Model, fifo_at, frozen_at};
 
 #[derive(Clone, Copy)]
@@ -42,13 +41,13 @@ fn told(delivery: Delivery, m: Model) -> Delivered
     }
 }
 
-fn stamp_of(m: Model, n: u8, time: u32) -> Stamp
+fn stamp_of(m: Model, n: u8, time: u32) -> Option<u32>
     ensures { result ≡ stamp_for m n time }
 {
     if ring::stamped(frozen_at(m, n)) {
-        return Stamp::At(time);
+        return Some(time);
     }
-    Stamp::None
+    None
 }
 
 // The object behind those held.
@@ -133,7 +132,7 @@ pub fn deliver(m: Model, n: u32, header: Header, dlc: u32, time: u32, payload: &
         return told(Delivery::Refused(Refusal::BadNumber), m);
     }
     match message::check_arrival(header, dlc, payload.len()) {
-        Done::Good => give(m, n as u8, 0, dlc, header, time, payload),
-        Done::Bad(r) => told(Delivery::Refused(r), m),
+        Ok(()) => give(m, n as u8, 0, dlc, header, time, payload),
+        Err(r) => told(Delivery::Refused(r), m),
     }
 }

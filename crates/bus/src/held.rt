@@ -5,7 +5,7 @@ ghost use Rattle.message.specs.Message.{decoding, short};
 ghost use Rattle.message.specs.Structs.{decoded_as};
 ghost use Rattle.bus.specs.Held.{slot_of, item_at, held};
 
-use message::Decoded;
+use message::{Frame, Undecoded};
 use state::{Model, fifo_at, frozen_at};
 
 // How far a place lies into RAM.
@@ -16,7 +16,13 @@ fn within(at: usize) -> usize
 }
 
 // So many bytes of RAM, read as an object; what lies behind the RAM's end is not there.
-pub fn decoded(sending: bool, stamped: bool, ram: [u8; 2048], at: usize, size: usize) -> Decoded
+pub fn decoded(
+    sending: bool,
+    stamped: bool,
+    ram: [u8; 2048],
+    at: usize,
+    size: usize,
+) -> Result<Frame, Undecoded>
     requires { (at ≤ 1000000) × (size ≤ 76) }
     ensures { result ≡ decoded_as (decoding sending stamped (part ram at size)) }
 {
@@ -36,7 +42,7 @@ pub fn slot_of(m: Model, n: u8, k: u8) -> usize
     ring::slot_at(fixed.queue, frozen, n, p)
 }
 
-pub fn item_at(m: Model, n: u8, k: u8) -> Decoded
+pub fn item_at(m: Model, n: u8, k: u8) -> Result<Frame, Undecoded>
     ensures { result ≡ decoded_as (item_at m n k) }
 {
     let w = frozen_at(m, n);
@@ -61,13 +67,12 @@ pub fn held_len(m: Model, n: u32) -> u8
     own.count
 }
 
-// The message k places behind the oldest; the reading is `Short` where none is held there.
-pub fn held_at(m: Model, n: u32, k: u8) -> Decoded
+// The message k places behind the oldest; `Short` where none is held there.
+pub fn held_at(m: Model, n: u32, k: u8) -> Result<Frame, Undecoded>
     ensures { result ≡ decoded_as (get_or (held m n) k short) }
 {
     if k < held_len(m, n) {
         return item_at(m, n as u8, k);
     }
-    let none = [0u8; 1];
-    message::decode(false, false, &none)
+    Err(Undecoded::Short)
 }

@@ -8,7 +8,7 @@ mod queue;
 mod sorting;
 
 pub use arrival::{Delivered, Delivery, deliver};
-pub use departure::{Sending, Sent, send};
+pub use departure::{Sent, Unsent, send};
 pub use held::{held_at, held_len};
 pub use queue::{queue_holds, queue_item, send_queue};
 pub use sorting::{Sorted, sort};

@@ -8,10 +8,10 @@ ghost use Rattle.ring.specs.Queue.{no_slot, better};
 ghost use Rattle.bus.specs.Bus.{sent_as};
 ghost use Rattle.bus.specs.Queue.{queue_slot, queue_holds, queue_item, rank_at, winner, queue_output, queue_model};
 
-use crate::departure::{Sending, Sent};
+use crate::departure::{Sent, Unsent};
 use crate::{departure, held};
 use fifo::TxQueueControl;
-use message::Decoded;
+use message::{Frame, Undecoded};
 use ring::queue::NO_SLOT;
 use state::{Model, frozen_at};
 
@@ -35,7 +35,7 @@ pub fn queue_holds(m: Model, k: u8) -> bool
     q.held[k as usize] == 1
 }
 
-pub fn queue_item(m: Model, k: u8) -> Decoded
+pub fn queue_item(m: Model, k: u8) -> Result<Frame, Undecoded>
     ensures { result ≡ decoded_as (queue_item m k) }
 {
     let ram = m.ram;
@@ -127,7 +127,7 @@ pub fn send_queue(m: Model) -> Sent
 {
     let k = winner(m);
     if !sends(m.fixed.queue, m.queue.control, k) {
-        return departure::answered(Sending::Nothing, departure::no_frame(), m);
+        return departure::unsent(Unsent::Nothing, m);
     }
     let item = queue_item(m, k);
     let q = m.queue;

@@ -7,7 +7,7 @@ ghost use Rattle.bus.specs.Sort.{filter_for, target_for, by_filter, unsorted, fi
 use crate::{Delivered, Delivery, arrival};
 use configuration::CanControl;
 use header::Header;
-use spi::{Done, Refusal};
+use spi::Refusal;
 use state::Model;
 
 // The FIFO and the filter that a frame was for; 0 where it was refused.
@@ -85,7 +85,7 @@ pub fn sort(m: Model, header: Header, dlc: u32, time: u32, payload: &[u8]) -> So
     ensures { result ≡ sort_of m header dlc time payload.now }
 {
     match message::check_arrival(header, dlc, payload.len()) {
-        Done::Good => filtered(m, dlc, header, time, payload),
-        Done::Bad(r) => unsorted(r, m),
+        Ok(()) => filtered(m, dlc, header, time, payload),
+        Err(r) => unsorted(r, m),
     }
 }

@@ -1,10 +1,9 @@
 -- The outcome of a call by document 01's number and values.
 -- Assumes nothing.
-use Rattle.std.specs.Prelude.{ℕ, List, [], ◌∷◌, ◌++◌}
+use Rattle.std.specs.Prelude.{ℕ, List, [], ◌∷◌, ◌++◌, Option, Some, None}
 use Rattle.field.specs.Field.{digit}
 use Rattle.spi.specs.Refusals.{numbered}
 use Rattle.header.specs.declared.Header.{Header}
-use Rattle.message.specs.declared.object.Stamp.{Stamp}
 use Rattle.call.specs.declared.Found.{Found}
 use Rattle.call.specs.declared.Rewrite.{Rewrite}
 use Rattle.call.specs.declared.Report.{Report}
@@ -15,9 +14,9 @@ abbrev pub header_numbers : Header → List ℕ
 header_numbers h = h.id ∷ digit h.extended ∷ digit h.fdf ∷ digit h.brs ∷ digit h.esi ∷ digit h.rtr ∷ []
 
 -- a timestamp, where there is one
-abbrev pub stamp_numbers : Stamp → List ℕ
-stamp_numbers Stamp.None = []
-stamp_numbers (Stamp.At t) = t ∷ []
+abbrev pub stamp_numbers : Option ℕ → List ℕ
+stamp_numbers None = []
+stamp_numbers (Some t) = t ∷ []
 
 -- what is told of a message: the length of its payload, header, DLC, filter, timestamp
 abbrev pub found_numbers : Found → List ℕ

@@ -2,7 +2,6 @@
 #![tactic(auto)]
 
 use header::Header;
-use message::Stamp;
 use spi::Refusal;
 
 // A message that was found in a receive FIFO, with the DLC that it was received with and the number of the filter that took it. Its payload of
@@ -12,7 +11,7 @@ pub struct Found {
     pub header: Header,
     pub dlc: u8,
     pub filter: u8,
-    pub stamp: Stamp,
+    pub stamp: Option<u32>,
     pub len: u8,
 }
 

@@ -1,6 +1,6 @@
 -- The table of checked cases: what the definitions that the contracts cite give, and what the scope document says.
 -- Assumes nothing.
-use Rattle.std.specs.Prelude.{◌≡◌, Bool, true, false, List, [], ◌∷◌, ◌++◌, map, ℕ, negsuc}
+use Rattle.std.specs.Prelude.{◌≡◌, Bool, true, false, List, [], ◌∷◌, ◌++◌, map, ℕ, negsuc, None}
 use Rattle.words.specs.Words.{round_up}
 use Rattle.field.specs.Settings.{◌:=◌, settings}
 use Rattle.fifo.specs.Control.{CiFIFOCON, TXEN, FSIZE, PLSIZE, stored_size}
@@ -20,7 +20,6 @@ use Rattle.spi.specs.Refusals.{numbered, done_numbers}
 use Rattle.header.specs.Header.{word0}
 use Rattle.message.specs.Message.{Message, Encoding, refused, object, encoding}
 use Rattle.header.specs.declared.Header.{Header}
-use Rattle.message.specs.declared.object.Stamp.{Stamp}
 use Rattle.spi.specs.declared.ask.Ask.{Ask}
 use Rattle.spi.specs.declared.instruction.OpCode.{OpCode}
 use Rattle.spi.specs.declared.refusal.Refusal.{Refusal}
@@ -80,7 +79,7 @@ cases =
     ∷ ((stored_size 40 ∷ []) is (31 ∷ []))
     ∷ ((seven_of (negsuc 0) ∷ seven_of (negsuc 63) ∷ []) is (0x7F ∷ 0x40 ∷ []))
     ∷ ((word0 (classic true 0x18DA00F1) ∷ []) is (0x10078E36 ∷ []))
-    ∷ (written (record { header = classic false 0x123; dlc = 3; filter = 0; seq = 5; stamp = Stamp.None; payload = 1 ∷ 2 ∷ 3 ∷ [] })
+    ∷ (written (record { header = classic false 0x123; dlc = 3; filter = 0; seq = 5; stamp = None; payload = 1 ∷ 2 ∷ 3 ∷ [] })
     is (0x23 ∷ 0x01 ∷ 0 ∷ 0 ∷ 0x03 ∷ 0x0A ∷ 0 ∷ 0 ∷ 0x01 ∷ 0x02 ∷ 0x03 ∷ 0 ∷ []))
     ∷ (leaving (chip_with 28 6) is (2048 ∷ 0 ∷ []))
     ∷ (leaving (chip_with 21 7) ++ leaving (chip_with 22 7) is (1992 ∷ 0 ∷ 2064 ∷ 27 ∷ 4 ∷ []))

@@ -7,7 +7,7 @@ use mathlib.Core.List.{List, [], ◌∷◌}
 use native.Mathlib.Omega.{arith}
 use lib.Dec.{eqb, leb, lit<}
 use borrow.Author.Tests.{lt-ltb, le-ltb, ltb-true, leb-true}
-use Rattle.std.specs.Prelude.{if◌then◌else◌}
+use Rattle.std.specs.Prelude.{if◌then◌else◌, Some, Ok, Err}
 use Rattle.laws.proofs.Table.{both}
 use Rattle.field.specs.Field.{with_field, flag, mark}
 use Rattle.field.specs.Settings.{Setting, fields_of}
@@ -26,7 +26,6 @@ use Rattle.filter.specs.Control.{CiFLTCON}
 use Rattle.filter.specs.Object.{CiFLTOBJ}
 use Rattle.filter.specs.Mask.{CiMASK}
 use Rattle.spi.specs.declared.refusal.Refusal.{Refusal}
-use Rattle.spi.specs.declared.refusal.Done.{Done}
 use Rattle.plan.specs.declared.change.Change.{Change}
 use Rattle.plan.specs.declared.item.Poll.{Poll}
 use Rattle.plan.specs.declared.item.Item.{Item}
@@ -39,7 +38,6 @@ use Rattle.changes.specs.declared.settings.OscillatorConfiguration.{OscillatorCo
 use Rattle.changes.specs.declared.settings.BitTimeConfiguration.{BitTimeConfiguration}
 use Rattle.changes.specs.declared.settings.Settings.{Settings}
 use Rattle.areas.specs.declared.settings.TxQueueConfiguration.{TxQueueConfiguration}
-use Rattle.areas.specs.declared.settings.TxQueueSetting.{TxQueueSetting}
 use Rattle.areas.specs.declared.settings.FilterConfiguration.{FilterConfiguration}
 use Rattle.changes.specs.Changes.{when_asked, mode_change, mode_settings, mode_to, oscillator_change, oscillator_settings, io_change, io_settings, nominal_change, nominal_settings, nominal_to, data_change, data_settings, data_to, delay_change, delay_settings, delay_to, stef_change, txqen_change, counter_change, dncnt_change, dncnt_settings, rtxat_change, interrupt_change, interrupt_to}
 use Rattle.changes.proofs.Enables.{enables_is, interrupt_to_lem}
@@ -80,12 +78,12 @@ pub fifo_number_lem : (n : ℕ) → is_fifo n ≡ true → n ≤ 31
 unfolding is_fifo
 fifo_number_lem n e = leb-true n 31 (both (leb 1 n) (leb n 31) e).1
 
-pub filter_number : (f : ℕ) (c : FilterConfiguration) → filter_check f c ≡ Done.Good → f < 32
+pub filter_number : (f : ℕ) (c : FilterConfiguration) → filter_check f c ≡ Ok tt → f < 32
 unfolding filter_check
 filter_number f c = go (is_filter f) refl
   where
     go : (b : Bool) → is_filter f ≡ b
-        → (if not (b && is_fifo c.fifo) then Done.Bad Refusal.BadNumber else if not (is_identifier c.object && is_identifier c.mask) then Done.Bad Refusal.BadIdentifier else Done.Good) ≡ Done.Good
+        → (if not (b && is_fifo c.fifo) then Err Refusal.BadNumber else if not (is_identifier c.object && is_identifier c.mask) then Err Refusal.BadIdentifier else Ok tt) ≡ Ok tt
         → f < 32
     go true e h = ltb-true f 32 e
     go false e h = let z : ◌≡◌ {A = ℕ} 0 1 = cc in absurd (omega arith)
@@ -131,7 +129,7 @@ module _ (b : BitTimeConfiguration) (u v w : ℕ) (p : u ≡ (nominal_change b.n
       λ i. Item.Change (n i) ∷ Item.Change (d i) ∷ Item.Change (t i) ∷ []
 
 pub queue_made : (c : TxQueueConfiguration) (u : ℕ) → u ≡ (queue_change c).set
-    → (Item.Change (enable_change true) ∷ Item.Change (queue_to u) ∷ []) ≡ queue_items (TxQueueSetting.On c)
+    → (Item.Change (enable_change true) ∷ Item.Change (queue_to u) ∷ []) ≡ queue_items (Some c)
 queue_made c u p = ap (λ x. Item.Change (enable_change true) ∷ Item.Change x ∷ []) (made (CiTXQCON.address 0) (queue_settings c) u p)
 
 module _ (f : ℕ) (c : FilterConfiguration) (u v w : ℕ) (p : u ≡ (object_change f c.object c.mode).set) (q : v ≡ (mask_change f c.mask c.mode).set) (r : w ≡ (on_change f c.fifo).set) where

@@ -1,16 +1,16 @@
 -- How many exchanges and waits each call makes at most, whatever is answered. That a call's machine says of every answer what
 -- its talk says is `follows`, `run_talk` and `outcome_talk` of crate `plan`, from `call_talk` on: each call is a plan.
 -- Assumes nothing.
+use Rattle.areas.specs.declared.settings.TxQueueConfiguration.{TxQueueConfiguration}
 use Prim.Native.Nat.{ℕ, ◌+◌, ◌≤◌}
 use mathlib.Core.Bool.{Bool, not}
 use native.Mathlib.Omega.{arith}
 use lib.Dec.{eqb}
-use Rattle.std.specs.Prelude.{if◌then◌else◌}
+use Rattle.std.specs.Prelude.{if◌then◌else◌, Option, Some, None, Result, Ok, Err}
 use Rattle.laws.proofs.Choice.{by_if}
 use Rattle.configuration.specs.CanControl.{REQOP, DNCNT}
 use Rattle.fifo.specs.Control.{is_fifo}
 use Rattle.spi.specs.declared.refusal.Refusal.{Refusal}
-use Rattle.spi.specs.declared.refusal.Done.{Done}
 use Rattle.spi.specs.Talk.{on_done, Within}
 use Rattle.plan.specs.declared.item.Poll.{Poll}
 use Rattle.plan.specs.declared.item.Item.{Item}
@@ -22,7 +22,6 @@ use Rattle.changes.specs.declared.settings.IoConfiguration.{IoConfiguration}
 use Rattle.changes.specs.declared.settings.BitTimeConfiguration.{BitTimeConfiguration}
 use Rattle.changes.specs.declared.settings.Settings.{Settings}
 use Rattle.areas.specs.declared.settings.FifoConfiguration.{FifoConfiguration}
-use Rattle.areas.specs.declared.settings.TxQueueSetting.{TxQueueSetting}
 use Rattle.areas.specs.declared.settings.FilterConfiguration.{FilterConfiguration}
 use Rattle.changes.specs.Changes.{fits, timing_fits, counter_change, dncnt_change}
 use Rattle.areas.specs.Areas.{fifo_fits, queue_fits, is_filter, filter_check}
@@ -64,10 +63,10 @@ configure_fifo_bound n c =
     let P : Prepared → Type 0 = λ p. Within 2 (talk_for p) in
     by_if P (not (is_fifo n)) (λ e. tt) (λ e. by_if P (not (fifo_fits c)) (λ d. tt) (λ d. call_bound (ready _ _)))
 
-pub configure_tx_queue_bound : (q : TxQueueSetting) → Within 4 (talk_for (configure_tx_queue q))
+pub configure_tx_queue_bound : (q : Option TxQueueConfiguration) → Within 4 (talk_for (configure_tx_queue q))
 unfolding configure_tx_queue
-configure_tx_queue_bound TxQueueSetting.Off = call_within 4 (ready _ _) (omega arith)
-configure_tx_queue_bound (TxQueueSetting.On c) = test_within 4 (queue_fits c) (ready _ _) _ (call_bound (ready _ _))
+configure_tx_queue_bound None = call_within 4 (ready _ _) (omega arith)
+configure_tx_queue_bound (Some c) = test_within 4 (queue_fits c) (ready _ _) _ (call_bound (ready _ _))
 
 pub disable_filter_bound : (f : ℕ) → Within 2 (talk_for (disable_filter f))
 unfolding disable_filter
@@ -77,6 +76,6 @@ pub configure_filter_bound : (f : ℕ) (c : FilterConfiguration) → Within 8 (t
 unfolding configure_filter
 configure_filter_bound f c = go (filter_check f c)
   where
-    go : (d : Done) → Within 8 (talk_for (on_done turned_down d (ready Refusal.SpiRead (filter_items f c))))
-    go Done.Good = call_bound (ready Refusal.SpiRead (filter_items f c))
-    go (Done.Bad r) = tt
+    go : (d : Result (Unit {0}) Refusal) → Within 8 (talk_for (on_done turned_down d (ready Refusal.SpiRead (filter_items f c))))
+    go (Ok _) = call_bound (ready Refusal.SpiRead (filter_items f c))
+    go (Err r) = tt

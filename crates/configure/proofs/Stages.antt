@@ -1,15 +1,14 @@
 -- Where a plan stands after an answer: the numbers say what the definitions say.
 -- Assumes nothing.
+use Rattle.spi.specs.declared.refusal.Refusal.{Refusal}
 use Prim.Native.Nat.{ℕ, ◌-◌}
 use mathlib.Core.Path.{◌≡◌, refl, sym, ap, ◌∙◌}
 use mathlib.Core.Bool.{true, false}
 use mathlib.Core.List.{List}
 use lib.Dec.{eqb}
 use lib.ListN.{length}
-use Rattle.std.specs.Prelude.{if◌then◌else◌}
+use Rattle.std.specs.Prelude.{if◌then◌else◌, Result, Ok, Err}
 use Rattle.laws.proofs.Choice.{by_if}
-use Rattle.spi.specs.declared.refusal.Done.{Done}
-use Rattle.spi.specs.declared.reply.OneWord.{OneWord}
 use Rattle.spi.specs.declared.ask.Answer.{Answer}
 use Rattle.spi.specs.Reply.{word_reply, done_reply, wait_reply}
 use Rattle.spi.specs.Talk.{on_word, on_done}
@@ -25,9 +24,9 @@ use Rattle.configure.specs.Numbers.{failed_in, poll_in, items_in, place_at, plan
 use Rattle.configure.specs.Moves.{at_place, at_move, is_next}
 
 -- a move after an exchange or a wait, in numbers
-pub done_into : (c : PlanNumbers) (reply : Done) (m : Move) → on_done (λ why. at_place c (PlanAt.Refused why)) reply (at_move c m) ≡ at_move c (on_done stopped reply m)
-done_into c Done.Good m = refl
-done_into c (Done.Bad r) m = refl
+pub done_into : (c : PlanNumbers) (reply : Result (Unit {0}) Refusal) (m : Move) → on_done (λ why. at_place c (PlanAt.Refused why)) reply (at_move c m) ≡ at_move c (on_done stopped reply m)
+done_into c (Ok _) m = refl
+done_into c (Err r) m = refl
 
 module _ (body : List ℕ) where
   -- the plan at the next item
@@ -43,15 +42,15 @@ module _ (body : List ℕ) where
     abbrev Kept : Move → Type 0
     Kept m = settled (at_move c m) ≡ moved_to (plan_in c body) m
 
-    on_word_lem : (reply : OneWord) (k : ℕ → Move) → ((w : ℕ) → Kept (k w)) → Kept (on_word stopped reply k)
+    on_word_lem : (reply : Result ℕ Refusal) (k : ℕ → Move) → ((w : ℕ) → Kept (k w)) → Kept (on_word stopped reply k)
     unfolding plan_in
-    on_word_lem (OneWord.Word w) k h = h w
-    on_word_lem (OneWord.Bad r) k h = refl
+    on_word_lem (Ok w) k h = h w
+    on_word_lem (Err r) k h = refl
 
-    on_done_lem : (reply : Done) (m : Move) → Kept m → Kept (on_done stopped reply m)
+    on_done_lem : (reply : Result (Unit {0}) Refusal) (m : Move) → Kept m → Kept (on_done stopped reply m)
     unfolding plan_in
-    on_done_lem Done.Good m h = h
-    on_done_lem (Done.Bad r) m h = refl
+    on_done_lem (Ok _) m h = h
+    on_done_lem (Err r) m h = refl
 
     poll_kept : (p : Poll) (w : ℕ) → ((n : ℕ) → Kept (Move.To (PlanAt.Wait p n))) → Kept (after_poll p c.more w)
     unfolding plan_in after_poll

@@ -1,12 +1,11 @@
 -- What the calls that set the chip up write: the fields that they set, one after the other, and every other bit as read.
 -- Assumes nothing.
-use Rattle.std.specs.Prelude.{ℕ, ◌^◌, ◌<◌, ◌≡◌, Bool, true, List}
+use Rattle.std.specs.Prelude.{ℕ, ◌^◌, ◌<◌, ◌≡◌, Bool, true, List, Ok}
 use Rattle.field.specs.Field.{read}
 use Rattle.field.specs.Settings.{Setting, settings, AllFit}
 use Rattle.configuration.specs.CanControl.{REQOP, DNCNT}
 use Rattle.bit_timing.specs.Delay.{TDCO}
 use Rattle.bit_timing.specs.Signed.{number_of}
-use Rattle.spi.specs.declared.refusal.Done.{Done}
 use Rattle.plan.specs.declared.change.Change.{Change}
 use Rattle.plan.specs.Change.{modified}
 use Rattle.changes.specs.declared.settings.OscillatorConfiguration.{OscillatorConfiguration}
@@ -73,7 +72,7 @@ OffWrites = (f : ℕ) → Writes (off_change f) (off_settings f)
 -- what a filter's configuration does after that
 abbrev pub FilterWrites : Type 0
 FilterWrites =
-    (f : ℕ) (c : FilterConfiguration) → filter_check f c ≡ Done.Good
+    (f : ℕ) (c : FilterConfiguration) → filter_check f c ≡ Ok tt
     → Writes (object_change f c.object c.mode) (object_settings c.object c.mode)
     × Writes (mask_change f c.mask c.mode) (mask_settings c.mask c.mode)
     × Writes (on_change f c.fifo) (on_settings f c.fifo)

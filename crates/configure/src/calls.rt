@@ -1,24 +1,22 @@
 // The calls that are plans. What is refused is refused before any exchange, in the order 20, 21, 24.
-ghost use Rattle.std.specs.Prelude.{◌≡◌, true};
+ghost use Rattle.std.specs.Prelude.{◌≡◌, true, Some, Ok};
 ghost use Rattle.plan.specs.Prepared.{plan_for};
 ghost use Rattle.plan.specs.Prepared as plans;
 ghost use Rattle.plan.specs.Step.{plan_of, refused_plan};
 ghost use Rattle.spi.specs.declared.refusal.Refusal.{Refusal};
-ghost use Rattle.spi.specs.declared.refusal.Done.{Done};
 ghost use Rattle.changes.specs.Changes.{timing_fits};
 ghost use Rattle.areas.specs.Areas.{queue_fits, filter_check};
-ghost use Rattle.areas.specs.declared.settings.TxQueueSetting.{TxQueueSetting};
 ghost use Rattle.adjust.specs.Calls.{failed, set_op_mode, configure_osc, configure_io, timing_items, configure_bit_timing, configure_fifo, queue_items, configure_tx_queue, disable_filter, filter_items, configure_filter};
 ghost use Rattle.configure.specs.Numbers.{plan_in, Stands};
 ghost use Rattle.configure.specs.Moves.{begun_with};
 
 use crate::listed::{put_word, put_words};
 use crate::{PlanKind, PlanNumbers, PlanStage};
-use areas::{FifoConfiguration, FilterConfiguration, TxQueueConfiguration, TxQueueSetting};
+use areas::{FifoConfiguration, FilterConfiguration, TxQueueConfiguration};
 use changes::{BitTimeConfiguration, IoConfiguration, OscillatorConfiguration};
 use fifo::is_fifo;
 use plan::Change;
-use spi::{Done, Refusal};
+use spi::Refusal;
 
 // A plan that was refused before it asked for anything.
 pub fn refused_plan(why: Refusal) -> PlanNumbers
@@ -151,18 +149,18 @@ pub fn configure_fifo(n: u32, c: FifoConfiguration) -> PlanNumbers
 
 fn queue_plan(c: TxQueueConfiguration, body: &mut [u8; 76]) -> PlanNumbers
     requires { queue_fits c ≡ true }
-    ensures { plan_in result body.new ≡ plan_of failed (queue_items (TxQueueSetting.On c)) }
+    ensures { plan_in result body.new ≡ plan_of failed (queue_items (Some c)) }
 {
     put_word(body, 0, areas::queue_bits(c));
     plan_with(PlanKind::Queue, 0, areas::enable_change(true))
 }
 
-pub fn configure_tx_queue(q: TxQueueSetting, body: &mut [u8; 76]) -> PlanNumbers
+pub fn configure_tx_queue(q: Option<TxQueueConfiguration>, body: &mut [u8; 76]) -> PlanNumbers
     ensures { plan_in result body.new ≡ plan_for (configure_tx_queue q) }
 {
     match q {
-        TxQueueSetting::Off => plan_with(PlanKind::Io, 0, areas::enable_change(false)),
-        TxQueueSetting::On(c) => {
+        None => plan_with(PlanKind::Io, 0, areas::enable_change(false)),
+        Some(c) => {
             if areas::queue_fits(c) {
                 queue_plan(c, body)
             } else {
@@ -183,7 +181,7 @@ pub fn disable_filter(f: u32) -> PlanNumbers
 }
 
 fn filter_plan(f: u32, c: FilterConfiguration, body: &mut [u8; 76]) -> PlanNumbers
-    requires { filter_check f c ≡ Done.Good }
+    requires { filter_check f c ≡ Ok tt }
     ensures { plan_in result body.new ≡ plan_of Refusal.SpiRead (filter_items f c) }
 {
     let n = f as u8;
@@ -204,7 +202,7 @@ pub fn configure_filter(f: u32, c: FilterConfiguration, body: &mut [u8; 76]) -> 
     ensures { plan_in result body.new ≡ plan_for (configure_filter f c) }
 {
     match areas::filter_check(f, c) {
-        Done::Good => filter_plan(f, c, body),
-        Done::Bad(r) => refused_plan(r),
+        Ok(()) => filter_plan(f, c, body),
+        Err(r) => refused_plan(r),
     }
 }

@@ -13,7 +13,7 @@ mod whole;
 
 pub use areas::{
     FifoConfiguration, FifoMode, FilterConfiguration, FilterMode, Identifier, RxFifo, TxFifo,
-    TxQueueConfiguration, TxQueueSetting,
+    TxQueueConfiguration,
 };
 pub use calls::{
     configure_bit_timing, configure_fifo, configure_filter, configure_io, configure_osc,

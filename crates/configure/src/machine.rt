@@ -16,7 +16,7 @@ use call::Outcome;
 use chip::OscillatorControl;
 use configuration::CanControl;
 use plan::{Item, Poll, echo_word, is_shown, is_there, late, modified_word};
-use spi::{Answer, Ask, Done, OneWord, Refusal, done_reply, wait_reply, word_reply};
+use spi::{Answer, Ask, Refusal, done_reply, wait_reply, word_reply};
 
 // The RAM's first word, where the echo is made.
 const ECHO: u16 = 0x400;
@@ -89,46 +89,46 @@ fn after_echo(c: PlanNumbers, w: u32) -> PlanNumbers
     }
 }
 
-fn when_read(c: PlanNumbers, reply: OneWord) -> PlanNumbers
+fn when_read(c: PlanNumbers, reply: Result<u32, Refusal>) -> PlanNumbers
     ensures { result ≡ at_move c (on_word stopped reply (λ w. Move.To (PlanAt.Write c.m (modified (change_in c) w)))) }
 {
     let why = c.why;
     match reply {
-        OneWord::Word(w) => phase(
+        Ok(w) => phase(
             c,
             PlanStage::Write,
             c.more,
             modified_word(change_of(c), w),
             why,
         ),
-        OneWord::Bad(r) => refuse(c, r),
+        Err(r) => refuse(c, r),
     }
 }
 
-fn when_polled(c: PlanNumbers, p: Poll, reply: OneWord) -> PlanNumbers
+fn when_polled(c: PlanNumbers, p: Poll, reply: Result<u32, Refusal>) -> PlanNumbers
     ensures { result ≡ at_move c (on_word stopped reply (after_poll p c.more)) }
 {
     match reply {
-        OneWord::Word(w) => after_poll(c, p, w),
-        OneWord::Bad(r) => refuse(c, r),
+        Ok(w) => after_poll(c, p, w),
+        Err(r) => refuse(c, r),
     }
 }
 
-fn when_echoed(c: PlanNumbers, reply: OneWord) -> PlanNumbers
+fn when_echoed(c: PlanNumbers, reply: Result<u32, Refusal>) -> PlanNumbers
     ensures { result ≡ at_move c (on_word stopped reply (after_echo c.more)) }
 {
     match reply {
-        OneWord::Word(w) => after_echo(c, w),
-        OneWord::Bad(r) => refuse(c, r),
+        Ok(w) => after_echo(c, w),
+        Err(r) => refuse(c, r),
     }
 }
 
-fn when_done(c: PlanNumbers, reply: Done, then: PlanStage) -> PlanNumbers
+fn when_done(c: PlanNumbers, reply: Result<(), Refusal>, then: PlanStage) -> PlanNumbers
     ensures { result ≡ on_done (λ why. at_place c (PlanAt.Refused why)) reply (turned c then c.more) }
 {
     match reply {
-        Done::Good => turned(c, then, c.more),
-        Done::Bad(r) => refuse(c, r),
+        Ok(()) => turned(c, then, c.more),
+        Err(r) => refuse(c, r),
     }
 }
 

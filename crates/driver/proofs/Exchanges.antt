@@ -8,7 +8,7 @@ use mathlib.Core.List.{List, [], ◌∷◌}
 use lib.ListN.{length, length-append, length-take}
 use lib.Dec.{eqb, ltb, leb}
 use borrow.Author.Tests.{ltb-true, leb-true, not-false}
-use Rattle.std.specs.Prelude.{if◌then◌else◌}
+use Rattle.std.specs.Prelude.{if◌then◌else◌, Some, None}
 use Rattle.laws.proofs.Choice.{by_if}
 use Rattle.laws.proofs.Table.{both}
 use Rattle.field.specs.Field.{place, read, flag}
@@ -50,7 +50,6 @@ use Rattle.plan.specs.Talk.{poll_talk, echo_rest, item_talk, plan_talk}
 use Rattle.changes.specs.declared.settings.Settings.{Settings}
 use Rattle.changes.specs.Changes.{fits, timing_fits, counter_change, dncnt_change, interrupt_settings}
 use Rattle.areas.specs.declared.settings.FilterConfiguration.{FilterConfiguration}
-use Rattle.areas.specs.declared.settings.TxQueueSetting.{TxQueueSetting}
 use Rattle.areas.specs.Areas.{fifo_fits, fifo_settings, queue_fits, is_identifier, is_filter, filter_check}
 use Rattle.adjust.specs.Calls.{filter_items, set_op_mode, configure_bit_timing, configure_fifo, configure_tx_queue, disable_filter, configure_filter}
 use Rattle.configure.specs.Whole.{configure_items, configure_all}
@@ -244,8 +243,8 @@ module _ (P : Ask → Type 0) (may_read : MayRead P) (may_write_lem : MayWrite P
       by_if (λ q. Always P (talk_for q)) (not (is_fifo n)) (λ e. tt)
       (λ e. by_if (λ q. Always P (talk_for q)) (not (fifo_fits c)) (λ d. tt)
       (λ d. items_always _ _ (change_below (CiFIFOCON.address n) (fifo_settings c) (control_below n (fifo_most n (not-false _ e))), tt)))
-  plan_always (Queue TxQueueSetting.Off) = items_always _ _ (omega arith, tt)
-  plan_always (Queue (TxQueueSetting.On c)) = tested (queue_fits c) (ready _ _) _ (λ e. items_always _ _ (omega arith & omega arith & tt))
+  plan_always (Queue None) = items_always _ _ (omega arith, tt)
+  plan_always (Queue (Some c)) = tested (queue_fits c) (ready _ _) _ (λ e. items_always _ _ (omega arith & omega arith & tt))
   plan_always (Filter f c) = filter_always f c
   plan_always (FilterOff f) = tested (is_filter f) (ready _ _) _ (λ e. let l : f < 32 = ltb-true f 32 e in items_always _ _ (omega arith, tt))
   plan_always (Configure s) =

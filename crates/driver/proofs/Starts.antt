@@ -1,5 +1,6 @@
 -- A call as started is its whole talk, and is refused before any exchange by the first test that it fails.
 -- Assumes nothing.
+use Rattle.std.specs.Prelude.{Option, Some, None}
 use Prim.Native.Nat.{ℕ, ◌%◌, ◌^◌, ◌≤◌, ◌<◌}
 use mathlib.Core.Path.{◌≡◌, refl, sym, ap, ◌∙◌}
 use mathlib.Core.Bool.{Bool, true, false, ◌&&◌}
@@ -11,7 +12,6 @@ use borrow.Author.Tests.{ltb-false, lt-leb}
 use Rattle.configuration.specs.CanControl.{REQOP, DNCNT}
 use Rattle.fifo.specs.Control.{is_fifo}
 use Rattle.header.specs.declared.Header.{Header}
-use Rattle.header.specs.declared.dlc.Dlc.{Dlc}
 use Rattle.header.specs.Dlc.{dlc_of}
 use Rattle.header.specs.Header.{top_id}
 use Rattle.message.specs.Message.{check_of, encoding}
@@ -32,7 +32,6 @@ use Rattle.plan.specs.Prepared.{talk_for, modify}
 use Rattle.plan.specs.Talk.{plan_talk}
 use Rattle.plan.proofs.Runs as plan
 use Rattle.changes.specs.Changes.{fits, timing_fits}
-use Rattle.areas.specs.declared.settings.TxQueueSetting.{TxQueueSetting}
 use Rattle.areas.specs.Areas.{fifo_fits, queue_fits, is_identifier, is_filter, filter_check}
 use Rattle.adjust.specs.Calls.{set_op_mode, configure_bit_timing, configure_fifo, configure_tx_queue, disable_filter, configure_filter}
 use Rattle.configure.specs.Whole.{configure_all}
@@ -113,9 +112,9 @@ starts_as_talk_lem (Scrub place list rewrite) = scrub_talk _ ∙ scrub.scrub_sta
 abbrev answer : Talk Outcome → List ℕ
 answer t = outcome_numbers (ended (λ o. o) t)
 
-by_dlc_lem : {G : Type 0} (x : Dlc) → ((d : ℕ) → x ≡ Dlc.Is d → G) → (x ≡ Dlc.Bad → G) → G
-by_dlc_lem (Dlc.Is d) f g = f d refl
-by_dlc_lem Dlc.Bad f g = g refl
+by_dlc_lem : {G : Type 0} (x : Option ℕ) → ((d : ℕ) → x ≡ Some d → G) → (x ≡ None → G) → G
+by_dlc_lem (Some d) f g = f d refl
+by_dlc_lem None f g = g refl
 
 plan_first : (x : Plans) → answer (talk_for (prepared x)) ≡ first (plan_tests x)
 unfolding modify set_op_mode configure_bit_timing configure_fifo configure_tx_queue configure_filter filter_check disable_filter configure_all plan_talk
@@ -126,8 +125,8 @@ plan_first (Osc o) = refl
 plan_first (Io c) = refl
 plan_first (BitTiming b) = by_bool (timing_fits b) (λ e. simp e) (λ e. simp e)
 plan_first (Fifo n c) = by_bool (is_fifo n) (λ e. by_bool (fifo_fits c) (λ d. simp (e, d)) (λ d. simp (e, d))) (λ e. simp e)
-plan_first (Queue TxQueueSetting.Off) = refl
-plan_first (Queue (TxQueueSetting.On c)) = by_bool (queue_fits c) (λ e. simp e) (λ e. simp e)
+plan_first (Queue None) = refl
+plan_first (Queue (Some c)) = by_bool (queue_fits c) (λ e. simp e) (λ e. simp e)
 plan_first (Filter f c) =
     by_bool (is_filter f)
     (λ e. by_bool (is_fifo c.fifo) (λ d. by_bool (is_identifier c.object && is_identifier c.mask) (λ i. simp (e, d, i)) (λ i. simp (e, d, i))) (λ d. simp (e, d)))

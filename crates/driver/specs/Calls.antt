@@ -1,10 +1,10 @@
 -- Every call that a start makes: one case for each public start function, with what it is given.
 -- Assumes nothing.
-use Rattle.std.specs.Prelude.{ℕ, ◌%◌, ◌^◌, Bool, true, false, not, ◌&&◌, List, [], ◌∷◌, length, eqb, ltb, leb, if◌then◌else◌}
+use Rattle.areas.specs.declared.settings.TxQueueConfiguration.{TxQueueConfiguration}
+use Rattle.std.specs.Prelude.{ℕ, ◌%◌, ◌^◌, Bool, true, false, not, ◌&&◌, List, [], ◌∷◌, length, eqb, ltb, leb, if◌then◌else◌, Option, Some, None}
 use Rattle.configuration.specs.CanControl.{REQOP, DNCNT}
 use Rattle.fifo.specs.Control.{is_fifo}
 use Rattle.header.specs.declared.Header.{Header}
-use Rattle.header.specs.declared.dlc.Dlc.{Dlc}
 use Rattle.header.specs.Dlc.{dlc_of}
 use Rattle.header.specs.Header.{top_id}
 use Rattle.spi.specs.Ram.{in_range}
@@ -23,7 +23,6 @@ use Rattle.changes.specs.declared.settings.BitTimeConfiguration.{BitTimeConfigur
 use Rattle.changes.specs.declared.settings.Settings.{Settings}
 use Rattle.changes.specs.Changes.{fits, timing_fits}
 use Rattle.areas.specs.declared.settings.FifoConfiguration.{FifoConfiguration}
-use Rattle.areas.specs.declared.settings.TxQueueSetting.{TxQueueSetting}
 use Rattle.areas.specs.declared.settings.FilterConfiguration.{FilterConfiguration}
 use Rattle.areas.specs.Areas.{fifo_fits, setting_fits, is_identifier, is_filter}
 use Rattle.adjust.specs.Calls.{set_op_mode, configure_osc, configure_io, configure_bit_timing, configure_fifo, configure_tx_queue, disable_filter, configure_filter}
@@ -50,7 +49,7 @@ pub data Plans : Type 0 where
   Io : IoConfiguration → Plans
   BitTiming : BitTimeConfiguration → Plans
   Fifo : (fifo : ℕ) → FifoConfiguration → Plans
-  Queue : TxQueueSetting → Plans
+  Queue : Option TxQueueConfiguration → Plans
   Filter : (filter : ℕ) → FilterConfiguration → Plans
   FilterOff : (filter : ℕ) → Plans
   Configure : Settings → Plans
@@ -143,9 +142,9 @@ first [] = []
 first (number when bad ∷ ts) = if bad then number else first ts
 
 -- a payload whose length no DLC means
-abbrev pub unmeant : Dlc → Bool
-unmeant (Dlc.Is d) = false
-unmeant Dlc.Bad = true
+abbrev pub unmeant : Option ℕ → Bool
+unmeant (Some d) = false
+unmeant None = true
 
 -- an address of more than 12 bits
 abbrev pub wide : ℕ → List Test

@@ -15,7 +15,7 @@ use crate::Call;
 use crate::parts_of::{
     idle, with_fetch, with_plan, with_push, with_ram, with_register, with_scrub, with_transmit,
 };
-use areas::{FifoConfiguration, FilterConfiguration, TxQueueSetting};
+use areas::{FifoConfiguration, FilterConfiguration};
 use changes::{BitTimeConfiguration, IoConfiguration, OscillatorConfiguration, Settings};
 use configure::PlanNumbers;
 use fetch::FetchNumbers;
@@ -190,7 +190,7 @@ pub fn configure_fifo(fifo: u32, c: FifoConfiguration) -> Call
 }
 
 // The transmit queue off, or on.
-pub fn configure_tx_queue(c: TxQueueSetting) -> Call
+pub fn configure_tx_queue(c: Option<TxQueueConfiguration>) -> Call
     ensures { call_of result ≡ started (Planned (Queue c)) }
 {
     let mut body = [0u8; 76];

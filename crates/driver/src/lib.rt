@@ -11,7 +11,7 @@ mod parts_of;
 
 pub use areas::{
     FifoConfiguration, FifoMode, FilterConfiguration, FilterMode, Identifier, RxFifo, TxFifo,
-    TxQueueConfiguration, TxQueueSetting,
+    TxQueueConfiguration,
 };
 pub use begin::{
     checked_read, configure, configure_bit_timing, configure_fifo, configure_filter, configure_io,
@@ -29,7 +29,6 @@ pub use door::{accepted, answer, body_of, finish, next, numbers_of, scrubber, tu
 use fetch::{FetchStage, Want};
 pub use header::Header;
 pub use lent::{answer_lent, finish_lent, next_lent};
-pub use message::Stamp;
 pub use numbers::number;
 use ram::RamStage;
 use register::RegisterStage;

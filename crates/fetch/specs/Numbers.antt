@@ -1,9 +1,8 @@
 -- The plain numbers of has-next, peek and get as the place of which the definitions speak.
 -- Assumes nothing.
-use Rattle.std.specs.Prelude.{ℕ, true, false, if◌then◌else◌}
+use Rattle.std.specs.Prelude.{ℕ, true, false, if◌then◌else◌, Option, Some, None}
 use Rattle.field.specs.Field.{read}
 use Rattle.header.specs.Header.{DLC, FILHIT, header_of}
-use Rattle.message.specs.declared.object.Stamp.{Stamp}
 use Rattle.spi.specs.declared.refusal.Refusal.{Refusal}
 use Rattle.call.specs.declared.Found.{Found}
 use Rattle.fetch.specs.declared.Want.{Want}
@@ -11,8 +10,8 @@ use Rattle.fetch.specs.FetchAt.{FetchAt}
 use Rattle.fetch.specs.declared.FetchStage.{FetchStage}
 use Rattle.fetch.specs.declared.FetchNumbers.{FetchNumbers}
 
-abbrev pub stamp_in : FetchNumbers → Stamp
-stamp_in c = if c.stamped then Stamp.At c.t else Stamp.None
+abbrev pub stamp_in : FetchNumbers → Option ℕ
+stamp_in c = if c.stamped then Some c.t else None
 
 -- what the numbers say of the message
 abbrev pub found_in : FetchNumbers → Found

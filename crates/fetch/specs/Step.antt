@@ -1,17 +1,14 @@
 -- From one exchange of has-next, peek and get to the next.
 -- Assumes nothing.
-use Rattle.std.specs.Prelude.{ℕ, ◌+◌, List, Bool, length, ltb, if◌then◌else◌}
+use Rattle.std.specs.Prelude.{ℕ, ◌+◌, List, Bool, length, ltb, if◌then◌else◌, Some, None, Result}
 use Rattle.field.specs.Field.{read, flag}
 use Rattle.fifo.specs.Control.{TXEN, RXTSEN, payload_of}
 use Rattle.fifo.specs.Status.{TFNRFNIF}
 use Rattle.words.specs.Words.{round_up}
 use Rattle.header.specs.Dlc.{received_length}
 use Rattle.header.specs.Header.{DLC, FDF, FILHIT, header_of}
-use Rattle.message.specs.declared.object.Stamp.{Stamp}
 use Rattle.spi.specs.declared.refusal.Refusal.{Refusal}
 use Rattle.spi.specs.declared.ask.Answer.{Answer}
-use Rattle.spi.specs.declared.reply.OneWord.{OneWord}
-use Rattle.spi.specs.declared.reply.TwoWords.{TwoWords}
 use Rattle.spi.specs.Ram.{in_range}
 use Rattle.spi.specs.Reply.{word_reply, pair_reply, done_reply}
 use Rattle.spi.specs.Talk.{on_word, on_pair, on_done}
@@ -47,7 +44,7 @@ after_address u =
 
 -- what the header's words say of the message
 abbrev pub found_by : (a b : ℕ) → Found
-found_by a b = record { header = header_of a b; dlc = read DLC b; filter = read FILHIT b; stamp = Stamp.None; len = received_length (flag FDF b) (read DLC b) }
+found_by a b = record { header = header_of a b; dlc = read DLC b; filter = read FILHIT b; stamp = None; len = received_length (flag FDF b) (read DLC b) }
 
 -- by the header's words
 unfoldable pub after_header : ℕ → ℕ → ℕ → FetchAt
@@ -70,7 +67,7 @@ unfoldable pub after_again : ℕ → Found → ℕ → FetchAt
 after_again m f w = if ltb (payload_of w) f.len then FetchAt.Refused Refusal.LengthBeyondSlot else to_rest m f (flag RXTSEN w)
 
 abbrev pub stamped : Found → ℕ → Found
-stamped f t = record { header = f.header; dlc = f.dlc; filter = f.filter; stamp = Stamp.At t; len = f.len }
+stamped f t = record { header = f.header; dlc = f.dlc; filter = f.filter; stamp = Some t; len = f.len }
 
 -- by the timestamp word at x
 unfoldable pub after_time : ℕ → Found → ℕ → FetchAt
@@ -85,7 +82,7 @@ after_body Want.Get f = FetchAt.Next f
 -- ---- a step
 
 -- where an answer leads, by what it says as a word, as two words, or by its kind and its n bytes
-abbrev pub next_by : Want → FetchAt → OneWord → TwoWords → Answer → ℕ → FetchAt
+abbrev pub next_by : Want → FetchAt → Result ℕ Refusal → Result (ℕ × ℕ) Refusal → Answer → ℕ → FetchAt
 next_by want FetchAt.Control word pair a n = on_word FetchAt.Refused word after_control
 next_by want FetchAt.Status word pair a n = on_word FetchAt.Refused word (after_status want)
 next_by want FetchAt.Address word pair a n = on_word FetchAt.Refused word after_address

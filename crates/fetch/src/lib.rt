@@ -13,7 +13,7 @@ ghost use Rattle.fetch.specs.Numbers.{found_in, fetch_at, standing, started, mov
 
 use call::Found;
 use fifo::{FifoControl, FifoStatus};
-use spi::{Answer, Done, OneWord, Refusal, TwoWords};
+use spi::{Answer, Refusal};
 
 #[derive(Clone, Copy)]
 pub enum Want {
@@ -117,18 +117,18 @@ pub fn refused(c: FetchNumbers, why: Refusal) -> FetchNumbers
 
 // TXEN is looked at only here, in the first control word.
 #[tactic(auto, unfolding(crate::specs::Step::after_control))]
-fn after_control(c: FetchNumbers, reply: OneWord) -> FetchNumbers
+fn after_control(c: FetchNumbers, reply: Result<u32, Refusal>) -> FetchNumbers
     ensures { standing result ≡ (c.fifo, c.want, on_word FetchAt.Refused reply after_control) }
 {
     match reply {
-        OneWord::Word(w) => {
+        Ok(w) => {
             if FifoControl(w).txen() {
                 refused(c, Refusal::FifoNotRx)
             } else {
                 at_stage(c, FetchStage::Status)
             }
         }
-        OneWord::Bad(r) => refused(c, r),
+        Err(r) => refused(c, r),
     }
 }
 
@@ -153,11 +153,11 @@ fn to_address(c: FetchNumbers, next: bool) -> FetchNumbers
 }
 
 #[tactic(auto, unfolding(crate::specs::Step::after_status))]
-fn after_status(c: FetchNumbers, reply: OneWord) -> FetchNumbers
+fn after_status(c: FetchNumbers, reply: Result<u32, Refusal>) -> FetchNumbers
     ensures { standing result ≡ (c.fifo, c.want, on_word FetchAt.Refused reply (after_status c.want)) }
 {
     match reply {
-        OneWord::Word(v) => {
+        Ok(v) => {
             let next = FifoStatus(v).tfnrfnif();
             let want = c.want;
             match want {
@@ -166,7 +166,7 @@ fn after_status(c: FetchNumbers, reply: OneWord) -> FetchNumbers
                 Want::Get => to_address(c, next),
             }
         }
-        OneWord::Bad(r) => refused(c, r),
+        Err(r) => refused(c, r),
     }
 }
 
@@ -188,12 +188,12 @@ fn to_header(c: FetchNumbers, u: u32) -> FetchNumbers
     }
 }
 
-fn after_address(c: FetchNumbers, reply: OneWord) -> FetchNumbers
+fn after_address(c: FetchNumbers, reply: Result<u32, Refusal>) -> FetchNumbers
     ensures { standing result ≡ (c.fifo, c.want, on_word FetchAt.Refused reply after_address) }
 {
     match reply {
-        OneWord::Word(u) => to_header(c, u),
-        OneWord::Bad(r) => refused(c, r),
+        Ok(u) => to_header(c, u),
+        Err(r) => refused(c, r),
     }
 }
 
@@ -208,12 +208,12 @@ fn to_again(c: FetchNumbers, a: u32, b: u32) -> FetchNumbers
     n
 }
 
-fn after_header(c: FetchNumbers, reply: TwoWords) -> FetchNumbers
+fn after_header(c: FetchNumbers, reply: Result<(u32, u32), Refusal>) -> FetchNumbers
     ensures { standing result ≡ (c.fifo, c.want, on_pair FetchAt.Refused reply (after_header c.m)) }
 {
     match reply {
-        TwoWords::Words(a, b) => to_again(c, a, b),
-        TwoWords::Bad(r) => refused(c, r),
+        Ok((a, b)) => to_again(c, a, b),
+        Err(r) => refused(c, r),
     }
 }
 
@@ -262,27 +262,27 @@ fn within_slot(c: FetchNumbers, w: u32) -> FetchNumbers
     to_rest(c, FifoControl(w).rxtsen())
 }
 
-fn after_again(c: FetchNumbers, reply: OneWord) -> FetchNumbers
+fn after_again(c: FetchNumbers, reply: Result<u32, Refusal>) -> FetchNumbers
     ensures { standing result ≡ (c.fifo, c.want, on_word FetchAt.Refused reply (after_again c.m (found_in c))) }
 {
     match reply {
-        OneWord::Word(w) => within_slot(c, w),
-        OneWord::Bad(r) => refused(c, r),
+        Ok(w) => within_slot(c, w),
+        Err(r) => refused(c, r),
     }
 }
 
 #[tactic(auto, unfolding(crate::specs::Step::after_time))]
-fn after_time(c: FetchNumbers, reply: OneWord) -> FetchNumbers
+fn after_time(c: FetchNumbers, reply: Result<u32, Refusal>) -> FetchNumbers
     ensures { standing result ≡ (c.fifo, c.want, on_word FetchAt.Refused reply (after_time c.m (found_in c))) }
 {
     match reply {
-        OneWord::Word(t) => {
+        Ok(t) => {
             let mut n = c;
             n.stamped = true;
             n.t = t;
             to_body(n, (c.m as u32) + 4)
         }
-        OneWord::Bad(r) => refused(c, r),
+        Err(r) => refused(c, r),
     }
 }
 
@@ -295,7 +295,7 @@ fn after_body(c: FetchNumbers, answer: Answer, got: usize) -> FetchNumbers
         got,
         words::round_up(c.len as usize),
     ) {
-        Done::Good => {
+        Ok(()) => {
             let want = c.want;
             match want {
                 Want::HasNext => at_stage(c, FetchStage::Done),
@@ -303,20 +303,20 @@ fn after_body(c: FetchNumbers, answer: Answer, got: usize) -> FetchNumbers
                 Want::Get => at_stage(c, FetchStage::Next),
             }
         }
-        Done::Bad(r) => refused(c, r),
+        Err(r) => refused(c, r),
     }
 }
 
-fn after_next(c: FetchNumbers, reply: OneWord) -> FetchNumbers
+fn after_next(c: FetchNumbers, reply: Result<u32, Refusal>) -> FetchNumbers
     ensures { standing result ≡ (c.fifo, c.want, on_word FetchAt.Refused reply (λ w. FetchAt.Commit w (found_in c))) }
 {
     match reply {
-        OneWord::Word(w) => {
+        Ok(w) => {
             let mut n = at_stage(c, FetchStage::Commit);
             n.w = w;
             n
         }
-        OneWord::Bad(r) => refused(c, r),
+        Err(r) => refused(c, r),
     }
 }
 
@@ -324,13 +324,13 @@ fn after_commit(c: FetchNumbers, answer: Answer, got: usize) -> FetchNumbers
     ensures { standing result ≡ (c.fifo, c.want, on_done FetchAt.Refused (done_reply Refusal.SpiRead answer got 0) (FetchAt.Done (found_in c))) }
 {
     match spi::done_reply(Refusal::SpiRead, answer, got, 0) {
-        Done::Good => at_stage(c, FetchStage::Done),
-        Done::Bad(r) => refused(c, r),
+        Ok(()) => at_stage(c, FetchStage::Done),
+        Err(r) => refused(c, r),
     }
 }
 
 // A failed exchange of these calls is 1.
-fn word(answer: Answer, rx: &[u8]) -> OneWord
+fn word(answer: Answer, rx: &[u8]) -> Result<u32, Refusal>
     ensures { result ≡ word_reply Refusal.SpiRead answer rx.now }
 {
     spi::word_reply(Refusal::SpiRead, answer, rx)

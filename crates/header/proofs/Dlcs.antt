@@ -1,5 +1,6 @@
 -- Lengths to data length codes and back.
 -- Assumes nothing.
+use Rattle.std.specs.Prelude.{Option, Some, None}
 use mathlib.Core.Path.{◌≡◌, refl, sym, ap, ◌∙◌}
 use mathlib.Core.Bool.{Bool, true, false, false≢true}
 use mathlib.Core.List.{List, [], ◌∷◌}
@@ -13,15 +14,13 @@ use borrow.Author.Tests.{lt-ltb, ltb-true, ltb-false, leb-true, eqb-true}
 use Rattle.laws.proofs.Choice.{by_if}
 use Rattle.laws.proofs.Table.{every, at}
 use Rattle.header.specs.Dlc.{lengths, dlcs, length_of, received_length, seek, dlc_of}
-use Rattle.header.specs.declared.dlc.Length.{Length}
-use Rattle.header.specs.declared.dlc.Dlc.{Dlc}
 
 -- ---- what a search found stands where it was found
 
-seek_is : (xs : List ℕ) (k n d : ℕ) → seek xs k n ≡ Dlc.Is d → (k ≤ d) × (d < k + length xs) × (get_or xs (d - k) 0 ≡ n)
+seek_is : (xs : List ℕ) (k n d : ℕ) → seek xs k n ≡ Some d → (k ≤ d) × (d < k + length xs) × (get_or xs (d - k) 0 ≡ n)
 seek_is [] k n d = λ e. let z : ◌≡◌ {A = ℕ} 0 1 = cc in absurd (omega arith)
 seek_is (x ∷ xs) k n d =
-    by_if (λ (o : Dlc). o ≡ Dlc.Is d → (k ≤ d) × (d < k + suc (length xs)) × (get_or (x ∷ xs) (d - k) 0 ≡ n)) (eqb x n)
+    by_if (λ (o : Option ℕ). o ≡ Some d → (k ≤ d) × (d < k + suc (length xs)) × (get_or (x ∷ xs) (d - k) 0 ≡ n)) (eqb x n)
     (λ t e. let f : k ≡ d = cc in let z : d - k ≡ 0 = omega arith in (omega arith, omega arith, rw z (eqb-true x n t)))
     (λ t e.
     let (a, b, c) = seek_is xs (k + 1) n d e in
@@ -32,29 +31,29 @@ few : (fdf : Bool) → length (take (dlcs fdf) lengths) ≡ dlcs fdf
 few true = refl
 few false = refl
 
-pub dlc_lt : (fdf : Bool) (n d : ℕ) → dlc_of fdf n ≡ Dlc.Is d → d < dlcs fdf
+pub dlc_lt : (fdf : Bool) (n d : ℕ) → dlc_of fdf n ≡ Some d → d < dlcs fdf
 unfolding dlc_of
 dlc_lt fdf n d e = let (a, b, c) = seek_is (take (dlcs fdf) lengths) 0 n d e in omega (arith, few fdf)
 
 -- the DLC of a length means that length
-pub length_back : (fdf : Bool) (n d : ℕ) → dlc_of fdf n ≡ Dlc.Is d → length_of fdf d ≡ Length.Is n
+pub length_back : (fdf : Bool) (n d : ℕ) → dlc_of fdf n ≡ Some d → length_of fdf d ≡ Some n
 unfolding dlc_of length_of
 length_back fdf n d e =
     let (a, b, c) = seek_is (take (dlcs fdf) lengths) 0 n d e in
     let h : d < dlcs fdf = dlc_lt fdf n d e in
     let z : d - 0 ≡ d = omega arith in
-    rw (lt-ltb d (dlcs fdf) h) (ap Length.Is (sym (get_or-take (dlcs fdf) lengths d 0 h) ∙ rw z at c))
+    rw (lt-ltb d (dlcs fdf) h) (ap Some (sym (get_or-take (dlcs fdf) lengths d 0 h) ∙ rw z at c))
 
 -- ---- the length of a DLC has that DLC: one test over the table
 
-is : Dlc → ℕ → Bool
-is (Dlc.Is x) d = eqb x d
-is Dlc.Bad d = false
+is : Option ℕ → ℕ → Bool
+is (Some x) d = eqb x d
+is None d = false
 
-is_true : (x : Dlc) (d : ℕ) → is x d ≡ true → x ≡ Dlc.Is d
+is_true : (x : Option ℕ) (d : ℕ) → is x d ≡ true → x ≡ Some d
 unfolding is
-is_true (Dlc.Is x) d e = ap Dlc.Is (eqb-true x d e)
-is_true Dlc.Bad d e = absurd (false≢true e)
+is_true (Some x) d e = ap Some (eqb-true x d e)
+is_true None d e = absurd (false≢true e)
 
 again : Bool → ℕ → Bool
 again fdf d = is (dlc_of fdf (get_or lengths d 0)) d
@@ -64,10 +63,10 @@ unfolding again is dlc_of
 all_again true = refl
 all_again false = refl
 
-pub dlc_back : (fdf : Bool) (n d : ℕ) → length_of fdf d ≡ Length.Is n → dlc_of fdf n ≡ Dlc.Is d
+pub dlc_back : (fdf : Bool) (n d : ℕ) → length_of fdf d ≡ Some n → dlc_of fdf n ≡ Some d
 unfolding length_of again
 dlc_back fdf n d =
-    by_if (λ (l : Length). l ≡ Length.Is n → dlc_of fdf n ≡ Dlc.Is d) (ltb d (dlcs fdf))
+    by_if (λ (l : Option ℕ). l ≡ Some n → dlc_of fdf n ≡ Some d) (ltb d (dlcs fdf))
     (λ t e.
     let f : get_or lengths d 0 ≡ n = cc in
     ap (dlc_of fdf) (sym f) ∙ is_true _ d (at (again fdf) (dlcs fdf) (all_again fdf) d (ltb-true d (dlcs fdf) t)))
@@ -85,10 +84,10 @@ dlcs_le : (fdf : Bool) → dlcs fdf ≤ 16
 dlcs_le true = omega arith
 dlcs_le false = omega arith
 
-pub length_le : (fdf : Bool) (n d : ℕ) → length_of fdf d ≡ Length.Is n → n ≤ 64
+pub length_le : (fdf : Bool) (n d : ℕ) → length_of fdf d ≡ Some n → n ≤ 64
 unfolding length_of short
 length_le fdf n d =
-    by_if (λ (l : Length). l ≡ Length.Is n → n ≤ 64) (ltb d (dlcs fdf))
+    by_if (λ (l : Option ℕ). l ≡ Some n → n ≤ 64) (ltb d (dlcs fdf))
     (λ t e.
     let f : get_or lengths d 0 ≡ n = cc in
     let h : d < 16 = omega (arith, ltb-true d (dlcs fdf) t, dlcs_le fdf) in
@@ -96,10 +95,10 @@ length_le fdf n d =
     (λ t e. let z : ◌≡◌ {A = ℕ} 0 1 = cc in absurd (omega arith))
 
 -- a payload that has a DLC, and its DLC, are small
-pub dlc_16 : (fdf : Bool) (n d : ℕ) → dlc_of fdf n ≡ Dlc.Is d → d < 16
+pub dlc_16 : (fdf : Bool) (n d : ℕ) → dlc_of fdf n ≡ Some d → d < 16
 dlc_16 fdf n d e = omega (arith, dlc_lt fdf n d e, dlcs_le fdf)
 
-pub payload_le : (fdf : Bool) (n d : ℕ) → dlc_of fdf n ≡ Dlc.Is d → n ≤ 64
+pub payload_le : (fdf : Bool) (n d : ℕ) → dlc_of fdf n ≡ Some d → n ≤ 64
 payload_le fdf n d e = length_le fdf n d (length_back fdf n d e)
 
 -- ---- a frame received
@@ -139,10 +138,10 @@ all_classic : every classic 9 ≡ true
 unfolding classic
 all_classic = refl
 
-pub received_sent : (fdf : Bool) (n d : ℕ) → length_of fdf d ≡ Length.Is n → received_length fdf d ≡ n
+pub received_sent : (fdf : Bool) (n d : ℕ) → length_of fdf d ≡ Some n → received_length fdf d ≡ n
 unfolding length_of received_length classic
 received_sent fdf n d =
-    by_if (λ (l : Length). l ≡ Length.Is n → received_length fdf d ≡ n) (ltb d (dlcs fdf))
+    by_if (λ (l : Option ℕ). l ≡ Some n → received_length fdf d ≡ n) (ltb d (dlcs fdf))
     (λ t e. let f : get_or lengths d 0 ≡ n = cc in go fdf f (ltb-true d (dlcs fdf) t))
     (λ t e. let z : ◌≡◌ {A = ℕ} 0 1 = cc in absurd (omega arith))
   where

@@ -1,5 +1,6 @@
 -- Lengths and their DLCs, by the cases of a `match`.
 -- Assumes nothing.
+use Rattle.std.specs.Prelude.{Some, None}
 use mathlib.Core.Path.{◌≡◌, refl, sym, ap}
 use mathlib.Core.Bool.{Bool, true, false}
 use mathlib.Core.List.{List, [], ◌∷◌}
@@ -10,8 +11,6 @@ use lib.Dec.{eqb}
 use borrow.Author.Tests.{ne_eqb, eqb-true, lt-ltb}
 use Rattle.laws.proofs.Table.{every, at}
 use Rattle.header.specs.Dlc.{lengths, dlcs, length_of, seek, dlc_of}
-use Rattle.header.specs.declared.dlc.Dlc.{Dlc}
-use Rattle.header.specs.declared.dlc.Length.{Length}
 use Rattle.header.proofs.Dlcs.{dlc_back}
 
 -- DLC 0 to 8 mean themselves
@@ -30,11 +29,11 @@ nine_le : (fdf : Bool) → 9 ≤ dlcs fdf
 nine_le true = omega arith
 nine_le false = omega arith
 
-pub early : (fdf : Bool) (n : ℕ) → n ≤ 8 → Dlc.Is n ≡ dlc_of fdf n
+pub early : (fdf : Bool) (n : ℕ) → n ≤ 8 → Some n ≡ dlc_of fdf n
 unfolding length_of
 early fdf n h =
     let l : n < dlcs fdf = omega (arith, nine_le fdf) in
-    sym (dlc_back fdf n n (rw (lt-ltb n (dlcs fdf) l) (ap Length.Is (sym (small n (omega arith))))))
+    sym (dlc_back fdf n n (rw (lt-ltb n (dlcs fdf) l) (ap Some (sym (small n (omega arith))))))
 
 -- what is longer stands behind them, if anywhere
 module _ (n : ℕ) where
@@ -49,7 +48,7 @@ module _ (n : ℕ) where
     past xs =
         simp (low 0 (omega arith), low 1 (omega arith), low 2 (omega arith), low 3 (omega arith), low 4 (omega arith), low 5 (omega arith), low 6 (omega arith), low 7 (omega arith), low 8 (omega arith))
 
-    pub classic : Dlc.Bad ≡ dlc_of false n
+    pub classic : None ≡ dlc_of false n
     unfolding dlc_of
     classic = sym (past [])
 

@@ -1,8 +1,6 @@
 -- Data length codes and payload lengths.
 -- Assumes nothing.
-use Rattle.std.specs.Prelude.{ℕ, ◌+◌, min, Bool, true, false, List, [], ◌∷◌, get_or, take, ltb, eqb, if◌then◌else◌}
-use Rattle.header.specs.declared.dlc.Length.{Length}
-use Rattle.header.specs.declared.dlc.Dlc.{Dlc}
+use Rattle.std.specs.Prelude.{ℕ, ◌+◌, min, Bool, true, false, List, [], ◌∷◌, get_or, take, ltb, eqb, if◌then◌else◌, Option, Some, None}
 
 -- the payload lengths that DLC 0 to 15 mean
 abbrev pub lengths : List ℕ
@@ -14,23 +12,23 @@ dlcs true = 16
 dlcs false = 9
 
 -- what a DLC means in a frame to send, FD or classic
-unfoldable pub length_of : Bool → ℕ → Length
-length_of fdf d = if ltb d (dlcs fdf) then Length.Is (get_or lengths d 0) else Length.Bad
+unfoldable pub length_of : Bool → ℕ → Option ℕ
+length_of fdf d = if ltb d (dlcs fdf) then Some (get_or lengths d 0) else None
 
 -- what it means in a frame received: one of the lengths always, and in a classic frame at most 8
 unfoldable pub received_length : Bool → ℕ → ℕ
 received_length fdf d = if fdf then get_or lengths d 0 else min (get_or lengths d 0) 8
 
 -- where n stands in a list whose first place is k
-abbrev pub seek : List ℕ → ℕ → ℕ → Dlc
-seek [] k n = Dlc.Bad
-seek (x ∷ xs) k n = if eqb x n then Dlc.Is k else seek xs (k + 1) n
+abbrev pub seek : List ℕ → ℕ → ℕ → Option ℕ
+seek [] k n = None
+seek (x ∷ xs) k n = if eqb x n then Some k else seek xs (k + 1) n
 
 -- the DLC of a payload of n bytes: where n stands among the frame's lengths
-unfoldable pub dlc_of : Bool → ℕ → Dlc
+unfoldable pub dlc_of : Bool → ℕ → Option ℕ
 dlc_of fdf n = seek (take (dlcs fdf) lengths) 0 n
 
 -- the DLC, 0 where there is none
-abbrev pub code_or0 : Dlc → ℕ
-code_or0 (Dlc.Is d) = d
-code_or0 Dlc.Bad = 0
+abbrev pub code_or0 : Option ℕ → ℕ
+code_or0 (Some d) = d
+code_or0 None = 0

@@ -5,18 +5,6 @@ ghost use Rattle.header.specs.Dlc.{dlcs, length_of, received_length, dlc_of};
 // What DLC 0 to 15 mean, in bytes.
 pub const LENGTHS: [usize; 16] = [0, 1, 2, 3, 4, 5, 6, 7, 8, 12, 16, 20, 24, 32, 48, 64];
 
-#[derive(Clone, Copy)]
-pub enum Length {
-    Is(usize),
-    Bad,
-}
-
-#[derive(Clone, Copy)]
-pub enum Dlc {
-    Is(usize),
-    Bad,
-}
-
 // How many DLCs a frame may have, FD or classic.
 fn count(fdf: bool) -> usize
     ensures { (result ≡ dlcs fdf) × (result ≤ 16) }
@@ -25,13 +13,13 @@ fn count(fdf: bool) -> usize
 }
 
 // In a frame to send.
-pub fn len_for_dlc(dlc: usize, fdf: bool) -> Length
+pub fn len_for_dlc(dlc: usize, fdf: bool) -> Option<usize>
     ensures { result ≡ length_of fdf dlc }
 {
     if dlc < count(fdf) {
-        Length::Is(LENGTHS[dlc])
+        Some(LENGTHS[dlc])
     } else {
-        Length::Bad
+        None
     }
 }
 
@@ -49,29 +37,29 @@ pub fn received_len(dlc: usize, fdf: bool) -> usize
 }
 
 // The DLC of an FD frame's payload.
-fn fd_dlc(len: usize) -> Dlc
+fn fd_dlc(len: usize) -> Option<usize>
     ensures { result ≡ dlc_of true len }
 {
     if len <= 8 {
-        return Dlc::Is(len);
+        return Some(len);
     }
     match len {
-        12 => Dlc::Is(9),
-        16 => Dlc::Is(10),
-        20 => Dlc::Is(11),
-        24 => Dlc::Is(12),
-        32 => Dlc::Is(13),
-        48 => Dlc::Is(14),
-        64 => Dlc::Is(15),
-        _ => Dlc::Bad,
+        12 => Some(9),
+        16 => Some(10),
+        20 => Some(11),
+        24 => Some(12),
+        32 => Some(13),
+        48 => Some(14),
+        64 => Some(15),
+        _ => None,
     }
 }
 
-pub fn dlc_for_len(len: usize, fdf: bool) -> Dlc
+pub fn dlc_for_len(len: usize, fdf: bool) -> Option<usize>
     ensures { result ≡ dlc_of fdf len }
 {
     if fdf {
         return fd_dlc(len);
     }
-    if len <= 8 { Dlc::Is(len) } else { Dlc::Bad }
+    if len <= 8 { Some(len) } else { None }
 }

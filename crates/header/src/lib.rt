@@ -9,7 +9,7 @@ ghost use Rattle.header.specs.Dlc.{length_of, received_length};
 
 mod dlc;
 
-pub use dlc::{Dlc, LENGTHS, Length, dlc_for_len, len_for_dlc, received_len};
+pub use dlc::{LENGTHS, dlc_for_len, len_for_dlc, received_len};
 
 #[derive(Clone, Copy)]
 pub struct Header {
@@ -113,7 +113,7 @@ pub fn filter_of(b: u32) -> u8
 }
 
 // The payload length that the second word means, of an object to send.
-pub fn length_of(b: u32) -> Length
+pub fn length_of(b: u32) -> Option<usize>
     ensures { result ≡ length_of (flag FDF b) (read DLC b) }
 {
     len_for_dlc(dlc_of(b) as usize, field::bit(b, 7))

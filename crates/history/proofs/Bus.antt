@@ -10,14 +10,13 @@ use native.Mathlib.Omega.{arith}
 use lib.ListN.{length}
 use lib.Dec.{ltb, eqb}
 use borrow.Author.Tests.{ltb-false, leb-false}
-use Rattle.std.specs.Prelude.{if◌then◌else◌}
+use Rattle.std.specs.Prelude.{if◌then◌else◌, Ok}
 use Rattle.laws.proofs.Choice.{by_if}
 use Rattle.laws.proofs.Table.{both}
 use Rattle.parts.specs.Parts.{part}
 use Rattle.field.specs.Field.{flag}
 use Rattle.fifo.specs.Control.{TXREQ, is_fifo}
 use Rattle.spi.specs.declared.refusal.Refusal.{Refusal}
-use Rattle.spi.specs.declared.refusal.Done.{Done}
 use Rattle.header.specs.declared.Header.{Header}
 use Rattle.message.specs.Message.{Message, arrival_check, Decoding, holds, decoding}
 use Rattle.ring.specs.declared.ring.Fifo.{Fifo}
@@ -321,7 +320,7 @@ module _ (c : Model) (s : Sound c) where
     }
 
     -- a frame that a filter took
-    pub give_step : time < 2 ^ 32 → hit < 32 → arrival_check header dlc (length payload) ≡ Done.Good → Answered (give c n hit dlc header time payload)
+    pub give_step : time < 2 ^ 32 → hit < 32 → arrival_check header dlc (length payload) ≡ Ok tt → Answered (give c n hit dlc header time payload)
     unfolding overflowed
     give_step small l e =
         by_give c n header dlc time payload Answered hit

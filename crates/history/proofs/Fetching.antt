@@ -9,24 +9,20 @@ use mathlib.Core.List.{List, [], ◌∷◌, ◌++◌}
 use lib.ListN.{length, get_or, take, drop, length-append, length-take, length-drop}
 use lib.Seq.{take-take, take-append-le, take-append_seam, drop-drop, get_or-take, get_or-drop}
 use borrow.Author.Tests.{eq-eqb, le-leb, le-ltb}
-use Rattle.std.specs.Prelude.{if◌then◌else◌}
+use Rattle.std.specs.Prelude.{if◌then◌else◌, Option, Some, None, Result, Ok}
 use Rattle.field.specs.Field.{read, flag}
 use Rattle.fifo.specs.Control.{RXTSEN, payload_of}
 use Rattle.fifo.proofs.Sizes.{payload_whole}
 use Rattle.words.specs.Words.{le_bytes, le_at, round_up}
 use Rattle.words.proofs.Laws.{up_le}
 use Rattle.parts.specs.Parts.{part, put}
-use Rattle.header.specs.declared.dlc.Length.{Length}
 use Rattle.header.specs.Dlc.{received_length}
 use Rattle.header.specs.Header.{DLC, FDF, FILHIT, header_of}
 use Rattle.header.proofs.Dlcs.{received_le}
-use Rattle.message.specs.declared.object.Stamp.{Stamp}
 use Rattle.message.specs.Message.{Message, body_at, holds, message_in, length_in, decoding}
 use Rattle.message.proofs.Round.{Held, is_held}
 use Rattle.spi.specs.declared.refusal.Refusal.{Refusal}
 use Rattle.spi.specs.declared.ask.Answer.{Answer}
-use Rattle.spi.specs.declared.reply.OneWord.{OneWord}
-use Rattle.spi.specs.declared.reply.TwoWords.{TwoWords}
 use Rattle.spi.specs.Reply.{word_reply, pair_reply}
 use Rattle.spi.specs.Talk.{on_word, on_pair}
 use Rattle.call.specs.declared.Found.{Found}
@@ -77,10 +73,10 @@ le_part l x z a j h f =
 
 -- ---- what is answered
 
-word_given : (l : List ℕ) (a : ℕ) → a + 4 ≤ length l → word_reply Refusal.SpiRead Answer.Exchanged (part l a 4) ≡ OneWord.Word (le_at l a)
+word_given : (l : List ℕ) (a : ℕ) → a + 4 ≤ length l → word_reply Refusal.SpiRead Answer.Exchanged (part l a 4) ≡ Ok (le_at l a)
 word_given l a h = rw (length_part l a 4 h, le_part l a 4 0 a (omega arith) (omega arith))
 
-pair_given : (l : List ℕ) (a : ℕ) → a + 8 ≤ length l → pair_reply Refusal.SpiRead Answer.Exchanged (part l a 8) ≡ TwoWords.Words (le_at l a) (le_at l (a + 4))
+pair_given : (l : List ℕ) (a : ℕ) → a + 8 ≤ length l → pair_reply Refusal.SpiRead Answer.Exchanged (part l a 8) ≡ Ok ((le_at l a), (le_at l (a + 4)))
 pair_given l a h = rw (length_part l a 8 h, le_part l a 8 0 a (omega arith) (omega arith), le_part l a 8 4 (a + 4) (omega arith) refl)
 
 -- ---- the room for a payload
@@ -101,12 +97,12 @@ eight false = omega arith
 -- ---- what is told of a message
 
 -- with this timestamp; with its own it is found_of m
-abbrev tells : Message → Stamp → Found
+abbrev tells : Message → Option ℕ → Found
 tells m s = record { header = m.header; dlc = m.dlc; filter = m.filter; stamp = s; len = length m.payload }
 
 -- before its timestamp is read
 abbrev pub plain : Message → Found
-plain m = tells m Stamp.None
+plain m = tells m None
 
 -- ---- the end of a call
 
@@ -149,7 +145,7 @@ unfolding item_at
 item_is c n e = rw e
 
 -- the length of a payload received
-received_is : {n : ℕ} (fdf : Bool) (d : ℕ) → length_in false fdf d ≡ Length.Is n → received_length fdf d ≡ n
+received_is : {n : ℕ} (fdf : Bool) (d : ℕ) → length_in false fdf d ≡ Some n → received_length fdf d ≡ n
 unfolding length_in
 received_is fdf d e = cc
 
@@ -193,7 +189,7 @@ module _ (l : List ℕ) (x fr : ℕ) (m : Message) (long : length l ≡ 2048) (r
   unfolding message_in
   header_is = rw (← word_0, ← word_4) (ap (λ (k : Message). k.header) message_in_lem)
 
-  stamp_is : (if stamped fr then Stamp.At (le_at (part l x (size fr)) 8) else Stamp.None) ≡ m.stamp
+  stamp_is : (if stamped fr then Some (le_at (part l x (size fr)) 8) else None) ≡ m.stamp
   unfolding message_in
   stamp_is = ap (λ (k : Message). k.stamp) message_in_lem
 
@@ -227,14 +223,14 @@ module _ (l : List ℕ) (x fr : ℕ) (m : Message) (long : length l ≡ 2048) (r
 
   -- ---- the timestamp
 
-  stamp_none : stamped fr ≡ false → m.stamp ≡ Stamp.None
+  stamp_none : stamped fr ≡ false → m.stamp ≡ None
   stamp_none t = rw t at (sym stamp_is)
 
-  stamp_at : stamped fr ≡ true → m.stamp ≡ Stamp.At (le_at l (x + 8))
+  stamp_at : stamped fr ≡ true → m.stamp ≡ Some (le_at l (x + 8))
   stamp_at t =
       let e : body_at (stamped fr) ≡ 12 = ap body_at t in
-      let h : m.stamp ≡ Stamp.At (le_at (part l x (size fr)) 8) = rw t at (sym stamp_is) in
-      h ∙ ap Stamp.At (le_part l x (size fr) 8 (x + 8) (omega (arith, inside)) refl)
+      let h : m.stamp ≡ Some (le_at (part l x (size fr)) 8) = rw t at (sym stamp_is) in
+      h ∙ ap Some (le_part l x (size fr) 8 (x + 8) (omega (arith, inside)) refl)
 
   -- ---- the steps
 
@@ -242,15 +238,15 @@ module _ (l : List ℕ) (x fr : ℕ) (m : Message) (long : length l ≡ 2048) (r
   pub next_header : (want : Want) → next_at want (FetchAt.Header (x + 0x400)) Answer.Exchanged (part l x 8) ≡ FetchAt.Again (x + 0x400) (plain m)
   unfolding after_header
   next_header want =
-      ap (λ (r : TwoWords). on_pair FetchAt.Refused r (after_header (x + 0x400))) (pair_given l x (omega (arith, header_in)))
-      ∙ (λ i. FetchAt.Again (x + 0x400) (record { header = header_is i; dlc = dlc_is i; filter = filter_is i; stamp = Stamp.None; len = length_is i }))
+      ap (λ (r : Result (ℕ × ℕ) Refusal). on_pair FetchAt.Refused r (after_header (x + 0x400))) (pair_given l x (omega (arith, header_in)))
+      ∙ (λ i. FetchAt.Again (x + 0x400) (record { header = header_is i; dlc = dlc_is i; filter = filter_is i; stamp = None; len = length_is i }))
 
   -- the payload k bytes behind the header's place is in RAM
-  to_body_lem : (k : ℕ) (s : Stamp) → body_at (stamped fr) ≡ k → m.stamp ≡ s → to_body (x + 0x400 + k) (tells m s) ≡ FetchAt.Body (x + 0x400 + k) (found_of m)
+  to_body_lem : (k : ℕ) (s : Option ℕ) → body_at (stamped fr) ≡ k → m.stamp ≡ s → to_body (x + 0x400 + k) (tells m s) ≡ FetchAt.Body (x + 0x400 + k) (found_of m)
   unfolding to_body
   to_body_lem k s e f =
       rw (range_is (x + 0x400 + k) (round_up (length m.payload)) (omega arith) (omega (arith, body_in)))
-      (ap (λ (t : Stamp). FetchAt.Body (x + 0x400 + k) (tells m t)) (sym f))
+      (ap (λ (t : Option ℕ). FetchAt.Body (x + 0x400 + k) (tells m t)) (sym f))
 
   to_time_lem : stamped fr ≡ true → to_time (x + 0x400 + 8) (plain m) ≡ FetchAt.Time (x + 0x400 + 8) (plain m)
   unfolding to_time
@@ -266,11 +262,11 @@ module _ (l : List ℕ) (x fr : ℕ) (m : Message) (long : length l ≡ 2048) (r
       ≡ (if stamped fr then FetchAt.Time (x + 0x400 + 8) (plain m) else FetchAt.Body (x + 0x400 + 8) (found_of m))
   unfolding after_again
   next_again want v e g =
-      ap (λ (r : OneWord). on_word FetchAt.Refused r (after_again (x + 0x400) (plain m))) (word_said Refusal.SpiRead v)
+      ap (λ (r : Result ℕ Refusal). on_word FetchAt.Refused r (after_again (x + 0x400) (plain m))) (word_said Refusal.SpiRead v)
       ∙ ap (λ (t : Bool). if t then FetchAt.Refused Refusal.LengthBeyondSlot else to_rest (x + 0x400) (plain m) (flag RXTSEN (v % 2 ^ 32)))
       (le-ltb (payload_of (v % 2 ^ 32)) (length m.payload) (omega (arith, g, payload_fits)))
       ∙ ap (λ (t : Bool). if t then to_time (x + 0x400 + 8) (plain m) else to_body (x + 0x400 + 8) (plain m)) e
-      ∙ if_both (stamped fr) to_time_lem (λ t. to_body_lem 8 Stamp.None (ap body_at t) (stamp_none t))
+      ∙ if_both (stamped fr) to_time_lem (λ t. to_body_lem 8 None (ap body_at t) (stamp_none t))
 
   -- by the timestamp
   pub next_time : (want : Want) → stamped fr ≡ true
@@ -278,9 +274,9 @@ module _ (l : List ℕ) (x fr : ℕ) (m : Message) (long : length l ≡ 2048) (r
   unfolding after_time
   next_time want t =
       let twelve : x + 0x400 + 8 + 4 ≡ x + 0x400 + 12 = omega arith in
-      ap (λ (r : OneWord). on_word FetchAt.Refused r (after_time (x + 0x400 + 8) (plain m))) (word_given l (x + 8) (omega (arith, time_in t)))
-      ∙ ap (λ (a : ℕ). to_body a (tells m (Stamp.At (le_at l (x + 8))))) twelve
-      ∙ to_body_lem 12 (Stamp.At (le_at l (x + 8))) (ap body_at t) (stamp_at t)
+      ap (λ (r : Result ℕ Refusal). on_word FetchAt.Refused r (after_time (x + 0x400 + 8) (plain m))) (word_given l (x + 8) (omega (arith, time_in t)))
+      ∙ ap (λ (a : ℕ). to_body a (tells m (Some (le_at l (x + 8))))) twelve
+      ∙ to_body_lem 12 (Some (le_at l (x + 8))) (ap body_at t) (stamp_at t)
 
   -- by the payload
   pub next_body : (want : Want) (a : ℕ)

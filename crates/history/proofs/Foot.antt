@@ -1,6 +1,7 @@
 -- Two chips that are the same but for the bytes of one place in RAM: a bus step keeps them so. Of RAM a step looks only at the identifiers
 -- of the messages that the queue holds.
 -- Assumes nothing.
+use Rattle.spi.specs.declared.refusal.Refusal.{Refusal}
 use Prim.Native.Nat.{ℕ, ◌+◌, ◌-◌, ◌%◌, ◌^◌, ◌≤◌, ◌<◌, min}
 use mathlib.Core.Path.{◌≡◌, refl, sym, ap, ◌∙◌, subst}
 use mathlib.Core.Bool.{Bool, true, false, ◌&&◌, not, false≢true}
@@ -8,13 +9,12 @@ use mathlib.Core.List.{List, [], ◌∷◌}
 use native.Mathlib.Omega.{arith}
 use lib.ListN.{length, get_or, take, length-take}
 use lib.Dec.{ltb, leb, eqb}
-use Rattle.std.specs.Prelude.{if◌then◌else◌}
+use Rattle.std.specs.Prelude.{if◌then◌else◌, Result, Ok, Err}
 use Rattle.field.specs.Field.{read, flag}
 use Rattle.configuration.specs.CanControl.{DNCNT}
 use Rattle.fifo.specs.Control.{payload_of, is_fifo, TXREQ}
 use Rattle.parts.specs.Parts.{put}
 use Rattle.header.specs.declared.Header.{Header}
-use Rattle.spi.specs.declared.refusal.Done.{Done}
 use Rattle.message.specs.Message.{arrival_check}
 use Rattle.ring.specs.declared.ring.Fifo.{Fifo}
 use Rattle.ring.specs.Ring.{depth, overflowed, sent}
@@ -160,20 +160,20 @@ module _ (a n : ℕ) where
     unfolding give
     give_but j hit d header time payload = appended_but j (length payload) _
 
-    checked_but : (x : Done) (j : ℕ) (header : Header) (dlc time : ℕ) (payload : List ℕ)
+    checked_but : (x : Result (Unit {0}) Refusal) (j : ℕ) (header : Header) (dlc time : ℕ) (payload : List ℕ)
         → Told (by_check x c j header dlc time payload) (by_check x other j header dlc time payload)
-    checked_but (Done.Bad e) j header dlc time payload = same_but
-    checked_but Done.Good j header dlc time payload = give_but j 0 dlc header time payload
+    checked_but (Err e) j header dlc time payload = same_but
+    checked_but (Ok _) j header dlc time payload = give_but j 0 dlc header time payload
 
     deliver_but : (j : ℕ) (header : Header) (dlc time : ℕ) (payload : List ℕ) → Told (deliver_of c j header dlc time payload) (deliver_of other j header dlc time payload)
     unfolding deliver_of
     deliver_but j header dlc time payload =
         by_both Told (is_fifo j) (checked_but (arrival_check header dlc (length payload)) j header dlc time payload) same_but
 
-    sorts_but : (x : Done) (header : Header) (dlc time : ℕ) (payload : List ℕ)
+    sorts_but : (x : Result (Unit {0}) Refusal) (header : Header) (dlc time : ℕ) (payload : List ℕ)
         → ButFor a n (sorted_by x c header dlc time payload).model (sorted_by x other header dlc time payload).model
-    sorts_but (Done.Bad e) header dlc time payload = same_but
-    sorts_but Done.Good header dlc time payload =
+    sorts_but (Err e) header dlc time payload = same_but
+    sorts_but (Ok _) header dlc time payload =
         let P : Sorted → Sorted → Type 0 = λ x y. ButFor a n x.model y.model in
         by_both P (not (eqb (read DNCNT c.setup.con) 0)) same_but
         (by_both P (leb filter_count (filter_for c header)) same_but (give_but (target_for c (filter_for c header)) (filter_for c header) dlc header time payload))

@@ -1,5 +1,6 @@
 -- Plans that do no harm to what FIFOs hold: they write registers that only hold as written, and control words without UINC and FRESET.
 -- Assumes nothing.
+use Rattle.std.specs.Prelude.{Result, Ok, Err}
 use Prim.Native.Nat.{ℕ, zero, suc, ◌-◌, ◌%◌, ◌^◌, ◌<◌}
 use mathlib.Core.Path.{◌≡◌, sym, ap, subst, ◌∙◌}
 use mathlib.Core.Bool.{true, false}
@@ -16,9 +17,7 @@ use Rattle.place.specs.declared.Register.{Register}
 use Rattle.place.specs.Place.{register_at}
 use Rattle.operation.specs.Operation.{in_ram}
 use Rattle.spi.specs.declared.refusal.Refusal.{Refusal}
-use Rattle.spi.specs.declared.refusal.Done.{Done}
 use Rattle.spi.specs.declared.ask.Answer.{Answer}
-use Rattle.spi.specs.declared.reply.OneWord.{OneWord}
 use Rattle.spi.specs.Reply.{word_reply, done_reply, wait_reply}
 use Rattle.spi.specs.Talk.{on_word, on_done}
 use Rattle.plan.specs.declared.change.Change.{Change}
@@ -192,13 +191,13 @@ module _ (X : ℕ → Type 0) where
   HarmlessMove (Move.To at) = HarmlessAt at
   HarmlessMove Move.Next = Unit {0}
 
-  by_word : (x : OneWord) (k : ℕ → Move) → ((w : ℕ) → HarmlessMove (k w)) → HarmlessMove (on_word stopped x k)
-  by_word (OneWord.Word w) k h = h w
-  by_word (OneWord.Bad r) k h = tt
+  by_word : (x : Result ℕ Refusal) (k : ℕ → Move) → ((w : ℕ) → HarmlessMove (k w)) → HarmlessMove (on_word stopped x k)
+  by_word (Ok w) k h = h w
+  by_word (Err r) k h = tt
 
-  by_done : (x : Done) (m : Move) → HarmlessMove m → HarmlessMove (on_done stopped x m)
-  by_done Done.Good m h = h
-  by_done (Done.Bad r) m h = tt
+  by_done : (x : Result (Unit {0}) Refusal) (m : Move) → HarmlessMove m → HarmlessMove (on_done stopped x m)
+  by_done (Ok _) m h = h
+  by_done (Err r) m h = tt
 
   module _ (failed : Refusal) (c : Change) where
     abbrev changed : ℕ → Move
@@ -206,7 +205,7 @@ module _ (X : ℕ → Type 0) where
 
     -- a word of four bytes, changed
     taken : (rx : List ℕ) → HarmlessWrite c.address (modified c (le_at rx 0)) → HarmlessMove (on_word stopped (word_reply failed Answer.Exchanged rx) changed)
-    taken rx h = by_if (λ (x : OneWord). HarmlessMove (on_word stopped x changed)) (eqb (length rx) 4) (λ l. h) (λ l. tt)
+    taken rx h = by_if (λ (x : Result ℕ Refusal). HarmlessMove (on_word stopped x changed)) (eqb (length rx) 4) (λ l. h) (λ l. tt)
 
     change_harmless : (a : Answer) (rx : List ℕ) → HarmlessChange c → FairAt (PlanAt.Read c) a rx → HarmlessMove (on_word stopped (word_reply failed a rx) changed)
     change_harmless a rx (aside x) f = by_word (word_reply failed a rx) changed (λ w. aside x)

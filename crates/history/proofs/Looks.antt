@@ -1,5 +1,6 @@
 -- The calls that only read: they stay such calls, and leave the chip as it is.
 -- Assumes nothing.
+use Rattle.std.specs.Prelude.{Result, Ok, Err}
 use Prim.Native.Nat.{ℕ, ◌^◌}
 use mathlib.Core.Path.{◌≡◌}
 use mathlib.Core.Bool.{false, true≢false}
@@ -9,9 +10,7 @@ use lib.ListN.{length}
 use Rattle.laws.proofs.Choice.{by_if}
 use Rattle.configuration.specs.CanControl.{CiCON}
 use Rattle.spi.specs.declared.refusal.Refusal.{Refusal}
-use Rattle.spi.specs.declared.refusal.Done.{Done}
 use Rattle.spi.specs.declared.ask.Answer.{Answer}
-use Rattle.spi.specs.declared.reply.OneWord.{OneWord}
 use Rattle.spi.specs.declared.reply.CheckedWord.{CheckedWord}
 use Rattle.spi.specs.Ram.{access_of}
 use Rattle.spi.specs.Reply.{word_reply, done_reply, crc_reply}
@@ -59,9 +58,9 @@ pub checked_looks : (a : ℕ) → Looks (register.checked_start a)
 checked_looks a = addressed_looks a (RegisterCall.Checked a 0) tt
 
 -- steps
-word_looks : (x : OneWord) (k : ℕ → RegisterCall) → ((w : ℕ) → Looks (k w)) → Looks (on_word RegisterCall.Refused x k)
-word_looks (OneWord.Word w) k h = h w
-word_looks (OneWord.Bad r) k h = tt
+word_looks : (x : Result ℕ Refusal) (k : ℕ → RegisterCall) → ((w : ℕ) → Looks (k w)) → Looks (on_word RegisterCall.Refused x k)
+word_looks (Ok w) k h = h w
+word_looks (Err r) k h = tt
 
 again_looks : (x : CheckedWord) (s : RegisterCall) (seen : ℕ) → Looks s → Looks (on_checked RegisterCall.Refused x s (λ w. RegisterCall.Matched w seen))
 again_looks (CheckedWord.Word w) s seen h = tt
@@ -110,9 +109,9 @@ LooksRam RamCall.EchoRead = ⊥
 LooksRam RamCall.Done = Unit {0}
 LooksRam (RamCall.Refused r) = Unit {0}
 
-done_looks : (x : Done) (s : RamCall) → LooksRam s → LooksRam (on_done RamCall.Refused x s)
-done_looks Done.Good s h = h
-done_looks (Done.Bad r) s h = tt
+done_looks : (x : Result (Unit {0}) Refusal) (s : RamCall) → LooksRam s → LooksRam (on_done RamCall.Refused x s)
+done_looks (Ok _) s h = h
+done_looks (Err r) s h = tt
 
 pub ram_looks : (a room place count : ℕ) → LooksRam (ram.read_start a room place count)
 unfolding ram.read_start

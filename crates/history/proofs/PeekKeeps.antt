@@ -1,5 +1,6 @@
 -- A peek only reads: the chip is as the bus steps alone leave it.
 -- Assumes nothing.
+use Rattle.std.specs.Prelude.{Result, Ok, Err}
 use Prim.Native.Nat.{ℕ}
 use mathlib.Core.Path.{◌≡◌, refl, sym, ap, ◌∙◌}
 use mathlib.Core.Bool.{true}
@@ -13,10 +14,7 @@ use Rattle.fifo.specs.Status.{CiFIFOSTA, TFNRFNIF}
 use Rattle.fifo.specs.UserAddress.{CiFIFOUA}
 use Rattle.words.specs.Words.{round_up}
 use Rattle.spi.specs.declared.refusal.Refusal.{Refusal}
-use Rattle.spi.specs.declared.refusal.Done.{Done}
 use Rattle.spi.specs.declared.ask.Answer.{Answer}
-use Rattle.spi.specs.declared.reply.OneWord.{OneWord}
-use Rattle.spi.specs.declared.reply.TwoWords.{TwoWords}
 use Rattle.spi.specs.Ram.{in_range}
 use Rattle.spi.specs.Reply.{done_reply}
 use Rattle.spi.specs.Talk.{on_word, on_pair, on_done}
@@ -61,23 +59,23 @@ Looks (FetchAt.Told next) = Unit {0}
 Looks (FetchAt.Refused r) = Unit {0}
 
 -- by whatever is answered
-by_word : (k : ℕ → FetchAt) → ((w : ℕ) → Looks (k w)) → (o : OneWord) → Looks (on_word FetchAt.Refused o k)
-by_word k h (OneWord.Word w) = h w
-by_word k h (OneWord.Bad r) = tt
+by_word : (k : ℕ → FetchAt) → ((w : ℕ) → Looks (k w)) → (o : Result ℕ Refusal) → Looks (on_word FetchAt.Refused o k)
+by_word k h (Ok w) = h w
+by_word k h (Err r) = tt
 
-by_pair : (k : ℕ → ℕ → FetchAt) → ((v w : ℕ) → Looks (k v w)) → (o : TwoWords) → Looks (on_pair FetchAt.Refused o k)
-by_pair k h (TwoWords.Words v w) = h v w
-by_pair k h (TwoWords.Bad r) = tt
+by_pair : (k : ℕ → ℕ → FetchAt) → ((v w : ℕ) → Looks (k v w)) → (o : Result (ℕ × ℕ) Refusal) → Looks (on_pair FetchAt.Refused o k)
+by_pair k h (Ok (v, w)) = h v w
+by_pair k h (Err r) = tt
 
-by_done : (a : FetchAt) → Looks a → (o : Done) → Looks (on_done FetchAt.Refused o a)
-by_done a h Done.Good = h
-by_done a h (Done.Bad r) = tt
+by_done : (a : FetchAt) → Looks a → (o : Result (Unit {0}) Refusal) → Looks (on_done FetchAt.Refused o a)
+by_done a h (Ok _) = h
+by_done a h (Err r) = tt
 
 body_looks : (x : ℕ) (f : Found) → Looks (to_body x f)
 unfolding to_body
 body_looks x f = by_if Looks (in_range x (round_up f.len)) (λ e. tt) (λ e. tt)
 
-next_looks : (a : FetchAt) → Looks a → (word : OneWord) (pair : TwoWords) (r : Answer) (k : ℕ) → Looks (next_by Want.Peek a word pair r k)
+next_looks : (a : FetchAt) → Looks a → (word : Result ℕ Refusal) (pair : Result (ℕ × ℕ) Refusal) (r : Answer) (k : ℕ) → Looks (next_by Want.Peek a word pair r k)
 unfolding after_control after_status after_address after_header to_time after_again after_time
 next_looks FetchAt.Control l word pair r k = by_word after_control (λ w. by_if Looks (flag TXEN w) (λ e. tt) (λ e. tt)) word
 next_looks FetchAt.Status l word pair r k = by_word (after_status Want.Peek) (λ w. by_if Looks (flag TFNRFNIF w) (λ e. tt) (λ e. tt)) word

@@ -1,5 +1,6 @@
 -- The calls of a history that are plans do no harm: request, and every call that sets a part of the chip up.
 -- Assumes nothing.
+use Rattle.std.specs.Prelude.{Option, Some, None, Result}
 use Prim.Native.Nat.{ℕ, ◌/◌, ◌<◌}
 use mathlib.Core.Path.{◌≡◌, refl, ap, ◌∙◌, sym}
 use mathlib.Core.Bool.{Bool, true, false, not, ◌&&◌}
@@ -30,7 +31,6 @@ use Rattle.place.proofs.Laws.{all_carried_lem}
 use Rattle.spi.specs.Ram.{in_range}
 use Rattle.spi.specs.Talk.{on_done}
 use Rattle.spi.specs.declared.refusal.Refusal.{Refusal}
-use Rattle.spi.specs.declared.refusal.Done.{Done}
 use Rattle.plan.specs.declared.change.Change.{Change}
 use Rattle.plan.specs.declared.item.Item.{Item}
 use Rattle.plan.specs.Change.{modified, setting, setting_all, change_of}
@@ -49,7 +49,6 @@ use Rattle.transmit.specs.Transmit.{request_change, request_start, queue_request
 use Rattle.history.specs.Command.{Setting, Fifo, Filter, FilterOff, Osc, Io, BitTiming, sets, TxQueue}
 use Rattle.history.proofs.Harmless.{Setup, Aside, aside, control, Careful, HarmlessChange, HarmlessItem, Harmless, plan_harmless, refused_harmless, queue_control, con, HarmlessItems}
 use Rattle.areas.specs.declared.settings.TxQueueConfiguration.{TxQueueConfiguration}
-use Rattle.areas.specs.declared.settings.TxQueueSetting.{TxQueueSetting}
 use Rattle.configuration.specs.CanControl.{CiCON, REQOP}
 
 -- ---- control words: fields other than UINC and FRESET are set
@@ -165,7 +164,7 @@ module _ (X : ℕ → Type 0) where
   filter_harmless : (f : ℕ) (c : FilterConfiguration) → Spare (configure_filter f c)
   unfolding configure_filter filter_check
   filter_harmless f c =
-      let P : Done → Type 0 = λ d. Spare (on_done turned_down d (ready Refusal.SpiRead (filter_items f c))) in
+      let P : Result (Unit {0}) Refusal → Type 0 = λ d. Spare (on_done turned_down d (ready Refusal.SpiRead (filter_items f c))) in
       by_if P (not (is_filter f && is_fifo c.fifo)) (λ e. refused_harmless X Refusal.BadNumber)
       (λ e. by_if P (not (is_identifier c.object && is_identifier c.mask)) (λ j. refused_harmless X Refusal.BadIdentifier)
       (λ j. let h = ltb-true f 32 (both (is_filter f) (is_fifo c.fifo) (not-false _ e)).0 in
@@ -195,13 +194,13 @@ module _ (X : ℕ → Type 0) where
       ))
       (λ e. refused_harmless X Refusal.BadSetting)
 
-  queue_harmless : (q : TxQueueSetting) → Spare (configure_tx_queue q)
+  queue_harmless : (q : Option TxQueueConfiguration) → Spare (configure_tx_queue q)
   unfolding configure_tx_queue
   queue_harmless q = by_if Spare (setting_fits q) (λ e. plan_harmless X failed (queue_items q) (go q e)) (λ e. refused_harmless X Refusal.BadSetting)
     where
-      go : (q : TxQueueSetting) → setting_fits q ≡ true → HarmlessItems X (queue_items q)
-      go TxQueueSetting.Off e = (enable_harmless X false, tt)
-      go (TxQueueSetting.On c) e = (enable_harmless X true, (queue_control_harmless X (queue_settings c) (queue_spared c e), tt))
+      go : (q : Option TxQueueConfiguration) → setting_fits q ≡ true → HarmlessItems X (queue_items q)
+      go None e = (enable_harmless X false, tt)
+      go (Some c) e = (enable_harmless X true, (queue_control_harmless X (queue_settings c) (queue_spared c e), tt))
 
   pub set_harmless : (x : Setting) → Harmless X (plan_for (sets x))
   set_harmless (Fifo n c) = fifo_harmless n c

@@ -1,5 +1,6 @@
 -- Each exchange of a push, alone or in a transmit, keeps what is true of the world.
 -- Assumes nothing.
+use Rattle.std.specs.Prelude.{Option, Some, None, Result, Ok, Err}
 use Prim.Native.Nat.{ℕ, ◌+◌, ◌-◌, ◌%◌, ◌^◌, ◌≤◌, ◌<◌}
 use native.Mathlib.Omega.{arith}
 use borrow.Author.Tests.{ltb-true, ltb-false, lt-ltb}
@@ -20,12 +21,9 @@ use Rattle.spi.specs.declared.refusal.Refusal.{Refusal}
 use Rattle.spi.specs.declared.ask.Ask.{Ask}
 use Rattle.spi.specs.declared.ask.Answer.{Answer}
 use Rattle.header.specs.declared.Header.{Header}
-use Rattle.header.specs.declared.dlc.Dlc.{Dlc}
 use Rattle.header.specs.Dlc.{dlc_of}
 use Rattle.header.specs.Header.{top_id}
-use Rattle.message.specs.declared.tx.Checked.{Checked}
 use Rattle.message.specs.Structs.{encoded_as}
-use Rattle.message.specs.declared.object.Stamp.{Stamp}
 use Rattle.message.specs.Message.{Message, by_dlc, check_of, Encoding, coded, encoding}
 use Rattle.message.specs.Laws.{Suits}
 use Rattle.message.proofs.Round.{lengths_hold, round_trip_lem}
@@ -117,7 +115,7 @@ module _ (c : Model) (o : Sound c) (n : ℕ) (header : Header) (seq : ℕ) (payl
       let x = g.0 in
       let suits : Suits (sending (frozen_at c n)) (stamped (frozen_at c n)) sent
       = rw (x.tx, not_stamped (frozen_at c n) x.tx) (record { filter = refl; seq = refl; stamp = tt }) in
-      (record { word = x.word; tx = x.tx; fits = x.fits }, g.1, filled_item c o n i g.1 bs x.fits sent (λ r. round_trip_lem (sending (frozen_at c n)) (stamped (frozen_at c n)) header seq Stamp.None payload bs r coded suits))
+      (record { word = x.word; tx = x.tx; fits = x.fits }, g.1, filled_item c o n i g.1 bs x.fits sent (λ r. round_trip_lem (sending (frozen_at c n)) (stamped (frozen_at c n)) header seq None payload bs r coded suits))
 
   -- v is the FIFO with its new control word
   pub uinc_told : (w : ℕ) → PushMid c n sent bs (PushAt.Commit w)
@@ -247,26 +245,26 @@ module _ (X : ℕ → Type 0) {U : Type 0} (c : Model) (o : Sound c) (q : Asked 
 -- ---- the beginning
 
 -- what a message is refused for before any exchange
-abbrev NotBad : Checked → Type 0
-NotBad (Checked.Dlc d) = Unit {0}
-NotBad (Checked.Bad r) = NotCaused r
+abbrev NotBad : Result ℕ Refusal → Type 0
+NotBad (Ok d) = Unit {0}
+NotBad (Err r) = NotCaused r
 
 abbrev pub NotRefused : Encoding → Type 0
 NotRefused (Encoding.refused r) = NotCaused r
 NotRefused (Encoding.object bs) = Unit {0}
 
-dlc_caused : (d : Dlc) → NotBad (by_dlc d)
-dlc_caused (Dlc.Is n) = tt
-dlc_caused Dlc.Bad = refl
+dlc_caused : (d : Option ℕ) → NotBad (by_dlc d)
+dlc_caused (Some n) = tt
+dlc_caused None = refl
 
 check_caused : (h : Header) (seq n : ℕ) → NotBad (check_of h seq n)
 unfolding check_of
 check_caused h seq n =
     by_if NotBad (ltb (top_id h.extended) h.id) (λ x. refl) (λ x. by_if NotBad (leb (2 ^ 23) seq) (λ y. refl) (λ y. dlc_caused (dlc_of h.fdf n)))
 
-coded_caused : (m : Message) (x : Checked) → NotBad x → NotRefused (coded x m)
-coded_caused m (Checked.Dlc d) h = tt
-coded_caused m (Checked.Bad r) h = h
+coded_caused : (m : Message) (x : Result ℕ Refusal) → NotBad x → NotRefused (coded x m)
+coded_caused m (Ok d) h = tt
+coded_caused m (Err r) h = h
 
 pub encoding_fine : (header : Header) (seq : ℕ) (payload : List ℕ) → NotRefused (encoding (push.to_send header seq payload))
 unfolding encoding

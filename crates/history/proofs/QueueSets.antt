@@ -11,7 +11,7 @@ use lib.Dec.{eqb}
 use lib.ListN.{length}
 use lib.Pow.{pow_pos}
 use lib.Seq.{get_or-set_same}
-use Rattle.std.specs.Prelude.{if◌then◌else◌}
+use Rattle.std.specs.Prelude.{if◌then◌else◌, Option, Some, None}
 use Rattle.laws.proofs.Choice.{by_if}
 use Rattle.words.specs.Words.{le_bytes}
 use Rattle.field.specs.Field.{read, flag, write, digit}
@@ -34,7 +34,6 @@ use Rattle.plan.specs.Step as plan
 use Rattle.plan.specs.Prepared.{plan_for}
 use Rattle.plan.proofs.Changes.{change_sets_lem}
 use Rattle.areas.specs.declared.settings.TxQueueConfiguration.{TxQueueConfiguration}
-use Rattle.areas.specs.declared.settings.TxQueueSetting.{TxQueueSetting}
 use Rattle.areas.specs.Areas.{enable_settings, enable_change, queue_settings, queue_change, queue_fits, setting_fits}
 use Rattle.adjust.specs.Calls.{failed, queue_items, configure_tx_queue}
 use Rattle.driver.specs.Start.{idle_push, idle_fetch, of_plan}
@@ -64,31 +63,31 @@ use Rattle.history.proofs.PushFails.{settled_chip}
 -- ---- the plan
 
 -- the call's plan where it stands there
-abbrev setting : TxQueueSetting → (next : ℕ) → PlanAt → Plan
+abbrev setting : Option TxQueueConfiguration → (next : ℕ) → PlanAt → Plan
 setting q next at = record { failed = failed; items = filled (queue_items q); next = next; at = at }
 
-begins : (q : TxQueueSetting) → setting_fits q ≡ true → plan_for (configure_tx_queue q) ≡ setting q 1 (PlanAt.Read (enable_change (is_on q)))
+begins : (q : Option TxQueueConfiguration) → setting_fits q ≡ true → plan_for (configure_tx_queue q) ≡ setting q 1 (PlanAt.Read (enable_change (is_on q)))
 unfolding configure_tx_queue arrived_at
-begins TxQueueSetting.Off e = refl
-begins (TxQueueSetting.On x) e = rw e
+begins None e = refl
+begins (Some x) e = rw e
 
 -- a word comes back, and is written changed
-read_there : (q : TxQueueSetting) (next : ℕ) (ch : Change) (x : ℕ)
+read_there : (q : Option TxQueueConfiguration) (next : ℕ) (ch : Change) (x : ℕ)
     → step_of (setting q next (PlanAt.Read ch)) Answer.Exchanged (le_bytes x) ≡ setting q next (PlanAt.Write ch.address (modified ch (x % 2 ^ 32)))
 unfolding step_of le_bytes
 read_there q next ch x = ap (λ (w : ℕ). setting q next (PlanAt.Write ch.address (modified ch w))) (le_said x)
 
 -- where it goes behind its first write, and behind its second
-abbrev behind : TxQueueSetting → Plan
-behind TxQueueSetting.Off = setting TxQueueSetting.Off 15 PlanAt.Done
-behind (TxQueueSetting.On x) = setting (TxQueueSetting.On x) 2 (PlanAt.Read (queue_change x))
+abbrev behind : Option TxQueueConfiguration → Plan
+behind None = setting None 15 PlanAt.Done
+behind (Some x) = setting (Some x) 2 (PlanAt.Read (queue_change x))
 
-first_written : (q : TxQueueSetting) (a w : ℕ) → step_of (setting q 1 (PlanAt.Write a w)) Answer.Exchanged [] ≡ behind q
+first_written : (q : Option TxQueueConfiguration) (a w : ℕ) → step_of (setting q 1 (PlanAt.Write a w)) Answer.Exchanged [] ≡ behind q
 unfolding step_of arrived_at
-first_written TxQueueSetting.Off a w = refl
-first_written (TxQueueSetting.On x) a w = refl
+first_written None a w = refl
+first_written (Some x) a w = refl
 
-second_written : (x : TxQueueConfiguration) (a w : ℕ) → step_of (setting (TxQueueSetting.On x) 2 (PlanAt.Write a w)) Answer.Exchanged [] ≡ setting (TxQueueSetting.On x) 15 PlanAt.Done
+second_written : (x : TxQueueConfiguration) (a w : ℕ) → step_of (setting (Some x) 2 (PlanAt.Write a w)) Answer.Exchanged [] ≡ setting (Some x) 15 PlanAt.Done
 unfolding step_of arrived_at
 second_written x a w = refl
 
@@ -97,21 +96,21 @@ second_written x a w = refl
 abbrev ready : Ready idle_push idle_fetch false
 ready = alone idle_push idle_fetch
 
-abbrev call : TxQueueSetting → Command
+abbrev call : Option TxQueueConfiguration → Command
 call q = Configuring (TxQueue q)
 
-abbrev at : TxQueueSetting → Plan → Model → World
+abbrev at : Option TxQueueConfiguration → Plan → Model → World
 at q p c = world c (busy (call q) (planned false p idle_push idle_fetch)) []
 
 -- an exchange takes the call from p to z
-next : (q : TxQueueSetting) (p z : Plan) (c d : Model) (rx : List ℕ) (es : List Event) → ((b : List ℕ) → spoken (plan.ask_of p) b c ≡ hears Answer.Exchanged rx d)
+next : (q : Option TxQueueConfiguration) (p z : Plan) (c d : Model) (rx : List ℕ) (es : List Event) → ((b : List ℕ) → spoken (plan.ask_of p) b c ≡ hears Answer.Exchanged rx d)
     → waits (plan.ask_of p) ≡ false → step_of p Answer.Exchanged rx ≡ z
     → after (Exchange ∷ es) (at q p c) ≡ after es (settled d [] (call q) (planned false z idle_push idle_fetch) rx)
 unfolding after event
 next q p z c d rx es h w e = ap (after es) (planning.turned idle_push idle_fetch false ready p [] (call q) c rx d w h ∙ rw e)
 
 -- and it goes on there
-goes : (q : TxQueueSetting) (p z : Plan) (c d : Model) (rx : List ℕ) (es : List Event) → ((b : List ℕ) → spoken (plan.ask_of p) b c ≡ hears Answer.Exchanged rx d)
+goes : (q : Option TxQueueConfiguration) (p z : Plan) (c d : Model) (rx : List ℕ) (es : List Event) → ((b : List ℕ) → spoken (plan.ask_of p) b c ≡ hears Answer.Exchanged rx d)
     → waits (plan.ask_of p) ≡ false → step_of p Answer.Exchanged rx ≡ z → plan.outcome_of z ≡ Outcome.Running
     → after (Exchange ∷ es) (at q p c) ≡ after es (at q z d)
 goes q p z c d rx es h w e r = next q p z c d rx es h w e ∙ ap (after es) (planning.still idle_push idle_fetch false ready z [] (call q) d rx r refl)
@@ -123,7 +122,7 @@ con_told b c w l =
     tell_low b c (CiCON.address 0) Register.Con all_carried_lem.con (omega arith) w l
     ∙ by_if (λ r. by_reply r (con_written c w).model ≡ hears Answer.Exchanged [] (con_written c w).model) (con_written c w).granted (λ e. refl) (λ e. refl)
 
-module _ (c : Model) (q : TxQueueSetting) (fits : setting_fits q ≡ true) where
+module _ (c : Model) (q : Option TxQueueConfiguration) (fits : setting_fits q ≡ true) where
   -- CiCON as it is read, and as it is written
   abbrev seen : ℕ
   seen = word_of c Register.Con % 2 ^ 32
@@ -181,7 +180,7 @@ queue_enabled_lem c q fits = record {
 
 -- ---- in Configuration with REQOP 4
 
-module _ (c : Model) (r : Reached c) (inside : c.fixed.configuring ≡ true) (mode : read REQOP c.setup.con ≡ 4) (q : TxQueueSetting) (fits : setting_fits q ≡ true) where
+module _ (c : Model) (r : Reached c) (inside : c.fixed.configuring ≡ true) (mode : read REQOP c.setup.con ≡ 4) (q : Option TxQueueConfiguration) (fits : setting_fits q ≡ true) where
   stays : c₁ c q fits ≡ con_set c (w c q fits) true
   unfolding con_written
   stays =
@@ -252,18 +251,18 @@ module _ (c : Model) (inside : c.fixed.configuring ≡ true) (frozens : length c
   d_queue = by_if (λ (m : Model). m.fixed.queue ≡ c.fixed.queue) c.fixed.configuring (λ e. refl) (λ e. refl)
 
   -- the last two exchanges
-  more : (es : List Event) → after (Exchange ∷ Exchange ∷ es) (at (TxQueueSetting.On x) (behind (TxQueueSetting.On x)) c)
-      ≡ after es (world d idle (called (call (TxQueueSetting.On x)) Outcome.Done [] ∷ []))
+  more : (es : List Event) → after (Exchange ∷ Exchange ∷ es) (at (Some x) (behind (Some x)) c)
+      ≡ after es (world d idle (called (call (Some x)) Outcome.Done [] ∷ []))
   more es =
-      let q : TxQueueSetting = TxQueueSetting.On x in
+      let q : (Option TxQueueConfiguration) = Some x in
       goes q _ (setting q 2 (PlanAt.Write (CiFIFOCON.address 0) new)) c c (le_bytes (word_of c Register.QueueControl)) (Exchange ∷ es) (λ b. hear_queue b c) refl (read_there q 2 (queue_change x) _) refl
       ∙ next q (setting q 2 (PlanAt.Write (CiFIFOCON.address 0) new)) (setting q 15 PlanAt.Done) c d [] es (λ b. tell_queue b c new new_small) refl (second_written x (CiFIFOCON.address 0) new)
       ∙ ap (after es) (planning.over idle_push idle_fetch false ready (setting q 15 PlanAt.Done) [] (call q) d [] refl)
 
 pub queue_set_up_lem : QueueSetUp
 unfolding after event
-queue_set_up_lem c r inside mode TxQueueSetting.Off fits =
-    let q : TxQueueSetting = TxQueueSetting.Off in
+queue_set_up_lem c r inside mode None fits =
+    let q : (Option TxQueueConfiguration) = None in
     let is : setting_up c q 4 ≡ world (c₁ c q fits) idle (called (call q) Outcome.Done [] ∷ [])
     = two c q fits (Exchange ∷ Exchange ∷ []) ∙ ap (after (Exchange ∷ Exchange ∷ [])) (planning.over idle_push idle_fetch false ready (setting q 15 PlanAt.Done) [] (call q) (c₁ c q fits) [] refl) in
     rw is (record {
@@ -272,8 +271,8 @@ queue_set_up_lem c r inside mode TxQueueSetting.Off fits =
       txqen = txqen_reads_lem _ ∙ ap digit (taken c r inside mode q fits);
       control = λ x e. let z : ◌≡◌ {A = ℕ} 0 1 = cc in absurd (omega arith);
     })
-queue_set_up_lem c r inside mode (TxQueueSetting.On x) fits =
-    let q : TxQueueSetting = TxQueueSetting.On x in
+queue_set_up_lem c r inside mode (Some x) fits =
+    let q : (Option TxQueueConfiguration) = Some x in
     let c₁ : Model = c₁ c q fits in
     let i = still_inside c r inside mode q fits in
     let f = frozens c r inside mode q fits in

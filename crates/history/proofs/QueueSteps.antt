@@ -1,5 +1,6 @@
 -- Each exchange of a checked push to the queue keeps what is true of the world.
 -- Assumes nothing.
+use Rattle.std.specs.Prelude.{None}
 use Prim.Native.Nat.{ℕ, ◌+◌, ◌≤◌}
 use native.Mathlib.Omega.{arith}
 use borrow.Author.Tests.{ltb-false}
@@ -20,7 +21,6 @@ use Rattle.spi.specs.declared.ask.Ask.{Ask}
 use Rattle.spi.specs.declared.ask.Answer.{Answer}
 use Rattle.header.specs.declared.Header.{Header}
 use Rattle.message.specs.Structs.{encoded_as}
-use Rattle.message.specs.declared.object.Stamp.{Stamp}
 use Rattle.message.specs.Message.{Message, Encoding, encoding, Decoding, holds, decoding}
 use Rattle.message.proofs.Round.{lengths_hold, round_trip_lem}
 use Rattle.place.specs.declared.Register.{Register}
@@ -79,7 +79,7 @@ module _ (c : Model) (o : Sound c) (header : Header) (seq : ℕ) (payload bs : L
 
   -- what the object decodes to
   decodes : (r : List ℕ) → decoding true false (bs ++ r) ≡ holds sent
-  decodes r = round_trip_lem true false header seq Stamp.None payload bs r coded (record { filter = refl; seq = refl; stamp = tt })
+  decodes r = round_trip_lem true false header seq None payload bs r coded (record { filter = refl; seq = refl; stamp = tt })
 
   pub shown_told : (w a : ℕ) → QueueMid c sent bs (PushAt.Write w a) → spoken (Ask.Body a (length bs)) (zeroed 76 bs) c ≡ hears Answer.Exchanged [] shown_filled
   unfolding queue_shown queue_slot

@@ -10,7 +10,7 @@ use borrow.Author.Tests.{leb-true, le-ltb}
 use lib.Dec.{eqb, ltb, leb}
 use lib.Pow.{pow_pos, field, mod-mod-pow}
 use lib.ListN.{get_or}
-use Rattle.std.specs.Prelude.{if◌then◌else◌}
+use Rattle.std.specs.Prelude.{if◌then◌else◌, Ok}
 use Rattle.field.specs.Field.{Field, place as at, read, flag, mark, digit, within}
 use Rattle.field.specs.Settings.{◌:=◌, settings}
 use Rattle.field.proofs.Laws.{set_lt, read_write, write_other, digit_lt, digit_back}
@@ -21,7 +21,6 @@ use Rattle.fifo.specs.Control.{TXEN, RXTSEN, PLSIZE, UINC, TXREQ, FRESET, payloa
 use Rattle.fifo.specs.Status.{TFNRFNIF, TFERFFIF, RXOVIF}
 use Rattle.spi.specs.declared.refusal.Refusal.{Refusal}
 use Rattle.spi.specs.declared.ask.Answer.{Answer}
-use Rattle.spi.specs.declared.reply.OneWord.{OneWord}
 use Rattle.spi.specs.Reply.{word_reply}
 use Rattle.place.specs.declared.Register.{Register}
 use Rattle.call.specs.declared.Found.{Found}
@@ -60,7 +59,7 @@ le_said x =
     let e : le_bytes (x % 2 ^ 32) ≡ le_bytes x = λ i. f 0 refl i ∷ f 1 refl i ∷ f 2 refl i ∷ f 3 refl i ∷ [] in
     ap (λ (s : List ℕ). le_at s 0) (sym e) ∙ le_back (x % 2 ^ 32) [] (mod-lt x (pow_pos 32))
 
-pub word_said : (r : Refusal) (x : ℕ) → word_reply r Answer.Exchanged (le_bytes x) ≡ OneWord.Word (x % 2 ^ 32)
+pub word_said : (r : Refusal) (x : ℕ) → word_reply r Answer.Exchanged (le_bytes x) ≡ Ok (x % 2 ^ 32)
 word_said r x = rw (le_length x, le_said x)
 
 pub mark_small : (v : ℕ) → v < 2 ^ 32 → mark UINC true v < 2 ^ 32

@@ -1,6 +1,7 @@
 -- The calls that a history may have: what is called, and where the driver starts. What ends a history is not among them.
 -- Assumes nothing.
-use Rattle.std.specs.Prelude.{ℕ, Bool, List, [], length}
+use Rattle.areas.specs.declared.settings.TxQueueConfiguration.{TxQueueConfiguration}
+use Rattle.std.specs.Prelude.{ℕ, Bool, List, [], length, Option}
 use Rattle.header.specs.declared.Header.{Header}
 use Rattle.register.specs.RegisterCall.{RegisterCall}
 use Rattle.register.specs.Step as register
@@ -11,7 +12,6 @@ use Rattle.changes.specs.declared.settings.IoConfiguration.{IoConfiguration}
 use Rattle.changes.specs.declared.settings.BitTimeConfiguration.{BitTimeConfiguration}
 use Rattle.areas.specs.declared.settings.FifoConfiguration.{FifoConfiguration}
 use Rattle.areas.specs.declared.settings.FilterConfiguration.{FilterConfiguration}
-use Rattle.areas.specs.declared.settings.TxQueueSetting.{TxQueueSetting}
 use Rattle.adjust.specs.Calls.{configure_osc, configure_io, configure_bit_timing, configure_fifo, configure_filter, disable_filter, configure_tx_queue}
 use Rattle.tx_fifo.specs.Step.{start_of, queue_start, queue_unchecked_start}
 use Rattle.transmit.specs.Transmit.{request_start, queue_request_start, transmit_start}
@@ -37,7 +37,7 @@ pub data Setting : Type 0 where
   Osc : OscillatorConfiguration → Setting
   Io : IoConfiguration → Setting
   BitTiming : BitTimeConfiguration → Setting
-  TxQueue : TxQueueSetting → Setting
+  TxQueue : Option TxQueueConfiguration → Setting
 
 -- `Peek` and `Get` with the buffer that is lent for the payload; the queue's pushes, checked and unchecked
 pub data Command : Type 0 where

@@ -1,14 +1,13 @@
 -- One history, written out: a torque command goes out and an answer comes in, with every exchange answered and with the push's write
 -- to RAM failed.
 -- Assumes nothing.
-use Rattle.std.specs.Prelude.{ℕ, ◌≡◌, true, false, List, [], ◌∷◌, replicate}
+use Rattle.std.specs.Prelude.{ℕ, ◌≡◌, true, false, List, [], ◌∷◌, replicate, Some}
 use Rattle.fifo.specs.Control.{CiFIFOCON}
 use Rattle.filter.specs.Control.{CiFLTCON}
 use Rattle.parts.specs.Parts.{put}
 use Rattle.spi.specs.declared.ask.Ask.{Ask}
 use Rattle.spi.specs.Ask.{sent, wanted}
 use Rattle.header.specs.declared.Header.{Header}
-use Rattle.message.specs.declared.object.Stamp.{Stamp}
 use Rattle.message.specs.Message.{Message}
 use Rattle.call.specs.declared.Outcome.{Outcome}
 use Rattle.call.specs.Numbers.{outcome_numbers}
@@ -82,7 +81,7 @@ story e =
 
 -- the frame as FIFO 2 receives it: filter 3 took it
 abbrev pub received : Message
-received = record { header = feedback; dlc = feedback_dlc; filter = 3; seq = 0; stamp = Stamp.At 77; payload = feedback_bytes }
+received = record { header = feedback; dlc = feedback_dlc; filter = 3; seq = 0; stamp = Some 77; payload = feedback_bytes }
 
 -- what the push ends with, and what the send after the request then finds
 abbrev pub saying : Outcome → Output → List Said

@@ -1,6 +1,6 @@
 -- Document 02, request 6: demand 3 for the transmit queue, as statements.
 -- Assumes nothing.
-use Rattle.std.specs.Prelude.{ℕ, ◌≤◌, ◌<◌, ◌≡◌, Bool, true, false, not, ◌↔◌, length, take, replicate, ltb, if◌then◌else◌}
+use Rattle.std.specs.Prelude.{ℕ, ◌≤◌, ◌<◌, ◌≡◌, Bool, true, false, not, ◌↔◌, length, take, replicate, ltb, if◌then◌else◌, Option, Some, None}
 use mathlib.Core.List.{List, [], ◌∷◌, ◌++◌, map, Perm}
 use Rattle.field.specs.Field.{read, flag, digit}
 use Rattle.configuration.specs.CanControl.{TXQEN, REQOP}
@@ -10,7 +10,6 @@ use Rattle.header.specs.declared.Header.{Header}
 use Rattle.message.specs.Message.{Message, Encoding, encoding, holds}
 use Rattle.call.specs.declared.Outcome.{Outcome}
 use Rattle.areas.specs.declared.settings.TxQueueConfiguration.{TxQueueConfiguration}
-use Rattle.areas.specs.declared.settings.TxQueueSetting.{TxQueueSetting}
 use Rattle.areas.specs.Areas.{setting_fits}
 use Rattle.tx_fifo.specs.Step.{to_send}
 use Rattle.ring.specs.Layout.{size}
@@ -129,34 +128,34 @@ QueueRequestExactly = NextCall (λ v. (bs : List (List Bus)) → length bs ≡ 2
 
 -- ---- 6. configure_tx_queue in Configuration
 
-abbrev pub is_on : TxQueueSetting → Bool
-is_on TxQueueSetting.Off = false
-is_on (TxQueueSetting.On x) = true
+abbrev pub is_on : Option TxQueueConfiguration → Bool
+is_on None = false
+is_on (Some x) = true
 
 -- the call, from the chip c on, with so many exchanges answered
-abbrev pub setting_up : Model → TxQueueSetting → ℕ → World
+abbrev pub setting_up : Model → Option TxQueueConfiguration → ℕ → World
 setting_up c q n = after (Begin (Configuring (TxQueue q)) ∷ replicate n Exchange) (record { chip = c; doing = idle; said = [] })
 
 -- its first write is CiCON's, with TXQEN and with REQOP as it was: where that asks to leave, this write is the leaving
-pub record Enables (c : Model) (q : TxQueueSetting) : Type 0 where
+pub record Enables (c : Model) (q : Option TxQueueConfiguration) : Type 0 where
   pub word : ℕ
   pub reqop : read REQOP word ≡ read REQOP c.setup.con
   pub txqen : flag TXQEN word ≡ is_on q
   pub written : (setting_up c q 2).chip ≡ (con_written c word).model
 
 abbrev pub QueueEnabled : Type 0
-QueueEnabled = (c : Model) (q : TxQueueSetting) → setting_fits q ≡ true → Enables c q
+QueueEnabled = (c : Model) (q : Option TxQueueConfiguration) → setting_fits q ≡ true → Enables c q
 
 -- where REQOP is 4 the call is done, TXQEN, FSIZE and PLSIZE are as set, and the mode is as it was
-pub record Sets (q : TxQueueSetting) (v : World) : Type 0 where
+pub record Sets (q : Option TxQueueConfiguration) (v : World) : Type 0 where
   pub said : v.said ≡ called (Configuring (TxQueue q)) Outcome.Done [] ∷ []
   pub inside : v.chip.fixed.configuring ≡ true
   pub txqen : read TXQEN (word_of v.chip Register.Con) ≡ digit (is_on q)
   pub control :
-      (x : TxQueueConfiguration) → q ≡ TxQueueSetting.On x
+      (x : TxQueueConfiguration) → q ≡ Some x
       → (read FSIZE (word_of v.chip Register.QueueControl) ≡ stored_size x.size) × (read PLSIZE (word_of v.chip Register.QueueControl) ≡ x.plsize)
 
 abbrev pub QueueSetUp : Type 0
 QueueSetUp =
-    (c : Model) → Reached c → c.fixed.configuring ≡ true → read REQOP c.setup.con ≡ 4 → (q : TxQueueSetting) → setting_fits q ≡ true
+    (c : Model) → Reached c → c.fixed.configuring ≡ true → read REQOP c.setup.con ≡ 4 → (q : Option TxQueueConfiguration) → setting_fits q ≡ true
     → Sets q (setting_up c q 4)

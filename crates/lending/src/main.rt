@@ -4,7 +4,6 @@
 
 use driver::{Answer, Call, Outcome, Refusal};
 use fifo::FifoControl;
-use spi::Done;
 use spoken::Line;
 use std::rt::Stdout;
 
@@ -150,8 +149,8 @@ fn reads(stdout: Stdout) {
 fn wait(stdout: Stdout, what: &[u8], answer: Answer, got: usize) {
     output::write(stdout, what);
     match spi::wait_reply(answer, got) {
-        Done::Bad(r) => tell_refusal(stdout, r),
-        Done::Good => output::write(stdout, b"not refused\n"),
+        Err(r) => tell_refusal(stdout, r),
+        Ok(()) => output::write(stdout, b"not refused\n"),
     }
 }
 

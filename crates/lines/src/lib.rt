@@ -6,7 +6,7 @@ ghost use Rattle.std.specs.Prelude.{◌≤◌};
 
 use call::{Found, Outcome, Report, Rewrite};
 use header::Header;
-use message::{Frame, Stamp};
+use message::Frame;
 use spi::Refusal;
 
 pub fn byte(out: &mut [u8], at: usize, b: u8) -> usize {
@@ -141,10 +141,10 @@ fn identifier(out: &mut [u8], at: usize, h: Header) -> usize {
     tail(out, a, Value::Hex(h.id as u64, 1))
 }
 
-fn time(s: Stamp) -> Value {
+fn time(s: Option<u32>) -> Value {
     match s {
-        Stamp::At(t) => Value::Hex(t as u64, 8),
-        Stamp::None => Value::Dash,
+        Some(t) => Value::Hex(t as u64, 8),
+        None => Value::Dash,
     }
 }
 
@@ -169,7 +169,7 @@ fn received(
     out: &mut [u8],
     at: usize,
     h: Header,
-    s: Stamp,
+    s: Option<u32>,
     payload: &[u8],
     dlc: u8,
     filter: u8,

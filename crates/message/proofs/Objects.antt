@@ -1,5 +1,6 @@
 -- How an object is put together in bytes that are 0.
 -- Assumes nothing.
+use Rattle.std.specs.Prelude.{Option}
 use mathlib.Core.Path.{◌≡◌, refl, sym, ap, ◌∙◌}
 use mathlib.Core.List.{List, [], ◌++◌, append_assoc}
 use Prim.Native.Nat.{ℕ, ◌+◌, ◌-◌, ◌≤◌}
@@ -10,7 +11,6 @@ use Rattle.words.specs.Words.{le_bytes, round_up}
 use Rattle.words.proofs.Laws.{le_length}
 use Rattle.parts.specs.Parts.{put, zeroed}
 use Rattle.parts.proofs.Laws.{put_next}
-use Rattle.message.specs.declared.object.Stamp.{Stamp}
 use Rattle.message.specs.Object.{stamp_bytes, padded, object_bytes}
 
 -- zeros behind bytes are there in an array that is 0 behind
@@ -30,7 +30,7 @@ next : (n : ℕ) (bs cs : List ℕ) → length bs ≡ n → put (zeroed 76 bs) n
 next n bs cs e = ap (λ (k : ℕ). put (zeroed 76 bs) k cs) (sym e) ∙ put_next 76 bs cs
 
 -- two words, a timestamp and a payload, put one behind the other
-pub laid : (a b : ℕ) (s : Stamp) (p : List ℕ) → length (stamp_bytes s) ≤ 4 → length p ≤ 64
+pub laid : (a b : ℕ) (s : Option ℕ) (p : List ℕ) → length (stamp_bytes s) ≤ 4 → length p ≤ 64
     → put (put (put (put (zeroed 76 []) 0 (le_bytes a)) 4 (le_bytes b)) 8 (stamp_bytes s)) (8 + length (stamp_bytes s)) p ≡ zeroed 76 (object_bytes a b s p)
 unfolding object_bytes padded
 laid a b s p f h =

@@ -9,20 +9,15 @@ use lib.ListN.{length, take, drop, length-append, length-replicate, length-take,
 use lib.Seq.{take-append_seam}
 use lib.Dec.{ltb, leb}
 use borrow.Author.Tests.{lt-ltb, le-ltb, le-leb, lt-leb, eq-eqb, ne_eqb, leb-true, ltb-false}
-use Rattle.std.specs.Prelude.{if◌then◌else◌}
+use Rattle.std.specs.Prelude.{if◌then◌else◌, Option, Some, None, Result, Ok, Err}
 use Rattle.laws.proofs.Choice.{by_if}
 use Rattle.field.specs.Field.{read, flag}
 use Rattle.field.proofs.Laws.{field_lt}
 use Rattle.words.specs.Words.{le_bytes, le_at, round_up}
 use Rattle.spi.specs.declared.refusal.Refusal.{Refusal}
-use Rattle.spi.specs.declared.refusal.Done.{Done}
 use Rattle.spi.specs.Refusals.{done_numbers}
 use Rattle.words.proofs.Laws.{le_back, le_drop, le_length}
-use Rattle.header.specs.declared.dlc.Dlc.{Dlc}
-use Rattle.header.specs.declared.dlc.Length.{Length}
 use Rattle.header.specs.declared.Header.{Header}
-use Rattle.message.specs.declared.object.Stamp.{Stamp}
-use Rattle.message.specs.declared.tx.Checked.{Checked}
 use Rattle.header.specs.Dlc.{dlc_of, length_of, received_length, code_or0}
 use Rattle.header.specs.Header.{DLC, FDF, SEQ, FILHIT, top_id, word0, word1, received1, header_of}
 use Rattle.message.specs.Object.{stamp_bytes, padded, object_bytes}
@@ -39,16 +34,16 @@ bytes_of m d = object_bytes (word0 m.header) (word1 m.header m.seq d) m.stamp m.
 
 pub record Coded (m : Message) (bs : List ℕ) : Type 0 where
   pub dlc : ℕ
-  pub checked : check_of m.header m.seq (length m.payload) ≡ Checked.Dlc dlc
+  pub checked : check_of m.header m.seq (length m.payload) ≡ Ok dlc
   pub bytes : bytes_of m dlc ≡ bs
 
 pub is_coded : (m : Message) (bs : List ℕ) → encoding m ≡ object bs → Coded m bs
 unfolding encoding
 is_coded m bs = go (check_of m.header m.seq (length m.payload)) refl
   where
-    go : (x : Checked) → check_of m.header m.seq (length m.payload) ≡ x → coded x m ≡ object bs → Coded m bs
-    go (Checked.Dlc d) e f = record { dlc = d; checked = e; bytes = cc }
-    go (Checked.Bad r) e f = let z : ◌≡◌ {A = ℕ} 0 1 = cc in absurd (omega arith)
+    go : (x : Result ℕ Refusal) → check_of m.header m.seq (length m.payload) ≡ x → coded x m ≡ object bs → Coded m bs
+    go (Ok d) e f = record { dlc = d; checked = e; bytes = cc }
+    go (Err r) e f = let z : ◌≡◌ {A = ℕ} 0 1 = cc in absurd (omega arith)
 
 -- ---- the object's length
 
@@ -56,7 +51,7 @@ padded_length : (p : List ℕ) → length (padded p) ≡ round_up (length p)
 unfolding padded
 padded_length p = simp (length-append, length-replicate) (omega arith)
 
-pub object_length : (a b : ℕ) (s : Stamp) (p : List ℕ) → length (object_bytes a b s p) ≡ 8 + length (stamp_bytes s) + round_up (length p)
+pub object_length : (a b : ℕ) (s : Option ℕ) (p : List ℕ) → length (object_bytes a b s p) ≡ 8 + length (stamp_bytes s) + round_up (length p)
 unfolding object_bytes
 object_length a b s p = simp (length-append, le_length, padded_length)
 
@@ -74,8 +69,8 @@ object_le m bs e =
 
 -- ---- reading back
 
-module _ (sending : Bool) (w₀ w₁ : ℕ) (p : List ℕ) (hl : length_in sending (flag FDF w₁) (read DLC w₁) ≡ Length.Is (length p)) where
-  abbrev result : Stamp → Message
+module _ (sending : Bool) (w₀ w₁ : ℕ) (p : List ℕ) (hl : length_in sending (flag FDF w₁) (read DLC w₁) ≡ Some (length p)) where
+  abbrev result : Option ℕ → Message
   result s = record {
     header = header_of w₀ w₁;
     dlc = read DLC w₁;
@@ -86,12 +81,12 @@ module _ (sending : Bool) (w₀ w₁ : ℕ) (p : List ℕ) (hl : length_in sendi
   }
 
   -- bytes with these words, this timestamp and this payload
-  read_as_lem : (stamped : Bool) (b : List ℕ) (s : Stamp) → le_at b 0 ≡ w₀ → le_at b 4 ≡ w₁ → (if stamped then Stamp.At (le_at b 8) else Stamp.None) ≡ s
+  read_as_lem : (stamped : Bool) (b : List ℕ) (s : Option ℕ) → le_at b 0 ≡ w₀ → le_at b 4 ≡ w₁ → (if stamped then Some (le_at b 8) else None) ≡ s
       → take (length p) (drop (body_at stamped) b) ≡ p → body_at stamped + length p ≤ length b → decoding sending stamped b ≡ holds (result s)
   unfolding decoding message_in
   read_as_lem stamped b s f₀ f₁ fs fp long =
       let first : ltb (length b) (body_at stamped) ≡ false = le-ltb (length b) (body_at stamped) (omega arith) in
-      let len : length_in sending (flag FDF (le_at b 4)) (read DLC (le_at b 4)) ≡ Length.Is (length p) = ap (λ (w : ℕ). length_in sending (flag FDF w) (read DLC w)) f₁ ∙ hl in
+      let len : length_in sending (flag FDF (le_at b 4)) (read DLC (le_at b 4)) ≡ Some (length p) = ap (λ (w : ℕ). length_in sending (flag FDF w) (read DLC w)) f₁ ∙ hl in
       let second : leb (body_at stamped + length p) (length b) ≡ true = le-leb (body_at stamped + length p) (length b) long in
       rw (first, len, second, f₀, f₁, fs, fp)
 
@@ -103,42 +98,42 @@ module _ (sending : Bool) (w₀ w₁ : ℕ) (p : List ℕ) (hl : length_in sendi
   enough r = simp (length-append, padded_length) (omega arith)
 
   module _ (h₀ : w₀ < 2 ^ 32) (h₁ : w₁ < 2 ^ 32) (r : List ℕ) where
-    with_stamp : (t : ℕ) → t < 2 ^ 32 → decoding sending true (object_bytes w₀ w₁ (Stamp.At t) p ++ r) ≡ holds (result (Stamp.At t))
+    with_stamp : (t : ℕ) → t < 2 ^ 32 → decoding sending true (object_bytes w₀ w₁ (Some t) p ++ r) ≡ holds (result (Some t))
     unfolding object_bytes le_bytes
     with_stamp t h =
-        let b : List ℕ = object_bytes w₀ w₁ (Stamp.At t) p ++ r in
-        read_as_lem true b (Stamp.At t) (le_back w₀ (drop 4 b) h₀) (le_drop b 4 ∙ le_back w₁ (drop 8 b) h₁)
-        (ap Stamp.At (le_drop b 8 ∙ le_back t (drop 12 b) h)) (front r) (omega (arith, enough r))
+        let b : List ℕ = object_bytes w₀ w₁ (Some t) p ++ r in
+        read_as_lem true b (Some t) (le_back w₀ (drop 4 b) h₀) (le_drop b 4 ∙ le_back w₁ (drop 8 b) h₁)
+        (ap Some (le_drop b 8 ∙ le_back t (drop 12 b) h)) (front r) (omega (arith, enough r))
 
-    without : decoding sending false (object_bytes w₀ w₁ Stamp.None p ++ r) ≡ holds (result Stamp.None)
+    without : decoding sending false (object_bytes w₀ w₁ None p ++ r) ≡ holds (result None)
     unfolding object_bytes le_bytes
     without =
-        let b : List ℕ = object_bytes w₀ w₁ Stamp.None p ++ r in
-        read_as_lem false b Stamp.None (le_back w₀ (drop 4 b) h₀) (le_drop b 4 ∙ le_back w₁ (drop 8 b) h₁) refl (front r) (omega (arith, enough r))
+        let b : List ℕ = object_bytes w₀ w₁ None p ++ r in
+        read_as_lem false b None (le_back w₀ (drop 4 b) h₀) (le_drop b 4 ∙ le_back w₁ (drop 8 b) h₁) refl (front r) (omega (arith, enough r))
 
-    by_stamp : (stamped : Bool) (s : Stamp) → Stamped stamped s → decoding sending stamped (object_bytes w₀ w₁ s p ++ r) ≡ holds (result s)
-    by_stamp true (Stamp.At t) h = with_stamp t h
-    by_stamp true Stamp.None h = absurd h
-    by_stamp false (Stamp.At t) h = absurd h
-    by_stamp false Stamp.None h = without
+    by_stamp : (stamped : Bool) (s : Option ℕ) → Stamped stamped s → decoding sending stamped (object_bytes w₀ w₁ s p ++ r) ≡ holds (result s)
+    by_stamp true (Some t) h = with_stamp t h
+    by_stamp true None h = absurd h
+    by_stamp false (Some t) h = absurd h
+    by_stamp false None h = without
 
 -- every field comes back where the second word says the header, the filter and SEQ
 returns : (sending stamped : Bool) (m : Message) (w : ℕ) (r : List ℕ) → m.header.id ≤ top_id m.header.extended
-    → length_in sending m.header.fdf m.dlc ≡ Length.Is (length m.payload)
+    → length_in sending m.header.fdf m.dlc ≡ Some (length m.payload)
     → Second m.header m.dlc w → (if sending then 0 else read FILHIT w) ≡ m.filter → (if sending then read SEQ w else 0) ≡ m.seq → Stamped stamped m.stamp
     → decoding sending stamped (object_bytes (word0 m.header) w m.stamp m.payload ++ r) ≡ holds m
 returns sending stamped m w r id long k ft sq st =
     let h : Header = m.header in
-    let len : length_in sending (flag FDF w) (read DLC w) ≡ Length.Is (length m.payload) = ap₂ (length_in sending) k.fdf_is k.dlc_is ∙ long in
+    let len : length_in sending (flag FDF w) (read DLC w) ≡ Some (length m.payload) = ap₂ (length_in sending) k.fdf_is k.dlc_is ∙ long in
     let hd : header_of (word0 h) w ≡ h = k.header_is id in
     by_stamp sending (word0 h) w m.payload len (word0_lt h id) k.small r stamped m.stamp st
     ∙ (λ i. holds (record { header = hd i; dlc = k.dlc_is i; filter = ft i; seq = sq i; stamp = m.stamp; payload = m.payload }))
 
 -- the DLC of a payload's length means that length, to send and on reception
-means : (sending fdf : Bool) (n d : ℕ) → dlc_of fdf n ≡ Dlc.Is d → length_in sending fdf d ≡ Length.Is n
+means : (sending fdf : Bool) (n d : ℕ) → dlc_of fdf n ≡ Some d → length_in sending fdf d ≡ Some n
 unfolding length_in
 means true fdf n d e = length_back fdf n d e
-means false fdf n d e = ap Length.Is (received_sent fdf n d (length_back fdf n d e))
+means false fdf n d e = ap Some (received_sent fdf n d (length_back fdf n d e))
 
 -- where there is no SEQ there is no filter
 no_filter : (w : ℕ) → w < 2 ^ 32 → read SEQ w ≡ 0 → read FILHIT w ≡ 0
@@ -155,7 +150,7 @@ round_trip_lem sending stamped h seq stamp p bs r e s =
     let c = is_coded m bs e in
     let g = sound h seq (length p) c.dlc c.checked in
     let own : m.dlc ≡ c.dlc = ap code_or0 g.dlc in
-    let is : dlc_of h.fdf (length p) ≡ Dlc.Is m.dlc = g.dlc ∙ ap Dlc.Is (sym own) in
+    let is : dlc_of h.fdf (length p) ≡ Some m.dlc = g.dlc ∙ ap Some (sym own) in
     let small = dlc_16 h.fdf (length p) m.dlc is in
     let w : ℕ = word1 h seq m.dlc in
     let k = word1_says h m.dlc small seq g.seq_fits in
@@ -169,7 +164,7 @@ unfolding arriving length_in
 arrival_trip_lem stamped m r e s =
     let g = fitting m.header m.dlc (length m.payload) e in
     let small : m.dlc < 16 = omega (arith, g.dlc_fits) in
-    returns false stamped m (received1 m.header m.dlc m.filter) r g.id (ap Length.Is g.meant)
+    returns false stamped m (received1 m.header m.dlc m.filter) r g.id (ap Some g.meant)
     (received1_says m.header m.dlc small m.filter s.filter) (hit_field m.header m.dlc small m.filter s.filter) s.seq s.stamp
 
 pub arrival_filter_lem : ArrivalFilter
@@ -183,7 +178,7 @@ arrival_filter_lem h dlc hit stamp payload r small l =
 -- what bytes that hold a message are like
 pub record Held (sending stamped : Bool) (b : List ℕ) (m : Message) : Type 0 where
   pub long : ℕ
-  pub length_is : length_in sending (flag FDF (le_at b 4)) (read DLC (le_at b 4)) ≡ Length.Is long
+  pub length_is : length_in sending (flag FDF (le_at b 4)) (read DLC (le_at b 4)) ≡ Some long
   pub fits : body_at stamped + long ≤ length b
   pub message : message_in sending stamped long b ≡ m
 
@@ -194,15 +189,15 @@ is_held sending stamped b m =
     (λ t e. let z : ◌≡◌ {A = ℕ} 0 1 = cc in absurd (omega arith))
     (λ t. go (length_in sending (flag FDF (le_at b 4)) (read DLC (le_at b 4))) refl)
   where
-    go : (l : Length) → length_in sending (flag FDF (le_at b 4)) (read DLC (le_at b 4)) ≡ l → by_length l sending stamped b ≡ holds m → Held sending stamped b m
-    go (Length.Is n) f =
+    go : (l : Option ℕ) → length_in sending (flag FDF (le_at b 4)) (read DLC (le_at b 4)) ≡ l → by_length l sending stamped b ≡ holds m → Held sending stamped b m
+    go (Some n) f =
         by_if (λ (x : Decoding). x ≡ holds m → Held sending stamped b m) (leb (body_at stamped + n) (length b))
         (λ t e. record { long = n; length_is = f; fits = leb-true (body_at stamped + n) (length b) t; message = cc })
         (λ t e. let z : ◌≡◌ {A = ℕ} 0 1 = cc in absurd (omega arith))
-    go Length.Bad f = λ e. let z : ◌≡◌ {A = ℕ} 0 1 = cc in absurd (omega arith)
+    go None f = λ e. let z : ◌≡◌ {A = ℕ} 0 1 = cc in absurd (omega arith)
 
 -- a message that meets no refusal
-pub accepted : (h : Header) (seq n d : ℕ) → h.id ≤ top_id h.extended → seq < 2 ^ 23 → dlc_of h.fdf n ≡ Dlc.Is d → check_of h seq n ≡ Checked.Dlc d
+pub accepted : (h : Header) (seq n d : ℕ) → h.id ≤ top_id h.extended → seq < 2 ^ 23 → dlc_of h.fdf n ≡ Some d → check_of h seq n ≡ Ok d
 unfolding check_of
 accepted h seq n d i s e = rw (le-ltb (top_id h.extended) h.id i, lt-leb (2 ^ 23) seq s, e)
 
@@ -224,19 +219,19 @@ arrival_refuses_lem h dlc n = record {
   none = λ i d f. rw (le-ltb (top_id h.extended) h.id i, le-ltb 15 dlc d, eq-eqb (received_length h.fdf dlc) n f);
 }
   where
-    either : (x : Bool) → done_numbers (if x then Done.Bad Refusal.BadPayload else Done.Bad Refusal.BadPayload) ≡ 22 ∷ []
+    either : (x : Bool) → done_numbers (if x then Err Refusal.BadPayload else Err Refusal.BadPayload) ≡ 22 ∷ []
     either true = refl
     either false = refl
 
 -- one to send, and one received, are written as their meaningful bytes
 written : (sending stamped : Bool) (b : List ℕ) (n : ℕ) → body_at stamped + n ≤ length b
-    → length_in sending (flag FDF (le_at b 4)) (read DLC (le_at b 4)) ≡ Length.Is n
+    → length_in sending (flag FDF (le_at b 4)) (read DLC (le_at b 4)) ≡ Some n
     → written_as sending (message_in sending stamped n b) ≡ object (meaningful sending stamped n b)
 unfolding encoding arriving message_in length_in
 written true stamped b n fits len =
     let w₀ : ℕ = le_at b 0 in
     let w₁ : ℕ = le_at b 4 in
-    let c : check_of (header_of w₀ w₁) (read SEQ w₁) (length (take n (drop (body_at stamped) b))) ≡ Checked.Dlc (read DLC w₁)
+    let c : check_of (header_of w₀ w₁) (read SEQ w₁) (length (take n (drop (body_at stamped) b))) ≡ Ok (read DLC w₁)
     = ap (check_of (header_of w₀ w₁) (read SEQ w₁)) (cut true stamped b n fits)
     ∙ accepted (header_of w₀ w₁) _ n (read DLC w₁) (header_small w₀ w₁) (field_lt w₁ 9 23) (ap (λ (f : Bool). dlc_of f n) (header_fdf w₀ w₁) ∙ dlc_back (flag FDF w₁) n (read DLC w₁) len) in
     rw (c, word0_again w₀ w₁, word1_again w₀ w₁)
@@ -244,7 +239,7 @@ written false stamped b n fits len =
     let w₀ : ℕ = le_at b 0 in
     let w₁ : ℕ = le_at b 4 in
     let meant : received_length (flag FDF w₁) (read DLC w₁) ≡ n = cc in
-    let c : arrival_check (header_of w₀ w₁) (read DLC w₁) (length (take n (drop (body_at stamped) b))) ≡ Done.Good
+    let c : arrival_check (header_of w₀ w₁) (read DLC w₁) (length (take n (drop (body_at stamped) b))) ≡ Ok tt
     = (arrival_refuses_lem (header_of w₀ w₁) (read DLC w₁) _).none (header_small w₀ w₁) (omega (arith, field_lt w₁ 0 4))
     (ap (λ (f : Bool). received_length f (read DLC w₁)) (header_fdf w₀ w₁) ∙ meant ∙ sym (cut false stamped b n fits)) in
     rw (c, word0_again w₀ w₁, received1_again w₀ w₁)
@@ -269,15 +264,15 @@ refuses m = record {
 }
 
 -- which DLC means no length
-no_length : (fdf : Bool) (d : ℕ) → d < 16 → length_of fdf d ≡ Length.Bad → (fdf ≡ false) × (8 < d)
+no_length : (fdf : Bool) (d : ℕ) → d < 16 → length_of fdf d ≡ None → (fdf ≡ false) × (8 < d)
 unfolding length_of
 no_length true d h = rw (lt-ltb d 16 h) (λ e. let z : ◌≡◌ {A = ℕ} 0 1 = cc in absurd (omega arith))
 no_length false d h =
-    by_if (λ (l : Length). l ≡ Length.Bad → (false ≡ false) × (8 < d)) (ltb d 9)
+    by_if (λ (l : Option ℕ). l ≡ None → (false ≡ false) × (8 < d)) (ltb d 9)
     (λ t e. let z : ◌≡◌ {A = ℕ} 0 1 = cc in absurd (omega arith))
     (λ t e. (refl, omega (arith, ltb-false d 9 t)))
 
-classic_long : (fdf : Bool) (d : ℕ) → fdf ≡ false → 8 < d → length_of fdf d ≡ Length.Bad
+classic_long : (fdf : Bool) (d : ℕ) → fdf ≡ false → 8 < d → length_of fdf d ≡ None
 unfolding length_of
 classic_long fdf d e h = rw (e, le-ltb d 9 h)
 
@@ -290,12 +285,12 @@ no_frame_iff_lem stamped b h =
       λ e. rw (classic_long (flag FDF w) (read DLC w) e.0 e.1),
     )
   where
-    only : (l : Length) → by_length l true stamped b ≡ no_frame → l ≡ Length.Bad
-    only (Length.Is n) =
-        by_if (λ (x : Decoding). x ≡ no_frame → Length.Is n ≡ Length.Bad) (leb (body_at stamped + n) (length b))
+    only : (l : Option ℕ) → by_length l true stamped b ≡ no_frame → l ≡ None
+    only (Some n) =
+        by_if (λ (x : Decoding). x ≡ no_frame → Some n ≡ None) (leb (body_at stamped + n) (length b))
         (λ t e. let z : ◌≡◌ {A = ℕ} 0 1 = cc in absurd (omega arith))
         (λ t e. let z : ◌≡◌ {A = ℕ} 0 1 = cc in absurd (omega arith))
-    only Length.Bad = λ e. refl
+    only None = λ e. refl
 
 -- ---- the DLC
 
@@ -311,7 +306,7 @@ classic_dlc_lem m bs r f e =
     let is : read DLC (le_at (bs ++ r) 4) ≡ c.dlc = ap (λ (l : List ℕ). read DLC (le_at (l ++ r) 4)) (sym c.bytes) ∙ ap (read DLC) w ∙ k.dlc_is in
     omega (arith, is, low m.header.fdf (length m.payload) c.dlc f g.dlc)
   where
-    low : (fdf : Bool) (n d : ℕ) → fdf ≡ false → dlc_of fdf n ≡ Dlc.Is d → d ≤ 8
+    low : (fdf : Bool) (n d : ℕ) → fdf ≡ false → dlc_of fdf n ≡ Some d → d ≤ 8
     low true n d f e = absurd (false≢true (sym f))
     low false n d f e = omega (arith, dlc_lt false n d e)
 

@@ -1,12 +1,10 @@
 -- What is proved of messages and objects, as statements.
 -- Assumes nothing.
-use Rattle.std.specs.Prelude.{ℕ, ◌+◌, ◌^◌, ◌≤◌, ◌<◌, ◌≡◌, ◌↔◌, Bool, true, false, List, [], ◌∷◌, ◌++◌, length, take, drop, if◌then◌else◌}
+use Rattle.spi.specs.declared.refusal.Refusal.{Refusal}
+use Rattle.std.specs.Prelude.{ℕ, ◌+◌, ◌^◌, ◌≤◌, ◌<◌, ◌≡◌, ◌↔◌, Bool, true, false, List, [], ◌∷◌, ◌++◌, length, take, drop, if◌then◌else◌, Option, Some, None, Result, Ok, Err}
 use Rattle.field.specs.Field.{read, flag}
 use Rattle.words.specs.Words.{le_at, round_up}
-use Rattle.header.specs.declared.dlc.Dlc.{Dlc}
 use Rattle.header.specs.declared.Header.{Header}
-use Rattle.message.specs.declared.object.Stamp.{Stamp}
-use Rattle.spi.specs.declared.refusal.Done.{Done}
 use Rattle.spi.specs.Refusals.{done_numbers}
 use Rattle.header.specs.Dlc.{dlc_of, received_length}
 use Rattle.header.specs.Header.{DLC, IDE, FDF, FILHIT, top_id, meaning0, meaning1}
@@ -15,11 +13,11 @@ use Rattle.message.specs.Message.{Message, to_write, Encoding, refused, object, 
 use Rattle.message.specs.Numbers.{encoding_numbers}
 
 -- a timestamp is a word, and is there exactly where RXTSEN is 1
-abbrev pub Stamped : Bool → Stamp → Type 0
-Stamped true (Stamp.At t) = t < 2 ^ 32
-Stamped true Stamp.None = ⊥
-Stamped false (Stamp.At t) = ⊥
-Stamped false Stamp.None = Unit {0}
+abbrev pub Stamped : Bool → Option ℕ → Type 0
+Stamped true (Some t) = t < 2 ^ 32
+Stamped true None = ⊥
+Stamped false (Some t) = ⊥
+Stamped false None = Unit {0}
 
 -- no filter in a message to send; one of the 32 in one received
 abbrev pub Filtered : (sending : Bool) → ℕ → Type 0
@@ -35,32 +33,32 @@ pub record Suits (sending stamped : Bool) (m : Message) : Type 0 where
 -- every field of a message to write comes back from the object, whatever bytes stand behind it
 abbrev pub RoundTrip : Type 0
 RoundTrip =
-    (sending stamped : Bool) (header : Header) (seq : ℕ) (stamp : Stamp) (payload bs r : List ℕ)
+    (sending stamped : Bool) (header : Header) (seq : ℕ) (stamp : Option ℕ) (payload bs r : List ℕ)
     → let m = to_write header seq stamp payload in
     encoding m ≡ object bs → Suits sending stamped m → decoding sending stamped (bs ++ r) ≡ holds m
 
 -- so it does from the object of a frame that arrived: the DLC is the one that it brought, the filter the one that took it
 abbrev pub ArrivalTrip : Type 0
 ArrivalTrip =
-    (stamped : Bool) (m : Message) (r : List ℕ) → arrival_check m.header m.dlc (length m.payload) ≡ Done.Good
+    (stamped : Bool) (m : Message) (r : List ℕ) → arrival_check m.header m.dlc (length m.payload) ≡ Ok tt
     → Suits false stamped m → decoding false stamped (arriving m.header m.dlc m.filter m.stamp m.payload ++ r) ≡ holds m
 
 -- and FILHIT of its word 1 is that filter's number
 abbrev pub ArrivalFilter : Type 0
 ArrivalFilter =
-    (h : Header) (dlc hit : ℕ) (stamp : Stamp) (payload r : List ℕ) → dlc < 16 → hit < 32
+    (h : Header) (dlc hit : ℕ) (stamp : Option ℕ) (payload r : List ℕ) → dlc < 16 → hit < 32
     → read FILHIT (le_at (arriving h dlc hit stamp payload ++ r) 4) ≡ hit
 
 -- the object with a payload of n bytes that bytes hold: 0 for every bit without a meaning, and nothing behind it
 abbrev pub meaningful : (sending stamped : Bool) → ℕ → List ℕ → List ℕ
 meaningful sending stamped n b =
     object_bytes (meaning0 (flag IDE (le_at b 4)) (le_at b 0)) (meaning1 sending (le_at b 4))
-    (if stamped then Stamp.At (le_at b 8) else Stamp.None) (take n (drop (body_at stamped) b))
+    (if stamped then Some (le_at b 8) else None) (take n (drop (body_at stamped) b))
 
 -- what a message received is written as, by its check: the object of a frame that its filter took
-abbrev pub arrived : Done → Message → Encoding
-arrived Done.Good m = object (arriving m.header m.dlc m.filter m.stamp m.payload)
-arrived (Done.Bad r) m = refused r
+abbrev pub arrived : Result (Unit {0}) Refusal → Message → Encoding
+arrived (Ok _) m = object (arriving m.header m.dlc m.filter m.stamp m.payload)
+arrived (Err r) m = refused r
 
 -- what a message is written as, one to send or one received
 abbrev pub written_as : (sending : Bool) → Message → Encoding
@@ -82,10 +80,10 @@ pub record RefusedFor (m : Message) : Type 0 where
   pub identifier : top_id m.header.extended < m.header.id → encoding_numbers (encoding m) ≡ 21 ∷ []
   pub setting : m.header.id ≤ top_id m.header.extended → 2 ^ 23 ≤ m.seq → encoding_numbers (encoding m) ≡ 24 ∷ []
   pub payload :
-      m.header.id ≤ top_id m.header.extended → m.seq < 2 ^ 23 → dlc_of m.header.fdf (length m.payload) ≡ Dlc.Bad
+      m.header.id ≤ top_id m.header.extended → m.seq < 2 ^ 23 → dlc_of m.header.fdf (length m.payload) ≡ None
       → encoding_numbers (encoding m) ≡ 22 ∷ []
   pub none :
-      (d : ℕ) → m.header.id ≤ top_id m.header.extended → m.seq < 2 ^ 23 → dlc_of m.header.fdf (length m.payload) ≡ Dlc.Is d
+      (d : ℕ) → m.header.id ≤ top_id m.header.extended → m.seq < 2 ^ 23 → dlc_of m.header.fdf (length m.payload) ≡ Some d
       → (bs : List ℕ) × (encoding m ≡ object bs)
 
 abbrev pub Refuses : Type 0
@@ -96,7 +94,7 @@ pub record ArrivalRefusedFor (h : Header) (dlc n : ℕ) : Type 0 where
   pub identifier : top_id h.extended < h.id → done_numbers (arrival_check h dlc n) ≡ 21 ∷ []
   pub dlc_above : h.id ≤ top_id h.extended → 15 < dlc → done_numbers (arrival_check h dlc n) ≡ 22 ∷ []
   pub other_length : h.id ≤ top_id h.extended → (received_length h.fdf dlc ≡ n → ⊥) → done_numbers (arrival_check h dlc n) ≡ 22 ∷ []
-  pub none : h.id ≤ top_id h.extended → dlc ≤ 15 → received_length h.fdf dlc ≡ n → arrival_check h dlc n ≡ Done.Good
+  pub none : h.id ≤ top_id h.extended → dlc ≤ 15 → received_length h.fdf dlc ≡ n → arrival_check h dlc n ≡ Ok tt
 
 abbrev pub ArrivalRefuses : Type 0
 ArrivalRefuses = (h : Header) (dlc n : ℕ) → ArrivalRefusedFor h dlc n

@@ -1,15 +1,10 @@
 -- Messages: what is sent and received, the object that one is written as, and the one that an object's bytes hold.
 -- Assumes nothing.
-use Rattle.std.specs.Prelude.{ℕ, ◌+◌, ◌^◌, Bool, true, false, List, length, take, drop, ltb, leb, eqb, if◌then◌else◌}
+use Rattle.std.specs.Prelude.{ℕ, ◌+◌, ◌^◌, Bool, true, false, List, length, take, drop, ltb, leb, eqb, if◌then◌else◌, Option, Some, None, Result, Ok, Err}
 use Rattle.field.specs.Field.{read, flag}
 use Rattle.words.specs.Words.{le_at}
 use Rattle.spi.specs.declared.refusal.Refusal.{Refusal}
-use Rattle.spi.specs.declared.refusal.Done.{Done}
-use Rattle.header.specs.declared.dlc.Dlc.{Dlc}
-use Rattle.header.specs.declared.dlc.Length.{Length}
 use Rattle.header.specs.declared.Header.{Header}
-use Rattle.message.specs.declared.object.Stamp.{Stamp}
-use Rattle.message.specs.declared.tx.Checked.{Checked}
 use Rattle.header.specs.Dlc.{dlc_of, length_of, received_length, code_or0}
 use Rattle.header.specs.Header.{DLC, FDF, SEQ, FILHIT, top_id, word0, word1, received1, header_of}
 use Rattle.message.specs.Object.{object_bytes}
@@ -21,26 +16,26 @@ pub record Message : Type 0 where
   pub dlc : ℕ
   pub filter : ℕ
   pub seq : ℕ
-  pub stamp : Stamp
+  pub stamp : Option ℕ
   pub payload : List ℕ
 
 -- ---- from a message to its object
 
 -- a message to write, with the DLC that its payload's length has, 0 where there is none
-abbrev pub to_write : Header → ℕ → Stamp → List ℕ → Message
+abbrev pub to_write : Header → ℕ → Option ℕ → List ℕ → Message
 to_write header seq stamp payload =
     record { header = header; dlc = code_or0 (dlc_of header.fdf (length payload)); filter = 0; seq = seq; stamp = stamp; payload = payload }
 
 -- a payload's length that has no DLC is refused 22
-abbrev pub by_dlc : Dlc → Checked
-by_dlc (Dlc.Is d) = Checked.Dlc d
-by_dlc Dlc.Bad = Checked.Bad Refusal.BadPayload
+abbrev pub by_dlc : Option ℕ → Result ℕ Refusal
+by_dlc (Some d) = Ok d
+by_dlc None = Err Refusal.BadPayload
 
 -- the DLC of a message whose payload has n bytes, or its refusal: 21, then 24 for SEQ, then 22
-unfoldable pub check_of : Header → (seq n : ℕ) → Checked
+unfoldable pub check_of : Header → (seq n : ℕ) → Result ℕ Refusal
 check_of h seq n =
-    if ltb (top_id h.extended) h.id then Checked.Bad Refusal.BadIdentifier
-    else if leb (2 ^ 23) seq then Checked.Bad Refusal.BadSetting
+    if ltb (top_id h.extended) h.id then Err Refusal.BadIdentifier
+    else if leb (2 ^ 23) seq then Err Refusal.BadSetting
     else by_dlc (dlc_of h.fdf n)
 
 -- what a message is written as: the bytes of its object, or a refusal
@@ -48,9 +43,9 @@ pub data Encoding : Type 0 where
   refused : Refusal → Encoding
   object : List ℕ → Encoding
 
-abbrev pub coded : Checked → Message → Encoding
-coded (Checked.Dlc d) m = object (object_bytes (word0 m.header) (word1 m.header m.seq d) m.stamp m.payload)
-coded (Checked.Bad r) m = refused r
+abbrev pub coded : Result ℕ Refusal → Message → Encoding
+coded (Ok d) m = object (object_bytes (word0 m.header) (word1 m.header m.seq d) m.stamp m.payload)
+coded (Err r) m = refused r
 
 -- the object of a message that meets no refusal
 unfoldable pub encoding : Message → Encoding
@@ -59,15 +54,15 @@ encoding m = coded (check_of m.header m.seq (length m.payload)) m
 -- ---- from a frame that arrives to its object
 
 -- what a frame with a payload of n bytes is refused for: 21, then 22 for a DLC above 15 or one that means another length
-unfoldable pub arrival_check : Header → (dlc n : ℕ) → Done
+unfoldable pub arrival_check : Header → (dlc n : ℕ) → Result (Unit {0}) Refusal
 arrival_check h dlc n =
-    if ltb (top_id h.extended) h.id then Done.Bad Refusal.BadIdentifier
-    else if ltb 15 dlc then Done.Bad Refusal.BadPayload
-    else if eqb (received_length h.fdf dlc) n then Done.Good
-    else Done.Bad Refusal.BadPayload
+    if ltb (top_id h.extended) h.id then Err Refusal.BadIdentifier
+    else if ltb 15 dlc then Err Refusal.BadPayload
+    else if eqb (received_length h.fdf dlc) n then Ok tt
+    else Err Refusal.BadPayload
 
 -- the object of a frame that a filter took
-unfoldable pub arriving : Header → (dlc hit : ℕ) → Stamp → List ℕ → List ℕ
+unfoldable pub arriving : Header → (dlc hit : ℕ) → Option ℕ → List ℕ → List ℕ
 arriving h dlc hit stamp payload = object_bytes (word0 h) (received1 h dlc hit) stamp payload
 
 -- ---- from an object's bytes to its message
@@ -89,20 +84,20 @@ message_in sending stamped n b = record {
   dlc = read DLC (le_at b 4);
   filter = if sending then 0 else read FILHIT (le_at b 4);
   seq = if sending then read SEQ (le_at b 4) else 0;
-  stamp = if stamped then Stamp.At (le_at b 8) else Stamp.None;
+  stamp = if stamped then Some (le_at b 8) else None;
   payload = take n (drop (body_at stamped) b);
 }
 
 -- how long a payload is: a classic frame to send with a DLC above 8 has no length, and one received has 8 bytes
-unfoldable pub length_in : (sending fdf : Bool) → ℕ → Length
+unfoldable pub length_in : (sending fdf : Bool) → ℕ → Option ℕ
 length_in true fdf d = length_of fdf d
-length_in false fdf d = Length.Is (received_length fdf d)
+length_in false fdf d = Some (received_length fdf d)
 
 -- bytes with a payload of such a length; without a length they are no frame
-abbrev pub by_length : Length → (sending stamped : Bool) → List ℕ → Decoding
-by_length (Length.Is n) sending stamped b =
+abbrev pub by_length : Option ℕ → (sending stamped : Bool) → List ℕ → Decoding
+by_length (Some n) sending stamped b =
     if leb (body_at stamped + n) (length b) then holds (message_in sending stamped n b) else short
-by_length Length.Bad sending stamped b = no_frame
+by_length None sending stamped b = no_frame
 
 -- an object to send or received, its bytes followed by any others: the payload's length goes by the DLC, also where RTR is 1
 unfoldable pub decoding : (sending stamped : Bool) → List ℕ → Decoding

@@ -1,14 +1,11 @@
 -- Messages in the code's structs: bytes at the front of arrays that are 0 behind.
 -- Assumes nothing.
-use Rattle.std.specs.Prelude.{ℕ, false, List, [], length}
+use Rattle.spi.specs.declared.refusal.Refusal.{Refusal}
+use Rattle.std.specs.Prelude.{ℕ, List, [], length, Result, Ok, Err}
 use Rattle.parts.specs.Parts.{zeroed}
-use Rattle.spi.specs.declared.refusal.Done.{Done}
-use Rattle.message.specs.declared.object.Stamp.{Stamp}
 use Rattle.message.specs.declared.rx.Payload.{Payload}
 use Rattle.message.specs.declared.rx.Frame.{Frame}
-use Rattle.message.specs.declared.rx.Reading.{Reading}
-use Rattle.message.specs.declared.rx.Decoded.{Decoded}
-use Rattle.message.specs.declared.tx.Written.{Written}
+use Rattle.message.specs.declared.rx.Undecoded.{Undecoded}
 use Rattle.message.specs.Message.{Message, Encoding, refused, object, Decoding, holds, no_frame, short}
 
 -- an object's bytes, the first `len` of an array
@@ -18,7 +15,7 @@ pub record Object : Type 0 where
 
 -- an object, or why there is none
 pub record Encoded : Type 0 where
-  pub done : Done
+  pub done : Result (Unit {0}) Refusal
   pub object : Object
 
 -- bytes in an object's array
@@ -26,12 +23,13 @@ abbrev pub object_in : List ℕ → Object
 object_in bs = record { bytes = zeroed 76 bs; len = length bs }
 
 abbrev pub encoded_as : Encoding → Encoded
-encoded_as (refused r) = record { done = Done.Bad r; object = object_in [] }
-encoded_as (object bs) = record { done = Done.Good; object = object_in bs }
+encoded_as (refused r) = record { done = Err r; object = object_in [] }
+encoded_as (object bs) = record { done = Ok tt; object = object_in bs }
 
 -- an object whose bytes are lent
-abbrev pub encoded_in : Written → List ℕ → Encoded
-encoded_in r bytes = record { done = r.done; object = record { bytes = bytes; len = r.len } }
+abbrev pub encoded_in : Result ℕ Refusal → List ℕ → Encoded
+encoded_in (Err r) bytes = record { done = Err r; object = record { bytes = bytes; len = 0 } }
+encoded_in (Ok n) bytes = record { done = Ok tt; object = record { bytes = bytes; len = n } }
 
 -- bytes in a payload's array
 abbrev pub payload_in : List ℕ → Payload
@@ -40,18 +38,7 @@ payload_in bs = record { bytes = zeroed 64 bs; len = length bs }
 abbrev pub frame_of : Message → Frame
 frame_of m = record { header = m.header; dlc = m.dlc; filter = m.filter; seq = m.seq; stamp = m.stamp; payload = payload_in m.payload }
 
--- what stands in a frame where there is none
-abbrev pub blank : Message
-blank = record {
-  header = record { extended = false; id = 0; rtr = false; brs = false; fdf = false; esi = false };
-  dlc = 0;
-  filter = 0;
-  seq = 0;
-  stamp = Stamp.None;
-  payload = [];
-}
-
-abbrev pub decoded_as : Decoding → Decoded
-decoded_as (holds m) = record { reading = Reading.Whole; frame = frame_of m }
-decoded_as no_frame = record { reading = Reading.NoFrame; frame = frame_of blank }
-decoded_as short = record { reading = Reading.Short; frame = frame_of blank }
+abbrev pub decoded_as : Decoding → Result Frame Undecoded
+decoded_as (holds m) = Ok (frame_of m)
+decoded_as no_frame = Err Undecoded.NoFrame
+decoded_as short = Err Undecoded.Short

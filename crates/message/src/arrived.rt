@@ -5,25 +5,25 @@ ghost use Rattle.header.specs.Header.{DLC, FILHIT, top_id};
 ghost use Rattle.message.specs.Message.{arrival_check, arriving};
 ghost use Rattle.message.specs.Structs.{object_in};
 
-use crate::{Stamp, object, tx};
+use crate::{object, tx};
 use header::{Header, first_word, received_len, received_word};
-use spi::{Done, Refusal};
+use spi::Refusal;
 
 // What a frame with a payload of n bytes is refused for.
 #[tactic(auto, unfolding(crate::specs::Message::arrival_check))]
-pub fn check_arrival(h: Header, dlc: u32, n: usize) -> Done
+pub fn check_arrival(h: Header, dlc: u32, n: usize) -> Result<(), Refusal>
     ensures { result ≡ arrival_check h dlc n }
 {
     if tx::top_id(h.extended) < h.id {
-        return Done::Bad(Refusal::BadIdentifier);
+        return Err(Refusal::BadIdentifier);
     }
     if 15 < dlc {
-        return Done::Bad(Refusal::BadPayload);
+        return Err(Refusal::BadPayload);
     }
     if received_len(dlc as usize, h.fdf) == n {
-        Done::Good
+        Ok(())
     } else {
-        Done::Bad(Refusal::BadPayload)
+        Err(Refusal::BadPayload)
     }
 }
 
@@ -32,7 +32,7 @@ pub fn arrive(
     header: Header,
     dlc: u32,
     hit: u32,
-    stamp: Stamp,
+    stamp: Option<u32>,
     payload: &[u8],
     body: &mut [u8; 76],
 ) -> usize

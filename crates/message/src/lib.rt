@@ -7,6 +7,6 @@ mod rx;
 mod tx;
 
 pub use arrived::{arrive, check_arrival};
-pub use object::{Stamp, clear};
-pub use rx::{Decoded, Frame, Payload, Reading, decode};
-pub use tx::{Checked, Written, encode};
+pub use object::clear;
+pub use rx::{Frame, Payload, Undecoded, decode};
+pub use tx::encode;

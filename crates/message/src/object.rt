@@ -4,13 +4,6 @@ ghost use Rattle.parts.specs.Parts.{put, zeroed};
 ghost use Rattle.message.specs.Object.{stamp_bytes, object_bytes};
 ghost use Rattle.message.specs.Structs.{object_in};
 
-// A received message's timestamp.
-#[derive(Clone, Copy)]
-pub enum Stamp {
-    At(u32),
-    None,
-}
-
 // No object.
 pub fn clear(body: &mut [u8; 76])
     ensures { body.new ≡ zeroed 76 [] }
@@ -21,21 +14,21 @@ pub fn clear(body: &mut [u8; 76])
 
 // A timestamp, where there is one, behind two words; where the payload goes.
 #[tactic(auto, using(words::proofs::Laws::le_length, crate::proofs::Objects::put_nothing))]
-fn put_stamp(stamp: Stamp, body: &mut [u8; 76]) -> usize
+fn put_stamp(stamp: Option<u32>, body: &mut [u8; 76]) -> usize
     ensures { (result ≡ 8 + length (stamp_bytes stamp)) × (result ≤ 12) × (body.new ≡ put body.old 8 (stamp_bytes stamp)) }
 {
     match stamp {
-        Stamp::At(t) => {
+        Some(t) => {
             let b = words::le_bytes(t);
             parts::put_at(body, 8, &b);
             12
         }
-        Stamp::None => 8,
+        None => 8,
     }
 }
 
 // The object's bytes, and its length. The zeros behind the payload are there already.
-pub fn put_object(a: u32, b: u32, stamp: Stamp, p: &[u8], body: &mut [u8; 76]) -> usize
+pub fn put_object(a: u32, b: u32, stamp: Option<u32>, p: &[u8], body: &mut [u8; 76]) -> usize
     requires { length p.now ≤ 64 }
     ensures { record { bytes = body.new; len = result } ≡ object_in (object_bytes a b stamp p.now) }
 {

@@ -1,14 +1,12 @@
 // An object's bytes, read as the message that they hold.
-ghost use Rattle.std.specs.Prelude.{◌≡◌, ◌+◌, ◌≤◌, length, if◌then◌else◌};
+ghost use Rattle.std.specs.Prelude.{◌≡◌, ◌+◌, ◌≤◌, length, if◌then◌else◌, Some, None};
 ghost use Rattle.field.specs.Field.{read, flag};
 ghost use Rattle.words.specs.Words.{le_at};
 ghost use Rattle.header.specs.Header.{DLC, FDF, SEQ, FILHIT};
 ghost use Rattle.message.specs.Message.{body_at, message_in, length_in, decoding};
-ghost use Rattle.message.specs.Structs.{payload_in, frame_of, blank, decoded_as};
-ghost use Rattle.message.specs.declared.object.Stamp.{Stamp};
+ghost use Rattle.message.specs.Structs.{payload_in, frame_of, decoded_as};
 
-use crate::Stamp;
-use header::{Header, Length, dlc_of, filter_of, header_of, length_of, received_length_of};
+use header::{Header, dlc_of, filter_of, header_of, length_of, received_length_of};
 
 // What lies behind the first `len` bytes is 0.
 #[derive(Clone, Copy)]
@@ -23,24 +21,16 @@ pub struct Frame {
     pub dlc: u8,
     pub filter: u8,
     pub seq: u32,
-    pub stamp: Stamp,
+    pub stamp: Option<u32>,
     pub payload: Payload,
 }
 
-// What an object's bytes are read as: a whole message; no frame, of one to send that is classic and has a DLC above 8; or fewer
-// bytes than the DLC means.
+// Why an object's bytes are no whole message: no frame, of one to send that is classic and has a DLC above 8; or fewer bytes than
+// the DLC means.
 #[derive(Clone, Copy)]
-pub enum Reading {
-    Whole,
+pub enum Undecoded {
     NoFrame,
     Short,
-}
-
-// A frame of no content stands beside every reading but `Whole`.
-#[derive(Clone, Copy)]
-pub struct Decoded {
-    pub reading: Reading,
-    pub frame: Frame,
 }
 
 fn hold(p: &[u8]) -> Payload
@@ -55,49 +45,20 @@ fn hold(p: &[u8]) -> Payload
     }
 }
 
-fn nothing(reading: Reading) -> Decoded
-    ensures { result ≡ record { reading = reading; frame = frame_of blank } }
-{
-    let h = Header {
-        extended: false,
-        id: 0,
-        rtr: false,
-        brs: false,
-        fdf: false,
-        esi: false,
-    };
-    let p = Payload {
-        bytes: [0u8; 64],
-        len: 0,
-    };
-    let f = Frame {
-        header: h,
-        dlc: 0,
-        filter: 0,
-        seq: 0,
-        stamp: Stamp::None,
-        payload: p,
-    };
-    Decoded {
-        reading: reading,
-        frame: f,
-    }
-}
-
 fn body_at(stamped: bool) -> usize
     ensures { (result ≡ body_at stamped) × (8 ≤ result) × (result ≤ 12) }
 {
     if stamped { 12 } else { 8 }
 }
 
-fn stamp_in(stamped: bool, b: &[u8]) -> Stamp
+fn stamp_in(stamped: bool, b: &[u8]) -> Option<u32>
     requires { body_at stamped ≤ length b.now }
-    ensures { result ≡ (if stamped then Stamp.At (le_at b.now 8) else Stamp.None) }
+    ensures { result ≡ (if stamped then Some (le_at b.now 8) else None) }
 {
     if stamped {
-        Stamp::At(words::le_at(b, 8))
+        Some(words::le_at(b, 8))
     } else {
-        Stamp::None
+        None
     }
 }
 
@@ -133,36 +94,27 @@ fn frame_in(sending: bool, stamped: bool, start: usize, n: usize, b: &[u8]) -> F
     }
 }
 
-fn length_in(sending: bool, w: u32) -> Length
+fn length_in(sending: bool, w: u32) -> Option<usize>
     ensures { result ≡ length_in sending (flag FDF w) (read DLC w) }
 {
     if sending {
         return length_of(w);
     }
-    Length::Is(received_length_of(w))
+    Some(received_length_of(w))
 }
 
 // An object to send or received, with a timestamp or without; any bytes may follow it.
 #[tactic(auto, using(crate::proofs::Checks::in_le), unfolding(crate::specs::Message::decoding))]
-pub fn decode(sending: bool, stamped: bool, b: &[u8]) -> Decoded
+pub fn decode(sending: bool, stamped: bool, b: &[u8]) -> Result<Frame, Undecoded>
     ensures { result ≡ decoded_as (decoding sending stamped b.now) }
 {
     let start = body_at(stamped);
     if b.len() < start {
-        return nothing(Reading::Short);
+        return Err(Undecoded::Short);
     }
-    match length_in(sending, words::le_at(b, 4)) {
-        Length::Is(n) => {
-            if start + n <= b.len() {
-                let f = frame_in(sending, stamped, start, n, b);
-                Decoded {
-                    reading: Reading::Whole,
-                    frame: f,
-                }
-            } else {
-                nothing(Reading::Short)
-            }
-        }
-        Length::Bad => nothing(Reading::NoFrame),
+    let n = length_in(sending, words::le_at(b, 4)).ok_or(Undecoded::NoFrame)?;
+    if b.len() < start + n {
+        return Err(Undecoded::Short);
     }
+    Ok(frame_in(sending, stamped, start, n, b))
 }

@@ -5,10 +5,9 @@ use mathlib.Core.Path.{◌≡◌, refl, ap, ◌∙◌}
 use mathlib.Core.List.{List}
 use lib.ListN.{length}
 use borrow.Author.Tests.{le-leb, eq-eqb}
-use Rattle.std.specs.Prelude.{if◌then◌else◌}
+use Rattle.std.specs.Prelude.{if◌then◌else◌, Result}
 use Rattle.parts.specs.Parts.{put}
 use Rattle.spi.specs.declared.refusal.Refusal.{Refusal}
-use Rattle.spi.specs.declared.refusal.Done.{Done}
 use Rattle.spi.specs.declared.ask.Answer.{Answer}
 use Rattle.spi.specs.Ram.{access_of}
 use Rattle.spi.specs.Reply.{done_reply}
@@ -22,7 +21,7 @@ use Rattle.ram.specs.Step.{inside, read_start, write_start, after_echo, step_of,
 use Rattle.ram.specs.Talk.{read_talk, write_talk, echo_talk, read_ram_talk, write_ram_talk, verify_long_talk, echoed, talk_of}
 
 -- where an answer is good the machine goes on as the talk does
-goes : (x : Done) (s : RamCall) (t : Talk Outcome) → talk_of s ≡ t → talk_of (on_done RamCall.Refused x s) ≡ on_done refused x t
+goes : (x : Result (Unit {0}) Refusal) (s : RamCall) (t : Talk Outcome) → talk_of s ≡ t → talk_of (on_done RamCall.Refused x s) ≡ on_done refused x t
 goes = on_done_lem talk_of RamCall.Refused refused (λ r. refl)
 
 echo_talk_lem : (rx : List ℕ) → talk_of (after_echo rx) ≡ echoed rx

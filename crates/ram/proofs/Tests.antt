@@ -7,9 +7,8 @@ use mathlib.Core.List.{List}
 use native.Mathlib.Omega.{arith}
 use lib.Dec.{leb, eqb}
 use borrow.Author.Tests.{leb-true, le-leb}
-use Rattle.std.specs.Prelude.{if◌then◌else◌}
+use Rattle.std.specs.Prelude.{if◌then◌else◌, Ok, Err}
 use Rattle.spi.specs.declared.refusal.Refusal.{Refusal}
-use Rattle.spi.specs.declared.refusal.Done.{Done}
 use Rattle.spi.specs.Ram.{in_range, access_of}
 use Rattle.spi.proofs.Laws.{range_told}
 use Rattle.ram.specs.Echo.{echo_bytes, same}
@@ -33,10 +32,10 @@ pub no_echo : (rx : List ℕ) → (rx ≡ echo_bytes → ⊥) → false ≡ same
 no_echo rx h = agree false (same rx echo_bytes) (λ e. absurd (false≢true e)) (λ e. absurd (h ((same_law rx echo_bytes).0 e)))
 
 -- an address in range has 16 bits
-good : (b c : Bool) (r s : Refusal) → (if b then if c then Done.Good else Done.Bad r else Done.Bad s) ≡ Done.Good → b ≡ true
+good : (b c : Bool) (r s : Refusal) → (if b then if c then Ok tt else Err r else Err s) ≡ Ok tt → b ≡ true
 good true c r s e = refl
 good false c r s e = cc
 
-pub access_fits : (a n : ℕ) (bad : Refusal) → access_of a n bad ≡ Done.Good → a < 2 ^ 16
+pub access_fits : (a n : ℕ) (bad : Refusal) → access_of a n bad ≡ Ok tt → a < 2 ^ 16
 unfolding access_of
 access_fits a n bad e = omega (arith, range_told a n (good (in_range a n) (eqb (n % 4) 0) bad (Refusal.InvalidRamAddress a) e))

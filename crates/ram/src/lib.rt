@@ -11,7 +11,7 @@ ghost use Rattle.ram.specs.Step.{inside, read_start, write_start, after_echo, st
 ghost use Rattle.ram.specs.RamCall.{RamCall};
 
 use call::Outcome;
-use spi::{Answer, Ask, Done, Refusal};
+use spi::{Answer, Ask, Refusal};
 
 // Where the echoed words go, and how many bytes they are.
 const ECHO_ADDRESS: u16 = 0x400;
@@ -82,8 +82,8 @@ pub fn read_ram_start(address: u32, room: usize, place: usize, count: usize) -> 
 {
     if is_inside(place, count, room) {
         match spi::read_access(address, count) {
-            Done::Good => at_stage(RamStage::Read, address as u16, place, count),
-            Done::Bad(r) => refused(r),
+            Ok(()) => at_stage(RamStage::Read, address as u16, place, count),
+            Err(r) => refused(r),
         }
     } else {
         refused(Refusal::BufferTooSmall)
@@ -96,8 +96,8 @@ pub fn write_ram_start(address: u32, count: usize) -> RamNumbers
     ensures { ram_of result ≡ write_start address count }
 {
     match spi::write_access(address, count) {
-        Done::Good => at_stage(RamStage::Write, address as u16, 0, count),
-        Done::Bad(r) => refused(r),
+        Ok(()) => at_stage(RamStage::Write, address as u16, 0, count),
+        Err(r) => refused(r),
     }
 }
 
@@ -183,27 +183,27 @@ fn after_echo(rx: &[u8]) -> RamNumbers
 }
 
 // Every failed exchange of an echo is told as 11.
-fn echo_reply(answer: Answer, got: usize, want: usize) -> Done
+fn echo_reply(answer: Answer, got: usize, want: usize) -> Result<(), Refusal>
     ensures { result ≡ done_reply Refusal.ConfigurationModeTimeout answer got want }
 {
     spi::done_reply(Refusal::ConfigurationModeTimeout, answer, got, want)
 }
 
-fn when_done(reply: Done, stage: RamStage, place: usize, count: usize) -> RamNumbers
+fn when_done(reply: Result<(), Refusal>, stage: RamStage, place: usize, count: usize) -> RamNumbers
     ensures { ram_of result ≡ on_done RamCall.Refused reply (at_stage stage 0 place count Refusal.WrongAnswer) }
 {
     match reply {
-        Done::Good => at_stage(stage, 0, place, count),
-        Done::Bad(r) => refused(r),
+        Ok(()) => at_stage(stage, 0, place, count),
+        Err(r) => refused(r),
     }
 }
 
-fn when_echoed(reply: Done, rx: &[u8]) -> RamNumbers
+fn when_echoed(reply: Result<(), Refusal>, rx: &[u8]) -> RamNumbers
     ensures { ram_of result ≡ on_done RamCall.Refused reply (after_echo rx.now) }
 {
     match reply {
-        Done::Good => after_echo(rx),
-        Done::Bad(r) => refused(r),
+        Ok(()) => after_echo(rx),
+        Err(r) => refused(r),
     }
 }
 

@@ -5,10 +5,8 @@ use mathlib.Core.Path.{◌≡◌, refl}
 use mathlib.Core.Bool.{Bool, true, false}
 use mathlib.Core.List.{List, ◌++◌}
 use lib.ListN.{length}
-use Rattle.std.specs.Prelude.{if◌then◌else◌}
-use Rattle.spi.specs.declared.refusal.Done.{Done}
+use Rattle.std.specs.Prelude.{if◌then◌else◌, Some, None, Ok}
 use Rattle.header.specs.declared.Header.{Header}
-use Rattle.message.specs.declared.object.Stamp.{Stamp}
 use Rattle.message.specs.Message.{Message, arrival_check, arriving, holds, decoding}
 use Rattle.message.specs.Laws.{Stamped}
 use Rattle.message.proofs.Round.{arrival_trip_lem}
@@ -23,11 +21,11 @@ module _ (c : Model) (n hit : ℕ) (header : Header) (dlc time : ℕ) (payload :
   coming = incoming c n hit header dlc time payload
 
   -- its object, where a filter took it, is read as what arrived
-  pub coming_back : time < 2 ^ 32 → sending (frozen_at c n) ≡ false → hit < 32 → arrival_check header dlc (length payload) ≡ Done.Good
+  pub coming_back : time < 2 ^ 32 → sending (frozen_at c n) ≡ false → hit < 32 → arrival_check header dlc (length payload) ≡ Ok tt
       → (r : List ℕ) → decoding (sending (frozen_at c n)) (stamped (frozen_at c n)) (arriving header dlc hit (stamp_for c n time) payload ++ r) ≡ holds coming
   unfolding incoming
   coming_back small e l f r = rw e (arrival_trip_lem (stamped (frozen_at c n)) coming r f (record { seq = refl; filter = l; stamp = go (stamped (frozen_at c n)) }))
     where
-      go : (b : Bool) → Stamped b (if b then Stamp.At time else Stamp.None)
+      go : (b : Bool) → Stamped b (if b then Some time else None)
       go true = small
       go false = tt

@@ -9,7 +9,7 @@ use borrow.Author.Tests.{ltb-true, lt-ltb, ltb-false, leb-false, eqb-true, eq-eq
 use lib.Dec.{ltb, leb, eqb}
 use lib.ListN.{length}
 use lib.Seq.{get_or-set_same}
-use Rattle.std.specs.Prelude.{if◌then◌else◌}
+use Rattle.std.specs.Prelude.{if◌then◌else◌, Ok}
 use Rattle.laws.proofs.Choice.{by_if}
 use Rattle.laws.proofs.Table.{both}
 use Rattle.field.specs.Field.{read, flag, digit}
@@ -18,7 +18,6 @@ use Rattle.fifo.specs.Control.{TXEN, TXREQ, payload_of, is_fifo, CiFIFOCON}
 use Rattle.fifo.specs.TxQueueControl.{CiTXQCON}
 use Rattle.fifo.specs.Status.{RXOVIF}
 use Rattle.header.specs.declared.Header.{Header}
-use Rattle.spi.specs.declared.refusal.Done.{Done}
 use Rattle.message.specs.Message.{arrival_check, arriving, Decoding, holds}
 use Rattle.place.specs.declared.Register.{Register}
 use Rattle.operation.specs.declared.operation.Operation.{Operation}
@@ -168,7 +167,7 @@ module _ (m : Model) (r : Reached m) (n hit : ℕ) (header : Header) (dlc time :
       x.delivery ≡ Delivery.Delivered → held x.model k ≡ held m k ++ (if eqb n k then holds (incoming m n hit header dlc time payload) ∷ [] else [])
 
   -- a frame that is delivered is put behind those held
-  gives : hit < 32 → arrival_check header dlc (length payload) ≡ Done.Good → Appends (give m n hit dlc header time payload)
+  gives : hit < 32 → arrival_check header dlc (length payload) ≡ Ok tt → Appends (give m n hit dlc header time payload)
   unfolding claimed
   gives l e =
       by_give m n header dlc time payload Appends hit

@@ -1,5 +1,7 @@
 -- Whatever happens to a chip that is in order leaves it in order.
 -- Assumes nothing.
+use Rattle.std.specs.Prelude.{Result, Ok, Err}
+use Rattle.spi.specs.declared.refusal.Refusal.{Refusal}
 use Prim.Native.Nat.{ℕ, zero, suc, ◌%◌, ◌^◌, ◌≤◌, ◌<◌}
 use mathlib.Core.Path.{◌≡◌, refl, sym, ap, subst, ◌∙◌}
 use mathlib.Core.Bool.{Bool, true, false, ◌&&◌, not, false≢true}
@@ -17,7 +19,6 @@ use Rattle.fifo.specs.Control.{TXEN, payload_of, is_fifo, CiFIFOCON}
 use Rattle.fifo.specs.TxQueueControl.{CiTXQCON}
 use Rattle.fifo.specs.Status.{RXOVIF}
 use Rattle.header.specs.declared.Header.{Header}
-use Rattle.spi.specs.declared.refusal.Done.{Done}
 use Rattle.message.specs.Message.{arrival_check}
 use Rattle.place.specs.declared.Register.{Register}
 use Rattle.operation.specs.declared.operation.Operation.{Operation}
@@ -338,9 +339,9 @@ module _ (m : Model) (v : Valid m) (n : ℕ) where
   unfolding give
   give_valid hit d header time payload = append_valid (length payload) _
 
-  checked_valid : (x : Done) (header : Header) (dlc time : ℕ) (payload : List ℕ) → Valid (by_check x m n header dlc time payload).model
-  checked_valid (Done.Bad r) header dlc time payload = v
-  checked_valid Done.Good header dlc time payload = give_valid 0 dlc header time payload
+  checked_valid : (x : Result (Unit {0}) Refusal) (header : Header) (dlc time : ℕ) (payload : List ℕ) → Valid (by_check x m n header dlc time payload).model
+  checked_valid (Err r) header dlc time payload = v
+  checked_valid (Ok _) header dlc time payload = give_valid 0 dlc header time payload
 
   deliver_valid : (header : Header) (dlc time : ℕ) (payload : List ℕ) → Valid (deliver_of m n header dlc time payload).model
   unfolding deliver_of

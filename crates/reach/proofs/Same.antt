@@ -1,5 +1,6 @@
 -- What happens to two chips that are the same but for fields which nothing looks at leaves them so, and they answer the same.
 -- Assumes nothing.
+use Rattle.spi.specs.declared.refusal.Refusal.{Refusal}
 use Prim.Native.Nat.{ℕ, zero, suc, ◌+◌, ◌-◌, ◌*◌, ◌%◌, ◌^◌}
 use mathlib.Core.Path.{◌≡◌, refl, sym, ap, ap₂, subst, ◌∙◌}
 use mathlib.Core.Bool.{Bool, true, false, ◌&&◌, not, false≢true}
@@ -7,7 +8,7 @@ use mathlib.Core.List.{List, [], ◌∷◌}
 use native.Mathlib.Omega.{arith}
 use lib.Dec.{ltb, leb, eqb}
 use lib.ListN.{length, get_or, set, take, drop, length-set, length-map}
-use Rattle.std.specs.Prelude.{if◌then◌else◌}
+use Rattle.std.specs.Prelude.{if◌then◌else◌, Some, None, Result, Ok, Err}
 use Rattle.field.specs.Field.{read, flag, write}
 use Rattle.parts.specs.Parts.{part, put}
 use Rattle.words.specs.Words.{le_bytes}
@@ -16,8 +17,6 @@ use Rattle.fifo.specs.Control.{RXTSEN, TXEN, UINC, TXREQ, FRESET, FSIZE, PLSIZE,
 use Rattle.fifo.specs.Status.{RXOVIF}
 use Rattle.header.specs.declared.Header.{Header}
 use Rattle.header.specs.Header.{sid_of, eid_of}
-use Rattle.message.specs.declared.object.Stamp.{Stamp}
-use Rattle.spi.specs.declared.refusal.Done.{Done}
 use Rattle.message.specs.Message.{arrival_check, arriving}
 use Rattle.place.specs.declared.Register.{Register}
 use Rattle.operation.specs.declared.operation.Operation.{Operation}
@@ -549,14 +548,14 @@ module _ (W : ℕ → ℕ → Type 0) (z : Blind W) where
           → SameDelivered (give c n hit k header time payload) (give d n hit k header time payload)
       unfolding give
       give_like n hit k header time payload =
-          let bs : Bool → List ℕ = λ b. arriving header k hit (if b then Stamp.At time else Stamp.None) payload in
+          let bs : Bool → List ℕ = λ b. arriving header k hit (if b then Some time else None) payload in
           subst (λ (b : Bool). SameDelivered (give c n hit k header time payload) (appended d n (length payload) (bs b)))
           (stamped_like _ _ (t.frozen n)) (appended_like n (length payload) _)
 
-      checked_like : (x : Done) (n : ℕ) (header : Header) (dlc time : ℕ) (payload : List ℕ)
+      checked_like : (x : Result (Unit {0}) Refusal) (n : ℕ) (header : Header) (dlc time : ℕ) (payload : List ℕ)
           → SameDelivered (by_check x c n header dlc time payload) (by_check x d n header dlc time payload)
-      checked_like (Done.Bad r) n header dlc time payload = (refl, t)
-      checked_like Done.Good n header dlc time payload = give_like n 0 dlc header time payload
+      checked_like (Err r) n header dlc time payload = (refl, t)
+      checked_like (Ok _) n header dlc time payload = give_like n 0 dlc header time payload
 
       pub delivers_like : (n : ℕ) (header : Header) (dlc time : ℕ) (payload : List ℕ)
           → SameDelivered (deliver_of c n header dlc time payload) (deliver_of d n header dlc time payload)
@@ -588,9 +587,9 @@ module _ (W : ℕ → ℕ → Type 0) (z : Blind W) where
         unfolding sort_of
         sorts_like = go (arrival_check header dlc (length payload))
           where
-            go : (x : Done) → SameSorted (sorted_by x c header dlc time payload) (sorted_by x d header dlc time payload)
-            go (Done.Bad r) = (refl, refl, refl, t)
-            go Done.Good = filtered_like
+            go : (x : Result (Unit {0}) Refusal) → SameSorted (sorted_by x c header dlc time payload) (sorted_by x d header dlc time payload)
+            go (Err r) = (refl, refl, refl, t)
+            go (Ok _) = filtered_like
 
         pub sorted_like : sorted_numbers (sort_of c header dlc time payload) ≡ sorted_numbers (sort_of d header dlc time payload)
         sorted_like = let (a, b, e, m) = sorts_like in λ i. sorting_numbers (a i) (b i) (e i)

@@ -10,7 +10,7 @@ ghost use Rattle.register.specs.RegisterCall.{RegisterCall};
 
 use call::Outcome;
 use configuration::CanControl;
-use spi::{Answer, Ask, CheckedWord, Done, OneWord, Refusal};
+use spi::{Answer, Ask, CheckedWord, Refusal};
 
 #[derive(Clone, Copy)]
 pub enum RegisterStage {
@@ -141,30 +141,30 @@ fn after_mismatch(m: u16, seen: u8) -> RegisterNumbers
     }
 }
 
-fn ended(reply: Done) -> RegisterNumbers
+fn ended(reply: Result<(), Refusal>) -> RegisterNumbers
     ensures { register_of result ≡ on_done RegisterCall.Refused reply RegisterCall.Done }
 {
     match reply {
-        Done::Good => at_stage(RegisterStage::Done, 0, 0, 0),
-        Done::Bad(r) => refused(r),
+        Ok(()) => at_stage(RegisterStage::Done, 0, 0, 0),
+        Err(r) => refused(r),
     }
 }
 
-fn when_read(reply: OneWord) -> RegisterNumbers
+fn when_read(reply: Result<u32, Refusal>) -> RegisterNumbers
     ensures { register_of result ≡ on_word RegisterCall.Refused reply RegisterCall.Word }
 {
     match reply {
-        OneWord::Word(w) => at_stage(RegisterStage::Word, 0, w, 0),
-        OneWord::Bad(r) => refused(r),
+        Ok(w) => at_stage(RegisterStage::Word, 0, w, 0),
+        Err(r) => refused(r),
     }
 }
 
-fn when_mode_read(reply: OneWord) -> RegisterNumbers
+fn when_mode_read(reply: Result<u32, Refusal>) -> RegisterNumbers
     ensures { register_of result ≡ on_word RegisterCall.Refused reply after_mode }
 {
     match reply {
-        OneWord::Word(w) => at_stage(RegisterStage::OpMode, 0, CanControl(w).opmod(), 0),
-        OneWord::Bad(r) => refused(r),
+        Ok(w) => at_stage(RegisterStage::OpMode, 0, CanControl(w).opmod(), 0),
+        Err(r) => refused(r),
     }
 }
 

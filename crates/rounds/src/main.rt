@@ -3,7 +3,7 @@
 // the chip up, and of messages that came out as they went in.
 #![tactic(auto)]
 
-use bus::Sending;
+use bus::Unsent;
 use driver::{Call, Header, Outcome};
 use looping::Line;
 use message::Frame;
@@ -127,14 +127,13 @@ fn moved(r: Stand, m: Model, good: bool) -> Stand {
     }
 }
 
-fn is_sent(sending: Sending, frame: Frame, i: u32) -> bool {
-    let header = frame.header;
-    let payload = frame.payload;
-    let bytes = payload.bytes;
-    let len = payload.len;
-    match sending {
-        Sending::Frame => is_ours(header, text::front(&bytes, len), i),
-        _ => false,
+fn is_sent(sent: Result<Frame, Unsent>, i: u32) -> bool {
+    match sent {
+        Ok(frame) => {
+            let payload = frame.payload;
+            is_ours(frame.header, text::front(&payload.bytes, payload.len), i)
+        }
+        Err(_) => false,
     }
 }
 
@@ -146,9 +145,7 @@ fn outgoing(r: Stand, i: u32) -> Stand {
     let l = b.line;
     let s = bus::send(l.model, 1);
     let next = s.model;
-    let frame = s.frame;
-    let sending = s.sending;
-    moved(b, next, is_sent(sending, frame, i))
+    moved(b, next, is_sent(s.sent, i))
 }
 
 fn is_got(o: Outcome, buf: &[u8], i: u32) -> bool {

@@ -6,7 +6,7 @@ use Prim.Native.Nat.{ℕ, suc, ◌+◌}
 use native.Mathlib.Omega.{arith}
 use lib.ListN.{length}
 use lib.Dec.{ltb}
-use Rattle.std.specs.Prelude.{if◌then◌else◌}
+use Rattle.std.specs.Prelude.{if◌then◌else◌, Result}
 use Rattle.field.specs.Field.{flag}
 use Rattle.fifo.specs.Control.{TXEN, RXTSEN, payload_of, is_fifo}
 use Rattle.fifo.specs.Status.{TFNRFNIF}
@@ -15,7 +15,6 @@ use Rattle.message.specs.Message.{Message}
 use Rattle.spi.specs.Ram.{in_range}
 use Rattle.spi.specs.declared.refusal.Refusal.{Refusal}
 use Rattle.spi.specs.declared.ask.Answer.{Answer}
-use Rattle.spi.specs.declared.reply.OneWord.{OneWord}
 use Rattle.spi.specs.Reply.{word_reply, pair_reply, done_reply}
 use Rattle.spi.specs.Talk.{done, refused, Within}
 use Rattle.spi.proofs.Talks.{more, word_within, pair_within, done_within, if_within}
@@ -25,7 +24,7 @@ use Rattle.fetch.specs.Step.{found_by, stamped}
 use Rattle.rx_fifo.specs.Outcome.{message_of}
 use Rattle.rx_fifo.specs.Talk.{message, empty, commit_talk, next_talk, last_talk, body_talk, to_body_talk, time_talk, to_time_talk, rest_talk, slot_talk, again_talk, header_talk, to_header_talk, address_talk, held_talk, status_talk, control_talk, has_next_talk, lent_talk, peek_talk, get_talk}
 
-abbrev word : Answer → List ℕ → OneWord
+abbrev word : Answer → List ℕ → Result ℕ Refusal
 word = word_reply Refusal.SpiRead
 
 pub next_within : (fifo : ℕ) (m : Message) → Within 2 (next_talk fifo m)

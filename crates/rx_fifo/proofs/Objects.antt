@@ -10,7 +10,7 @@ use lib.ListN.{length, take, drop, length-drop}
 use lib.Seq.{length-take-le, take-take, get_or-take}
 use lib.Dec.{ltb}
 use borrow.Author.Tests.{eq-eqb, lt-ltb, le-ltb, le-leb}
-use Rattle.std.specs.Prelude.{if◌then◌else◌}
+use Rattle.std.specs.Prelude.{if◌then◌else◌, Some, None, Result, Ok}
 use Rattle.field.specs.Field.{read, flag}
 use Rattle.fifo.specs.Control.{CiFIFOCON, TXEN, RXTSEN, payload_of, is_fifo}
 use Rattle.fifo.specs.Status.{CiFIFOSTA, TFNRFNIF}
@@ -18,18 +18,13 @@ use Rattle.fifo.specs.UserAddress.{CiFIFOUA}
 use Rattle.words.specs.Words.{le_bytes, le_at, round_up}
 use Rattle.words.proofs.Laws.{le_back, le_length, le_drop, up_le}
 use Rattle.parts.specs.Parts.{part}
-use Rattle.header.specs.declared.dlc.Length.{Length}
 use Rattle.header.specs.Dlc.{received_length}
 use Rattle.header.specs.Header.{DLC, FDF, FILHIT, header_of}
 use Rattle.header.proofs.Dlcs.{received_le}
-use Rattle.message.specs.declared.object.Stamp.{Stamp}
 use Rattle.message.specs.Message.{Message, body_at, message_in, length_in}
 use Rattle.message.proofs.Round.{is_held}
 use Rattle.spi.specs.declared.refusal.Refusal.{Refusal}
-use Rattle.spi.specs.declared.refusal.Done.{Done}
 use Rattle.spi.specs.declared.ask.Answer.{Answer}
-use Rattle.spi.specs.declared.reply.OneWord.{OneWord}
-use Rattle.spi.specs.declared.reply.TwoWords.{TwoWords}
 use Rattle.spi.specs.Ram.{in_range}
 use Rattle.spi.specs.Reply.{word_reply, pair_reply, done_reply}
 use Rattle.spi.specs.Talk.{Talk, refused, on_word, on_pair, on_done, read_word, read_pair, read_bytes, answered, run}
@@ -54,15 +49,15 @@ le_take l n a h =
     rw (get_or-take n l a 0 (omega arith), get_or-take n l (a + 1) 0 (omega arith), get_or-take n l (a + 2) 0 (omega arith), get_or-take n l (a + 3) 0 (omega arith))
 
 module _ (b : List ℕ) where
-  pair_of : 8 ≤ length b → pair_reply Refusal.SpiRead Answer.Exchanged (part b 0 8) ≡ TwoWords.Words (le_at b 0) (le_at b 4)
+  pair_of : 8 ≤ length b → pair_reply Refusal.SpiRead Answer.Exchanged (part b 0 8) ≡ Ok ((le_at b 0), (le_at b 4))
   unfolding part
   pair_of h = rw (length-take-le 8 b h, le_take b 8 0 (omega arith), le_take b 8 4 (omega arith))
 
-  word_of : (x : ℕ) → x + 4 ≤ length b → word_reply Refusal.SpiRead Answer.Exchanged (part b x 4) ≡ OneWord.Word (le_at b x)
+  word_of : (x : ℕ) → x + 4 ≤ length b → word_reply Refusal.SpiRead Answer.Exchanged (part b x 4) ≡ Ok (le_at b x)
   unfolding part
   word_of x h = rw (length-take-le 4 (drop x b) (rw (length-drop x b) (omega arith)), le_take (drop x b) 4 0 (omega arith), le_drop b x)
 
-word_is : (w : ℕ) → w < 2 ^ 32 → word_reply Refusal.SpiRead Answer.Exchanged (le_bytes w) ≡ OneWord.Word w
+word_is : (w : ℕ) → w < 2 ^ 32 → word_reply Refusal.SpiRead Answer.Exchanged (le_bytes w) ≡ Ok w
 word_is w h = rw (le_length w, rw (append-nil (le_bytes w)) at (le_back w [] h))
 
 -- ---- a talk on such an answer
@@ -70,22 +65,22 @@ word_is w h = rw (le_length w, rw (append-nil (le_bytes w)) at (le_back w [] h))
 module _ {A : Type 0} (x : ℕ) (xs : List (Answer × List ℕ)) where
   pub word_said : (k : ℕ → Talk A) (w : ℕ) → w < 2 ^ 32 → run answered (read_word Refusal.SpiRead x k) (says w ∷ xs) ≡ run answered (k w) xs
   unfolding run answered
-  word_said k w h = ap (λ (r : OneWord). run answered (on_word refused r k) xs) (word_is w h)
+  word_said k w h = ap (λ (r : Result ℕ Refusal). run answered (on_word refused r k) xs) (word_is w h)
 
   pub word_given : (k : ℕ → Talk A) (b : List ℕ) (y : ℕ) → y + 4 ≤ length b → run answered (read_word Refusal.SpiRead x k) (gives b y 4 ∷ xs) ≡ run answered (k (le_at b y)) xs
   unfolding run answered
-  word_given k b y h = ap (λ (r : OneWord). run answered (on_word refused r k) xs) (word_of b y h)
+  word_given k b y h = ap (λ (r : Result ℕ Refusal). run answered (on_word refused r k) xs) (word_of b y h)
 
   pub pair_given : (k : ℕ → ℕ → Talk A) (b : List ℕ) → 8 ≤ length b → run answered (read_pair Refusal.SpiRead x k) (gives b 0 8 ∷ xs) ≡ run answered (k (le_at b 0) (le_at b 4)) xs
   unfolding run answered
-  pair_given k b h = ap (λ (r : TwoWords). run answered (on_pair refused r k) xs) (pair_of b h)
+  pair_given k b h = ap (λ (r : Result (ℕ × ℕ) Refusal). run answered (on_pair refused r k) xs) (pair_of b h)
 
   pub bytes_given : (k : List ℕ → Talk A) (b : List ℕ) (y n : ℕ) → y + n ≤ length b
       → run answered (read_bytes Refusal.SpiRead x n k) (gives b y n ∷ xs) ≡ run answered (k (part b y n)) xs
   unfolding run answered
   bytes_given k b y n h =
-      let e : done_reply Refusal.SpiRead Answer.Exchanged (length (part b y n)) n ≡ Done.Good = rw (eq-eqb _ _ (length_part b y n h)) in
-      ap (λ (r : Done). run answered (on_done refused r (k (part b y n))) xs) e
+      let e : done_reply Refusal.SpiRead Answer.Exchanged (length (part b y n)) n ≡ Ok tt = rw (eq-eqb _ _ (length_part b y n h)) in
+      ap (λ (r : Result (Unit {0}) Refusal). run answered (on_done refused r (k (part b y n))) xs) e
 
 -- ---- RAM in range
 
@@ -105,7 +100,7 @@ found_in stamped n b = record {
   header = header_of (le_at b 0) (le_at b 4);
   dlc = read DLC (le_at b 4);
   filter = read FILHIT (le_at b 4);
-  stamp = if stamped then Stamp.At (le_at b 8) else Stamp.None;
+  stamp = if stamped then Some (le_at b 8) else None;
   len = n;
 }
 
@@ -118,7 +113,7 @@ message_is stamped n b h =
       dlc = read DLC (le_at b 4);
       filter = read FILHIT (le_at b 4);
       seq = 0;
-      stamp = if stamped then Stamp.At (le_at b 8) else Stamp.None;
+      stamp = if stamped then Some (le_at b 8) else None;
       payload = p i;
     }
 
@@ -200,7 +195,7 @@ reads want fifo room c v u w b m goes hf hr s =
     let e : h.long ≡ length m.payload = sym (payload_length stamped h.long b h.fits) ∙ ap (λ (x : Message). length x.payload) h.message in
     let n : ℕ = length m.payload in
     let d : ℕ = le_at b 4 in
-    let i : Length.Is (received_length (flag FDF d) (read DLC d)) ≡ Length.Is n = h.length_is ∙ ap Length.Is e in
+    let i : Some (received_length (flag FDF d) (read DLC d)) ≡ Some n = h.length_is ∙ ap Some e in
     let len : received_length (flag FDF d) (read DLC d) ≡ n = cc in
     let xs : List (Answer × List ℕ) = says u ∷ gives b 0 8 ∷ says w ∷ parts stamped n b in
     status_reads_lem want fifo room c v w xs hf hr s.waits

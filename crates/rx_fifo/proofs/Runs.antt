@@ -7,7 +7,7 @@ use Prim.Native.Nat.{ℕ, ◌+◌}
 use lib.ListN.{length}
 use lib.Dec.{eqb, ltb, leb}
 use borrow.Author.Tests.{eqb-true}
-use Rattle.std.specs.Prelude.{if◌then◌else◌}
+use Rattle.std.specs.Prelude.{if◌then◌else◌, Result}
 use Rattle.laws.proofs.Choice.{by_if}
 use Rattle.field.specs.Field.{flag}
 use Rattle.fifo.specs.Control.{TXEN, RXTSEN, payload_of, is_fifo}
@@ -15,7 +15,6 @@ use Rattle.fifo.specs.Status.{TFNRFNIF}
 use Rattle.words.specs.Words.{round_up}
 use Rattle.parts.specs.Parts.{put}
 use Rattle.spi.specs.declared.refusal.Refusal.{Refusal}
-use Rattle.spi.specs.declared.refusal.Done.{Done}
 use Rattle.spi.specs.declared.ask.Answer.{Answer}
 use Rattle.spi.specs.Ram.{in_range}
 use Rattle.spi.specs.Reply.{word_reply, pair_reply, done_reply}
@@ -66,7 +65,7 @@ module _ (want : Want) (fifo : ℕ) (held : List ℕ) where
       → talk_at want fifo (held_of held rx) (on_done FetchAt.Refused (done_reply Refusal.SpiRead a (length rx) (round_up f.len)) (after_body want f))
       ≡ on_done refused (done_reply Refusal.SpiRead a (length rx) (round_up f.len)) (last_talk want fifo (message_of f rx))
   held_talk_lem f Answer.Exchanged rx =
-      by_if (λ (d : Done). talk_at want fifo (held_of held rx) (on_done FetchAt.Refused d (after_body want f)) ≡ on_done refused d (last_talk want fifo (message_of f rx)))
+      by_if (λ (d : Result (Unit {0}) Refusal). talk_at want fifo (held_of held rx) (on_done FetchAt.Refused d (after_body want f)) ≡ on_done refused d (last_talk want fifo (message_of f rx)))
       (eqb (length rx) (round_up f.len))
       (λ t. last_talk_lem want fifo (held_of held rx) f ∙ ap (last_talk want fifo) (held_message f held rx (eqb-true _ _ t)))
       (λ t. refl)

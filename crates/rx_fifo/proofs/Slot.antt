@@ -8,7 +8,7 @@ use mathlib.Core.List.{List, [], ◌∷◌}
 use lib.ListN.{length, get_or, take}
 use lib.Dec.{eqb, ltb, leb}
 use borrow.Author.Tests.{leb-true, ltb-false}
-use Rattle.std.specs.Prelude.{if◌then◌else◌}
+use Rattle.std.specs.Prelude.{if◌then◌else◌, Result}
 use Rattle.laws.proofs.Choice.{by_if}
 use Rattle.laws.proofs.Table.{both}
 use Rattle.field.specs.Field.{flag, mark}
@@ -21,7 +21,6 @@ use Rattle.message.specs.Message.{Message, body_at}
 use Rattle.spi.specs.declared.refusal.Refusal.{Refusal}
 use Rattle.spi.specs.declared.ask.Ask.{Ask}
 use Rattle.spi.specs.declared.ask.Answer.{Answer}
-use Rattle.spi.specs.declared.reply.OneWord.{OneWord}
 use Rattle.spi.specs.Refusals.{numbered}
 use Rattle.spi.specs.Ram.{in_range}
 use Rattle.spi.specs.Reply.{word_reply, pair_reply}
@@ -52,7 +51,7 @@ module _ (P : Ask → Type 0) (nothing : P Ask.Nothing) where
   unfolding run answered
   on_word_lem x k a xs p h zero = p
   on_word_lem x k (Answer.Exchanged, rx) xs p h (suc n) =
-      by_if (λ (r : OneWord). P (asks (run answered (on_word refused r k) (take n xs)))) (eqb (length rx) 4)
+      by_if (λ (r : Result ℕ Refusal). P (asks (run answered (on_word refused r k) (take n xs)))) (eqb (length rx) 4)
       (λ t. h n) (λ t. every xs (refused Refusal.WrongAnswer) tt n)
   on_word_lem x k (Answer.Failed, rx) xs p h (suc n) = every xs (refused Refusal.SpiRead) tt n
   on_word_lem x k (Answer.Waited, rx) xs p h (suc n) = every xs (refused Refusal.WrongAnswer) tt n
@@ -169,7 +168,7 @@ never_after (refused r) h (y ∷ ys) = never_after (refused Refusal.WrongAnswer)
 never_after (ask q k) h (y ∷ ys) = never_after (k y.0 y.1) (h y.0 y.1) ys
 
 never_word : (k : ℕ → Talk Fetched) → ((w : ℕ) → Never (k w)) → (a : Answer) (rx : List ℕ) → Never (on_word refused (word_reply Refusal.SpiRead a rx) k)
-never_word k h Answer.Exchanged rx = by_if (λ (r : OneWord). Never (on_word refused r k)) (eqb (length rx) 4) (λ t. h (le_at rx 0)) (λ t. refl)
+never_word k h Answer.Exchanged rx = by_if (λ (r : Result ℕ Refusal). Never (on_word refused r k)) (eqb (length rx) 4) (λ t. h (le_at rx 0)) (λ t. refl)
 never_word k h Answer.Failed rx = refl
 never_word k h Answer.Waited rx = refl
 

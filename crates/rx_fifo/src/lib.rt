@@ -14,7 +14,6 @@ ghost use Rattle.rx_fifo.specs.Numbers.{fetch_of, FetchEnds};
 use call::{Found, Outcome};
 use fetch::{FetchNumbers, FetchStage, Want};
 use fifo::{FifoControl, FifoStatus, UserAddress};
-use message::Stamp;
 use spi::{Answer, Ask, Refusal};
 
 mod held;
@@ -112,14 +111,10 @@ pub fn fetch_step(c: FetchNumbers, answer: Answer, rx: &[u8], body: &mut [u8; 76
     fetch::next_at(c, answer, rx)
 }
 
-fn stamp_of(c: FetchNumbers) -> Stamp
+fn stamp_of(c: FetchNumbers) -> Option<u32>
     ensures { result ≡ stamp_in c }
 {
-    if c.stamped {
-        Stamp::At(c.t)
-    } else {
-        Stamp::None
-    }
+    if c.stamped { Some(c.t) } else { None }
 }
 
 // As many bytes as the lent buffer is filled with.

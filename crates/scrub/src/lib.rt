@@ -13,7 +13,7 @@ ghost use Rattle.scrub.specs.Numbers.{standing, telling, scrub_of};
 ghost use Rattle.scrub.specs.Step.{agrees, rewritten, begins, to, reports, differs, seen, unread, unwritten, step_of, ask_of, outcome_of};
 
 use call::{Outcome, Report, Rewrite};
-use spi::{Answer, Ask, CheckedWord, Done, Refusal};
+use spi::{Answer, Ask, CheckedWord, Refusal};
 use watch::{Begun, Due};
 
 #[derive(Clone, Copy)]
@@ -194,12 +194,12 @@ fn when_visited(c: ScrubNumbers, reply: CheckedWord) -> ScrubNumbers
     }
 }
 
-fn when_written(c: ScrubNumbers, reply: Done) -> ScrubNumbers
+fn when_written(c: ScrubNumbers, reply: Result<(), Refusal>) -> ScrubNumbers
     ensures { scrub_of result ≡ on_done (unwritten (scrub_of c) c.w c.first) reply (to (scrub_of c) (ScrubAt.Back c.w c.first 0)) }
 {
     match reply {
-        Done::Good => stands(c, ScrubStage::Back, c.first, 0, c.w, Refusal::WrongAnswer),
-        Done::Bad(r) => tells(c, ScrubStage::Unwritten, c.first, c.w, 0, r),
+        Ok(()) => stands(c, ScrubStage::Back, c.first, 0, c.w, Refusal::WrongAnswer),
+        Err(r) => tells(c, ScrubStage::Unwritten, c.first, c.w, 0, r),
     }
 }
 

@@ -7,13 +7,10 @@ use mathlib.Core.Path.{◌≡◌, refl, sym, ap, ◌∙◌}
 use mathlib.Core.Bool.{Bool, true, false, true≢false}
 use mathlib.Core.Logic.{◌↔◌}
 use mathlib.Core.List.{List, [], ◌∷◌}
-use Rattle.std.specs.Prelude.{if◌then◌else◌}
+use Rattle.std.specs.Prelude.{if◌then◌else◌, Result, Ok, Err}
 use Rattle.spi.specs.declared.refusal.Refusal.{Refusal}
-use Rattle.spi.specs.declared.refusal.Done.{Done}
 use Rattle.spi.specs.declared.ask.Ask.{Ask}
 use Rattle.spi.specs.declared.ask.Answer.{Answer}
-use Rattle.spi.specs.declared.reply.OneWord.{OneWord}
-use Rattle.spi.specs.declared.reply.TwoWords.{TwoWords}
 use Rattle.spi.specs.declared.reply.CheckedWord.{CheckedWord}
 use Rattle.spi.specs.Talk.{Talk, done, refused, ask, on_word, on_pair, on_done, on_checked, and_then, answered, run, Within, Follows}
 
@@ -24,17 +21,17 @@ if_ap f true x y = refl
 if_ap f false x y = refl
 
 module _ {A B : Type 0} (f : A → B) (bad : Refusal → A) (bad' : Refusal → B) (e : (r : Refusal) → f (bad r) ≡ bad' r) where
-  pub on_word_lem : (x : OneWord) (k : ℕ → A) (k' : ℕ → B) → ((w : ℕ) → f (k w) ≡ k' w) → f (on_word bad x k) ≡ on_word bad' x k'
-  on_word_lem (OneWord.Word w) k k' h = h w
-  on_word_lem (OneWord.Bad r) k k' h = e r
+  pub on_word_lem : (x : Result ℕ Refusal) (k : ℕ → A) (k' : ℕ → B) → ((w : ℕ) → f (k w) ≡ k' w) → f (on_word bad x k) ≡ on_word bad' x k'
+  on_word_lem (Ok w) k k' h = h w
+  on_word_lem (Err r) k k' h = e r
 
-  pub on_pair_lem : (x : TwoWords) (k : ℕ → ℕ → A) (k' : ℕ → ℕ → B) → ((a b : ℕ) → f (k a b) ≡ k' a b) → f (on_pair bad x k) ≡ on_pair bad' x k'
-  on_pair_lem (TwoWords.Words a b) k k' h = h a b
-  on_pair_lem (TwoWords.Bad r) k k' h = e r
+  pub on_pair_lem : (x : Result (ℕ × ℕ) Refusal) (k : ℕ → ℕ → A) (k' : ℕ → ℕ → B) → ((a b : ℕ) → f (k a b) ≡ k' a b) → f (on_pair bad x k) ≡ on_pair bad' x k'
+  on_pair_lem (Ok (a, b)) k k' h = h a b
+  on_pair_lem (Err r) k k' h = e r
 
-  pub on_done_lem : (x : Done) (k : A) (k' : B) → f k ≡ k' → f (on_done bad x k) ≡ on_done bad' x k'
-  on_done_lem Done.Good k k' h = h
-  on_done_lem (Done.Bad r) k k' h = e r
+  pub on_done_lem : (x : Result (Unit {0}) Refusal) (k : A) (k' : B) → f k ≡ k' → f (on_done bad x k) ≡ on_done bad' x k'
+  on_done_lem (Ok _) k k' h = h
+  on_done_lem (Err r) k k' h = e r
 
   pub on_checked_lem : (x : CheckedWord) (o : A) (o' : B) (k : ℕ → A) (k' : ℕ → B) → f o ≡ o' → ((w : ℕ) → f (k w) ≡ k' w)
       → f (on_checked bad x o k) ≡ on_checked bad' x o' k'
@@ -45,17 +42,17 @@ module _ {A B : Type 0} (f : A → B) (bad : Refusal → A) (bad' : Refusal → 
 -- ---- what holds of every refusal and of what comes after a good answer holds after any answer
 
 module _ {T : Type 0} (P : T → Type 0) {bad : Refusal → T} (stops : (r : Refusal) → P (bad r)) where
-  pub by_word : (x : OneWord) {k : ℕ → T} → ((w : ℕ) → P (k w)) → P (on_word bad x k)
-  by_word (OneWord.Word w) h = h w
-  by_word (OneWord.Bad r) h = stops r
+  pub by_word : (x : Result ℕ Refusal) {k : ℕ → T} → ((w : ℕ) → P (k w)) → P (on_word bad x k)
+  by_word (Ok w) h = h w
+  by_word (Err r) h = stops r
 
-  pub by_pair : (x : TwoWords) {k : ℕ → ℕ → T} → ((a b : ℕ) → P (k a b)) → P (on_pair bad x k)
-  by_pair (TwoWords.Words a b) h = h a b
-  by_pair (TwoWords.Bad r) h = stops r
+  pub by_pair : (x : Result (ℕ × ℕ) Refusal) {k : ℕ → ℕ → T} → ((a b : ℕ) → P (k a b)) → P (on_pair bad x k)
+  by_pair (Ok (a, b)) h = h a b
+  by_pair (Err r) h = stops r
 
-  pub by_done : (x : Done) {k : T} → P k → P (on_done bad x k)
-  by_done Done.Good h = h
-  by_done (Done.Bad r) h = stops r
+  pub by_done : (x : Result (Unit {0}) Refusal) {k : T} → P k → P (on_done bad x k)
+  by_done (Ok _) h = h
+  by_done (Err r) h = stops r
 
   pub by_checked : (x : CheckedWord) {o : T} {k : ℕ → T} → P o → ((w : ℕ) → P (k w)) → P (on_checked bad x o k)
   by_checked (CheckedWord.Word w) l h = h w
@@ -100,13 +97,13 @@ module _ {A : Type 0} where
   ask_within n zero q k l h = absurd (not-suc-le-zero l)
   ask_within n (suc m) q k l h = λ a rx. more n m (k a rx) (le_of_suc-le-suc l) (h a rx)
 
-  pub word_within : (n : ℕ) (x : OneWord) (k : ℕ → Talk A) → ((w : ℕ) → Within n (k w)) → Within n (on_word refused x k)
+  pub word_within : (n : ℕ) (x : Result ℕ Refusal) (k : ℕ → Talk A) → ((w : ℕ) → Within n (k w)) → Within n (on_word refused x k)
   word_within n x k h = by_word (λ t. Within n t) (λ r. tt) x h
 
-  pub pair_within : (n : ℕ) (x : TwoWords) (k : ℕ → ℕ → Talk A) → ((a b : ℕ) → Within n (k a b)) → Within n (on_pair refused x k)
+  pub pair_within : (n : ℕ) (x : Result (ℕ × ℕ) Refusal) (k : ℕ → ℕ → Talk A) → ((a b : ℕ) → Within n (k a b)) → Within n (on_pair refused x k)
   pair_within n x k h = by_pair (λ t. Within n t) (λ r. tt) x h
 
-  pub done_within : (n : ℕ) (x : Done) (k : Talk A) → Within n k → Within n (on_done refused x k)
+  pub done_within : (n : ℕ) (x : Result (Unit {0}) Refusal) (k : Talk A) → Within n k → Within n (on_done refused x k)
   done_within n x k h = by_done (λ t. Within n t) (λ r. tt) x h
 
   pub checked_within : (n : ℕ) (x : CheckedWord) (o : Talk A) (k : ℕ → Talk A) → Within n o → ((w : ℕ) → Within n (k w)) → Within n (on_checked refused x o k)

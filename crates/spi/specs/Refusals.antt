@@ -1,8 +1,7 @@
 -- The answers by number: each refusal's number, followed by the value that it carries.
 -- Assumes nothing.
-use Rattle.std.specs.Prelude.{ℕ, List, [], ◌∷◌}
+use Rattle.std.specs.Prelude.{ℕ, List, [], ◌∷◌, Result, Ok, Err}
 use Rattle.spi.specs.declared.refusal.Refusal.{Refusal}
-use Rattle.spi.specs.declared.refusal.Done.{Done}
 
 abbrev pub numbered : Refusal → List ℕ
 numbered Refusal.SpiRead = 1 ∷ []
@@ -35,6 +34,6 @@ numbered Refusal.TxQueueDisabled = 34 ∷ []
 numbered Refusal.LengthBeyondSlot = 35 ∷ []
 
 -- nothing where all is well
-abbrev pub done_numbers : Done → List ℕ
-done_numbers Done.Good = []
-done_numbers (Done.Bad r) = numbered r
+abbrev pub done_numbers : Result (Unit {0}) Refusal → List ℕ
+done_numbers (Ok _) = []
+done_numbers (Err r) = numbered r

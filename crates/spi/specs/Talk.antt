@@ -1,12 +1,9 @@
 -- A call as the line sees it: it asks, and goes on by what is answered, until it is done or refused.
 -- Assumes nothing.
-use Rattle.std.specs.Prelude.{ℕ, zero, suc, ◌≡◌, List, [], ◌∷◌, length}
+use Rattle.std.specs.Prelude.{ℕ, zero, suc, ◌≡◌, List, [], ◌∷◌, length, Result, Ok, Err}
 use Rattle.spi.specs.declared.refusal.Refusal.{Refusal}
-use Rattle.spi.specs.declared.refusal.Done.{Done}
 use Rattle.spi.specs.declared.ask.Ask.{Ask}
 use Rattle.spi.specs.declared.ask.Answer.{Answer}
-use Rattle.spi.specs.declared.reply.OneWord.{OneWord}
-use Rattle.spi.specs.declared.reply.TwoWords.{TwoWords}
 use Rattle.spi.specs.declared.reply.CheckedWord.{CheckedWord}
 use Rattle.spi.specs.Reply.{word_reply, pair_reply, done_reply, wait_reply, crc_reply}
 
@@ -17,17 +14,17 @@ pub data Talk (A : Type 0) : Type 0 where
 
 -- ---- to go on by what an answer says, or by its refusal
 
-abbrev pub on_word : {T : Type 0} → (Refusal → T) → OneWord → (ℕ → T) → T
-on_word bad (OneWord.Word w) k = k w
-on_word bad (OneWord.Bad r) k = bad r
+abbrev pub on_word : {T : Type 0} → (Refusal → T) → Result ℕ Refusal → (ℕ → T) → T
+on_word bad (Ok w) k = k w
+on_word bad (Err r) k = bad r
 
-abbrev pub on_pair : {T : Type 0} → (Refusal → T) → TwoWords → (ℕ → ℕ → T) → T
-on_pair bad (TwoWords.Words a b) k = k a b
-on_pair bad (TwoWords.Bad r) k = bad r
+abbrev pub on_pair : {T : Type 0} → (Refusal → T) → Result (ℕ × ℕ) Refusal → (ℕ → ℕ → T) → T
+on_pair bad (Ok (a, b)) k = k a b
+on_pair bad (Err r) k = bad r
 
-abbrev pub on_done : {T : Type 0} → (Refusal → T) → Done → T → T
-on_done bad Done.Good k = k
-on_done bad (Done.Bad r) k = bad r
+abbrev pub on_done : {T : Type 0} → (Refusal → T) → Result (Unit {0}) Refusal → T → T
+on_done bad (Ok _) k = k
+on_done bad (Err r) k = bad r
 
 abbrev pub on_checked : {T : Type 0} → (Refusal → T) → CheckedWord → T → (ℕ → T) → T
 on_checked bad (CheckedWord.Word w) other k = k w

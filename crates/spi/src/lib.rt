@@ -11,7 +11,5 @@ mod reply;
 pub use ask::{Answer, Ask, Exchange, exchange_of};
 pub use instruction::{OpCode, checked_read, command, write_word};
 pub use range::{in_range, read_access, write_access};
-pub use refusal::{Done, Refusal};
-pub use reply::{
-    CheckedWord, OneWord, TwoWords, crc_reply, done_reply, pair_reply, wait_reply, word_reply,
-};
+pub use refusal::Refusal;
+pub use reply::{CheckedWord, crc_reply, done_reply, pair_reply, wait_reply, word_reply};

@@ -3,7 +3,7 @@ ghost use Rattle.std.specs.Prelude.{◌≡◌};
 ghost use Rattle.spi.specs.Ram.{in_range, access_of};
 ghost use Rattle.spi.specs.declared.refusal.Refusal.TheVariants.{InvalidReadLength, InvalidWriteLength};
 
-use crate::{Done, Refusal};
+use crate::Refusal;
 
 // The RAM's first address, and the first address behind it.
 const RAM_START: usize = 0x400;
@@ -27,27 +27,23 @@ pub fn in_range(address: u32, n: usize) -> bool
     a + n <= RAM_END
 }
 
-fn access(address: u32, n: usize, bad: Refusal) -> Done
+fn access(address: u32, n: usize, bad: Refusal) -> Result<(), Refusal>
     ensures { result ≡ access_of address n bad }
 {
     if in_range(address, n) {
-        if n % 4 == 0 {
-            Done::Good
-        } else {
-            Done::Bad(bad)
-        }
+        if n % 4 == 0 { Ok(()) } else { Err(bad) }
     } else {
-        Done::Bad(Refusal::InvalidRamAddress(address))
+        Err(Refusal::InvalidRamAddress(address))
     }
 }
 
-pub fn read_access(address: u32, n: usize) -> Done
+pub fn read_access(address: u32, n: usize) -> Result<(), Refusal>
     ensures { result ≡ access_of address n (InvalidReadLength n) }
 {
     access(address, n, Refusal::InvalidReadLength(n))
 }
 
-pub fn write_access(address: u32, n: usize) -> Done
+pub fn write_access(address: u32, n: usize) -> Result<(), Refusal>
     ensures { result ≡ access_of address n (InvalidWriteLength n) }
 {
     access(address, n, Refusal::InvalidWriteLength(n))

@@ -30,10 +30,3 @@ pub enum Refusal {
     TxQueueDisabled,
     LengthBeyondSlot,
 }
-
-// An answer that says only whether all is well.
-#[derive(Clone, Copy)]
-pub enum Done {
-    Good,
-    Bad(Refusal),
-}

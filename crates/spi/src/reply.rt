@@ -3,21 +3,7 @@
 ghost use Rattle.std.specs.Prelude.{◌≡◌, length};
 ghost use Rattle.spi.specs.Reply.{word_reply, pair_reply, done_reply, wait_reply, crc_good, crc_reply};
 
-use crate::{Answer, Done, Refusal, checked_read};
-
-// Where one word was wanted.
-#[derive(Clone, Copy)]
-pub enum OneWord {
-    Word(u32),
-    Bad(Refusal),
-}
-
-// Where two words were wanted.
-#[derive(Clone, Copy)]
-pub enum TwoWords {
-    Words(u32, u32),
-    Bad(Refusal),
-}
+use crate::{Answer, Refusal, checked_read};
 
 // Where a word and its CRC were wanted.
 #[derive(Clone, Copy)]
@@ -27,67 +13,69 @@ pub enum CheckedWord {
     Bad(Refusal),
 }
 
-pub fn word_reply(failed: Refusal, answer: Answer, rx: &[u8]) -> OneWord
+// Where one word was wanted.
+pub fn word_reply(failed: Refusal, answer: Answer, rx: &[u8]) -> Result<u32, Refusal>
     ensures { result ≡ word_reply failed answer rx.now }
 {
     match answer {
         Answer::Exchanged => {
             if rx.len() == 4 {
-                OneWord::Word(words::le_at(rx, 0))
+                Ok(words::le_at(rx, 0))
             } else {
-                OneWord::Bad(Refusal::WrongAnswer)
+                Err(Refusal::WrongAnswer)
             }
         }
-        Answer::Failed => OneWord::Bad(failed),
-        Answer::Waited => OneWord::Bad(Refusal::WrongAnswer),
+        Answer::Failed => Err(failed),
+        Answer::Waited => Err(Refusal::WrongAnswer),
     }
 }
 
-pub fn pair_reply(failed: Refusal, answer: Answer, rx: &[u8]) -> TwoWords
+// Where two words were wanted.
+pub fn pair_reply(failed: Refusal, answer: Answer, rx: &[u8]) -> Result<(u32, u32), Refusal>
     ensures { result ≡ pair_reply failed answer rx.now }
 {
     match answer {
         Answer::Exchanged => {
             if rx.len() == 8 {
-                TwoWords::Words(words::le_at(rx, 0), words::le_at(rx, 4))
+                Ok((words::le_at(rx, 0), words::le_at(rx, 4)))
             } else {
-                TwoWords::Bad(Refusal::WrongAnswer)
+                Err(Refusal::WrongAnswer)
             }
         }
-        Answer::Failed => TwoWords::Bad(failed),
-        Answer::Waited => TwoWords::Bad(Refusal::WrongAnswer),
+        Answer::Failed => Err(failed),
+        Answer::Waited => Err(Refusal::WrongAnswer),
     }
 }
 
 // `got` bytes were received where `want` were wanted.
-pub fn done_reply(failed: Refusal, answer: Answer, got: usize, want: usize) -> Done
+pub fn done_reply(failed: Refusal, answer: Answer, got: usize, want: usize) -> Result<(), Refusal>
     ensures { result ≡ done_reply failed answer got want }
 {
     match answer {
         Answer::Exchanged => {
             if got == want {
-                Done::Good
+                Ok(())
             } else {
-                Done::Bad(Refusal::WrongAnswer)
+                Err(Refusal::WrongAnswer)
             }
         }
-        Answer::Failed => Done::Bad(failed),
-        Answer::Waited => Done::Bad(Refusal::WrongAnswer),
+        Answer::Failed => Err(failed),
+        Answer::Waited => Err(Refusal::WrongAnswer),
     }
 }
 
 // `got` bytes stand beside the answer to a wait.
-pub fn wait_reply(answer: Answer, got: usize) -> Done
+pub fn wait_reply(answer: Answer, got: usize) -> Result<(), Refusal>
     ensures { result ≡ wait_reply answer got }
 {
     match answer {
-        Answer::Exchanged => Done::Bad(Refusal::WrongAnswer),
-        Answer::Failed => Done::Bad(Refusal::WrongAnswer),
+        Answer::Exchanged => Err(Refusal::WrongAnswer),
+        Answer::Failed => Err(Refusal::WrongAnswer),
         Answer::Waited => {
             if got == 0 {
-                Done::Good
+                Ok(())
             } else {
-                Done::Bad(Refusal::WrongAnswer)
+                Err(Refusal::WrongAnswer)
             }
         }
     }

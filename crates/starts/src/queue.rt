@@ -20,8 +20,8 @@ fn settings(a: &[u64]) -> TxQueueConfiguration {
 pub fn queue_call(row: usize, a: &[u64], payload: &[u8]) -> Call {
     let header = header_of(number(a, 0), number(a, 1));
     match row {
-        26 => driver::configure_tx_queue(TxQueueSetting::Off),
-        27 => driver::configure_tx_queue(TxQueueSetting::On(settings(a))),
+        26 => driver::configure_tx_queue(None),
+        27 => driver::configure_tx_queue(Some(settings(a))),
         28 => driver::queue_push(header, word(a, 2), payload),
         29 => driver::queue_push_unchecked(header, word(a, 2), payload),
         _ => driver::queue_request(),

@@ -11,7 +11,7 @@ ghost use Rattle.transmit.specs.Numbers.{request_of, transmit_in, RequestStarts,
 use call::Outcome;
 use fifo::{FifoControl, is_fifo};
 use header::Header;
-use spi::{Answer, Ask, Done, OneWord, Refusal, done_reply, word_reply};
+use spi::{Answer, Ask, Refusal, done_reply, word_reply};
 use tx_fifo::{PushNumbers, PushStage, push_ask, push_done, push_outcome, push_start, push_step};
 
 // What the request waits for: control as read, the answer to its write. `Late`: an answer came when it was done.
@@ -129,12 +129,12 @@ fn request_step(p: PushNumbers, request: RequestStage, answer: Answer, rx: &[u8]
     let why = p.why;
     match request {
         RequestStage::Read => match word_reply(Refusal::SpiRead, answer, rx) {
-            OneWord::Word(w) => requesting(p, RequestStage::Write, requested(p.fifo, w), why),
-            OneWord::Bad(r) => requesting(p, RequestStage::Refused, p.w, r),
+            Ok(w) => requesting(p, RequestStage::Write, requested(p.fifo, w), why),
+            Err(r) => requesting(p, RequestStage::Refused, p.w, r),
         },
         RequestStage::Write => match done_reply(Refusal::SpiRead, answer, rx.len(), 0) {
-            Done::Good => requesting(p, RequestStage::Done, p.w, why),
-            Done::Bad(r) => requesting(p, RequestStage::Refused, p.w, r),
+            Ok(()) => requesting(p, RequestStage::Done, p.w, why),
+            Err(r) => requesting(p, RequestStage::Refused, p.w, r),
         },
         RequestStage::Done => requesting(p, RequestStage::Late, p.w, why),
         RequestStage::Late => requesting(p, RequestStage::Late, p.w, why),

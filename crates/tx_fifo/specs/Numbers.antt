@@ -1,8 +1,8 @@
 -- The push call in the code's numbers: a stage, and beside it what was read.
 -- Assumes nothing.
-use Rattle.std.specs.Prelude.{ℕ, ◌≡◌, List}
+use Rattle.spi.specs.declared.refusal.Refusal.{Refusal}
+use Rattle.std.specs.Prelude.{ℕ, ◌≡◌, List, Result}
 use Rattle.message.specs.Structs.{encoded_in}
-use Rattle.message.specs.declared.tx.Written.{Written}
 use Rattle.spi.specs.declared.ask.Answer.{Answer}
 use Rattle.tx_fifo.specs.Push.{Push}
 use Rattle.tx_fifo.specs.PushAt.{PushAt}
@@ -40,7 +40,7 @@ abbrev pub push_of : PushNumbers → List ℕ → Push
 push_of c body = standing c (push_at c) body
 
 -- r is a call that begins at a stage, with what its message was written as, whatever the body
-abbrev pub PushBegins : (fifo size : ℕ) → PushStage → Written → PushNumbers → Type 0
+abbrev pub PushBegins : (fifo size : ℕ) → PushStage → Result ℕ Refusal → PushNumbers → Type 0
 PushBegins fifo size first e r = (body : List ℕ) → push_of r body ≡ begun fifo size (stage_at first r) (encoded_in e body)
 
 -- r is the call c at another place, whatever its body

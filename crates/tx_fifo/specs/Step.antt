@@ -1,6 +1,6 @@
 -- The push calls, step by step: to a FIFO, and to the transmit queue, which is FIFO 0.
 -- Assumes nothing.
-use Rattle.std.specs.Prelude.{ℕ, ◌+◌, Bool, true, false, List, length, eqb, ltb, if◌then◌else◌}
+use Rattle.std.specs.Prelude.{ℕ, ◌+◌, Bool, true, false, List, length, eqb, ltb, if◌then◌else◌, None, Result, Ok, Err}
 use Rattle.field.specs.Field.{flag, mark}
 use Rattle.configuration.specs.CanControl.{CiCON, TXQEN}
 use Rattle.fifo.specs.Control.{CiFIFOCON, TXEN, UINC, payload_of, is_fifo}
@@ -9,12 +9,10 @@ use Rattle.fifo.specs.UserAddress.{CiFIFOUA}
 use Rattle.header.specs.declared.Header.{Header}
 use Rattle.message.specs.Message.{Message, to_write, Encoding, encoding}
 use Rattle.message.specs.Structs.{Encoded, encoded_as}
-use Rattle.message.specs.declared.object.Stamp.{Stamp}
 use Rattle.spi.specs.Ram.{in_range}
 use Rattle.spi.specs.Reply.{word_reply, done_reply}
 use Rattle.spi.specs.Talk.{on_word, on_done}
 use Rattle.spi.specs.declared.refusal.Refusal.{Refusal}
-use Rattle.spi.specs.declared.refusal.Done.{Done}
 use Rattle.spi.specs.declared.ask.Ask.{Ask}
 use Rattle.spi.specs.declared.ask.Answer.{Answer}
 use Rattle.call.specs.declared.Outcome.{Outcome}
@@ -25,7 +23,7 @@ use Rattle.tx_fifo.specs.PushAt.{PushAt}
 
 -- a message to send has no timestamp
 abbrev pub to_send : Header → ℕ → List ℕ → Message
-to_send header seq payload = to_write header seq Stamp.None payload
+to_send header seq payload = to_write header seq None payload
 
 -- the object for a FIFO, or 20, or what the message is refused for
 unfoldable pub encoding_for : ℕ → Header → ℕ → List ℕ → Encoding
@@ -33,9 +31,9 @@ encoding_for fifo header seq payload =
     if is_fifo fifo then encoding (to_send header seq payload) else Encoding.refused Refusal.BadNumber
 
 -- where the call stands first, unless its message is refused
-abbrev pub first_at : PushAt → Done → PushAt
-first_at first Done.Good = first
-first_at first (Done.Bad r) = PushAt.Refused r
+abbrev pub first_at : PushAt → Result (Unit {0}) Refusal → PushAt
+first_at first (Ok _) = first
+first_at first (Err r) = PushAt.Refused r
 
 -- a call with what its message was encoded as
 abbrev pub begun : (fifo size : ℕ) → PushAt → Encoded → Push

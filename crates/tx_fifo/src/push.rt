@@ -13,8 +13,8 @@ use call::Outcome;
 use configuration::CanControl;
 use fifo::{FifoControl, FifoStatus, UserAddress, is_fifo};
 use header::Header;
-use message::{Stamp, Written, clear, encode};
-use spi::{Answer, Ask, Done, OneWord, Refusal, done_reply, in_range, word_reply};
+use message::{clear, encode};
+use spi::{Answer, Ask, Refusal, done_reply, in_range, word_reply};
 
 // What the call waits for: the answer to one of its exchanges, in their order; what was read stands beside it. `Enabled` is the queue's
 // first one, the `Bare` ones are those of an unchecked push before its `Commit`.
@@ -47,44 +47,39 @@ pub struct PushNumbers {
 }
 
 // The object into the body. 20 comes before what the message is refused for.
-fn encoded_for(fifo: u8, header: Header, seq: u32, payload: &[u8], body: &mut [u8; 76]) -> Written
+fn encoded_for(
+    fifo: u8,
+    header: Header,
+    seq: u32,
+    payload: &[u8],
+    body: &mut [u8; 76],
+) -> Result<usize, Refusal>
     ensures { encoded_in result body.new ≡ encoded_as (encoding_for fifo header seq payload.now) }
 {
     if is_fifo(fifo as u32) {
-        encode(header, seq, Stamp::None, payload, body)
+        encode(header, seq, None, payload, body)
     } else {
         clear(body);
-        Written {
-            done: Done::Bad(Refusal::BadNumber),
-            len: 0,
-        }
+        Err(Refusal::BadNumber)
     }
 }
 
 // The call at its first stage, or refused for its message.
-fn begun(fifo: u8, size: usize, first: PushStage, e: Written) -> PushNumbers
+fn begun(fifo: u8, size: usize, first: PushStage, e: Result<usize, Refusal>) -> PushNumbers
     ensures { PushBegins fifo size first e result }
 {
-    let d = e.done;
-    match d {
-        Done::Good => PushNumbers {
-            stage: first,
-            fifo: fifo,
-            size: size,
-            len: e.len,
-            w: 0,
-            m: 0,
-            why: Refusal::WrongAnswer,
-        },
-        Done::Bad(r) => PushNumbers {
-            stage: PushStage::Refused,
-            fifo: fifo,
-            size: size,
-            len: e.len,
-            w: 0,
-            m: 0,
-            why: r,
-        },
+    let (stage, len, why) = match e {
+        Ok(len) => (first, len, Refusal::WrongAnswer),
+        Err(r) => (PushStage::Refused, 0, r),
+    };
+    PushNumbers {
+        stage: stage,
+        fifo: fifo,
+        size: size,
+        len: len,
+        w: 0,
+        m: 0,
+        why: why,
     }
 }
 
@@ -113,7 +108,7 @@ fn queue_begun(
     ensures { push_of result body.new ≡ queue_start_at (stage_at first result) header seq payload.now }
 {
     let size = payload.len();
-    let e = encode(header, seq, Stamp::None, payload, body);
+    let e = encode(header, seq, None, payload, body);
     begun(0, size, first, e)
 }
 
@@ -171,18 +166,18 @@ fn refused(c: PushNumbers, why: Refusal) -> PushNumbers
 }
 
 #[tactic(auto, unfolding(crate::specs::Step::after_enabled))]
-fn on_enabled(c: PushNumbers, reply: OneWord) -> PushNumbers
+fn on_enabled(c: PushNumbers, reply: Result<u32, Refusal>) -> PushNumbers
     ensures { PushMoves c (on_word PushAt.Refused reply after_enabled) result }
 {
     match reply {
-        OneWord::Word(w) => {
+        Ok(w) => {
             if CanControl(w).txqen() {
                 moved(c, PushStage::Control, 0, 0)
             } else {
                 refused(c, Refusal::TxQueueDisabled)
             }
         }
-        OneWord::Bad(r) => refused(c, r),
+        Err(r) => refused(c, r),
     }
 }
 
@@ -198,11 +193,11 @@ fn sends(fifo: u8, w: u32) -> bool
 }
 
 #[tactic(auto, unfolding(crate::specs::Step::after_control))]
-fn on_control(c: PushNumbers, reply: OneWord) -> PushNumbers
+fn on_control(c: PushNumbers, reply: Result<u32, Refusal>) -> PushNumbers
     ensures { PushMoves c (on_word PushAt.Refused reply (after_control c.fifo c.size)) result }
 {
     match reply {
-        OneWord::Word(w) => {
+        Ok(w) => {
             if sends(c.fifo, w) {
                 if FifoControl(w).payload_size() < c.size {
                     refused(c, Refusal::FifoTooSmall)
@@ -213,23 +208,23 @@ fn on_control(c: PushNumbers, reply: OneWord) -> PushNumbers
                 refused(c, Refusal::FifoNotTx)
             }
         }
-        OneWord::Bad(r) => refused(c, r),
+        Err(r) => refused(c, r),
     }
 }
 
 #[tactic(auto, unfolding(crate::specs::Step::after_status))]
-fn on_status(c: PushNumbers, reply: OneWord) -> PushNumbers
+fn on_status(c: PushNumbers, reply: Result<u32, Refusal>) -> PushNumbers
     ensures { PushMoves c (on_word PushAt.Refused reply (after_status c.w)) result }
 {
     match reply {
-        OneWord::Word(v) => {
+        Ok(v) => {
             if FifoStatus(v).tfnrfnif() {
                 moved(c, PushStage::Address, c.w, 0)
             } else {
                 refused(c, Refusal::FifoFull)
             }
         }
-        OneWord::Bad(r) => refused(c, r),
+        Err(r) => refused(c, r),
     }
 }
 
@@ -248,22 +243,22 @@ fn after_address(c: PushNumbers, stage: PushStage, u: u32) -> PushNumbers
     }
 }
 
-fn on_address(c: PushNumbers, stage: PushStage, reply: OneWord) -> PushNumbers
+fn on_address(c: PushNumbers, stage: PushStage, reply: Result<u32, Refusal>) -> PushNumbers
     ensures { PushMoves c (on_word PushAt.Refused reply (after_address c.len (ram_at stage c))) result }
 {
     match reply {
-        OneWord::Word(u) => after_address(c, stage, u),
-        OneWord::Bad(r) => refused(c, r),
+        Ok(u) => after_address(c, stage, u),
+        Err(r) => refused(c, r),
     }
 }
 
 // Control of an unchecked push: nothing is tested.
-fn on_bare_control(c: PushNumbers, reply: OneWord) -> PushNumbers
+fn on_bare_control(c: PushNumbers, reply: Result<u32, Refusal>) -> PushNumbers
     ensures { PushMoves c (on_word PushAt.Refused reply PushAt.Commit) result }
 {
     match reply {
-        OneWord::Word(w) => moved(c, PushStage::Commit, w, 0),
-        OneWord::Bad(r) => refused(c, r),
+        Ok(w) => moved(c, PushStage::Commit, w, 0),
+        Err(r) => refused(c, r),
     }
 }
 
@@ -282,12 +277,12 @@ pub fn push_step(c: PushNumbers, answer: Answer, rx: &[u8]) -> PushNumbers
             word_reply(Refusal::SpiRead, answer, rx),
         ),
         PushStage::Write => match done_reply(Refusal::SpiWrite, answer, rx.len(), 0) {
-            Done::Good => moved(c, PushStage::Commit, c.w, 0),
-            Done::Bad(r) => refused(c, r),
+            Ok(()) => moved(c, PushStage::Commit, c.w, 0),
+            Err(r) => refused(c, r),
         },
         PushStage::Commit => match done_reply(Refusal::SpiRead, answer, rx.len(), 0) {
-            Done::Good => moved(c, PushStage::Done, c.w, 0),
-            Done::Bad(r) => refused(c, r),
+            Ok(()) => moved(c, PushStage::Done, c.w, 0),
+            Err(r) => refused(c, r),
         },
         PushStage::BareAddress => on_address(
             c,
@@ -295,8 +290,8 @@ pub fn push_step(c: PushNumbers, answer: Answer, rx: &[u8]) -> PushNumbers
             word_reply(Refusal::SpiRead, answer, rx),
         ),
         PushStage::BareWrite => match done_reply(Refusal::SpiWrite, answer, rx.len(), 0) {
-            Done::Good => moved(c, PushStage::BareControl, 0, 0),
-            Done::Bad(r) => refused(c, r),
+            Ok(()) => moved(c, PushStage::BareControl, 0, 0),
+            Err(r) => refused(c, r),
         },
         PushStage::BareControl => on_bare_control(c, word_reply(Refusal::SpiRead, answer, rx)),
         PushStage::Done => refused(c, Refusal::WrongAnswer),
