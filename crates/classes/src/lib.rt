@@ -4,8 +4,6 @@
 
 ghost use Rattle.std.specs.Prelude.{◌≤◌};
 
-use text::Number;
-
 mod tests;
 
 pub use tests::{is_beyond, is_cut, is_high, is_last, is_long};
@@ -273,7 +271,7 @@ fn part_of(s: Seen) -> Part {
 // Whether a result is `refused 3` with this address.
 fn refuses(line: &[u8], address: u32) -> bool {
     if text::is(line, 1, b"refused") && text::is(line, 2, b"3") {
-        if let Number::Is(n) = text::hex(text::word(line, 3)) {
+        if let Some(n) = text::hex(text::word(line, 3)) {
             return n == address as u64;
         }
     }

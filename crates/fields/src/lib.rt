@@ -4,7 +4,7 @@
 mod headers;
 mod names;
 
-use named::{Field, NONE};
+use named::NoValue;
 use names::find;
 
 // Where the lists of `setup_fields`, `fifo_fields` and the headers begin among the names.
@@ -27,26 +27,26 @@ fn joined(a: u32, b: u32) -> u64 {
     (b as u64) << 32 | a as u64
 }
 
-fn place_in(k: usize, name: &[u8]) -> usize {
-    if k < NONE { find(k + 1, name) } else { NONE }
+// A register and a field of it, by their places.
+fn place_of(register: &[u8], name: &[u8]) -> Option<(usize, usize)> {
+    let k = find(0, register)?;
+    let i = find(k.checked_add(1)?, name)?;
+    Some((k, i))
 }
 
 // The word, if the port has field i of k and the word is no larger than k.
-fn held(k: usize, i: usize, word: u64) -> Field {
-    if i == NONE {
-        return Field::Unknown;
-    }
+fn held(k: usize, i: usize, word: u64) -> Result<u64, NoValue> {
     if k < TX_HEADER {
         return if word < WORDS {
-            Field::Value(word)
+            Ok(word)
         } else {
-            Field::Unknown
+            Err(NoValue::Unknown)
         };
     }
     if i < headers::CARRIED {
-        Field::Value(word)
+        Ok(word)
     } else {
-        Field::Absent
+        Err(NoValue::Absent)
     }
 }
 
@@ -77,7 +77,7 @@ fn with(k: usize, i: usize, v: u32, word: u64) -> u64 {
 }
 
 // A value that is too large is set as the largest, and so makes the same word as the value below it.
-fn set(k: usize, i: usize, v: u32, word: u64) -> Field {
+fn set(k: usize, i: usize, v: u32, word: u64) -> Result<u64, NoValue> {
     if FIFO_CONTROL <= k {
         if fifo_fields::is_size(k - FIFO_CONTROL, i) {
             return fifo_fields::sized(k - FIFO_CONTROL, v, low(word));
@@ -86,31 +86,22 @@ fn set(k: usize, i: usize, v: u32, word: u64) -> Field {
     let changed = with(k, i, v, word);
     if 0 < v {
         if with(k, i, v - 1, word) == changed {
-            return Field::Unknown;
+            return Err(NoValue::Unknown);
         }
     }
-    Field::Value(changed)
+    Ok(changed)
 }
 
-pub fn field_read(register: &[u8], name: &[u8], word: u64) -> Field {
-    let k = find(0, register);
-    let i = place_in(k, name);
-    let found = held(k, i, word);
-    match found {
-        Field::Value(w) => Field::Value(read(k, i, w) as u64),
-        _ => found,
-    }
+pub fn field_read(register: &[u8], name: &[u8], word: u64) -> Result<u64, NoValue> {
+    let (k, i) = place_of(register, name).ok_or(NoValue::Unknown)?;
+    let w = held(k, i, word)?;
+    Ok(read(k, i, w) as u64)
 }
 
-pub fn field_set(register: &[u8], name: &[u8], value: u64, word: u64) -> Field {
+pub fn field_set(register: &[u8], name: &[u8], value: u64, word: u64) -> Result<u64, NoValue> {
     if WORDS <= value {
-        return Field::Unknown;
+        return Err(NoValue::Unknown);
     }
-    let k = find(0, register);
-    let i = place_in(k, name);
-    let found = held(k, i, word);
-    match found {
-        Field::Value(w) => set(k, i, low(value), w),
-        _ => found,
-    }
+    let (k, i) = place_of(register, name).ok_or(NoValue::Unknown)?;
+    set(k, i, low(value), held(k, i, word)?)
 }

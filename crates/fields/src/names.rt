@@ -3,7 +3,7 @@
 use named::place;
 
 // The place of a name in list 0, the registers, or in list 1 + k, the fields of register k.
-pub fn find(list: usize, name: &[u8]) -> usize {
+pub fn find(list: usize, name: &[u8]) -> Option<usize> {
     place(
         b"CiCON CiTSCON CiINT CiNBTCFG CiDBTCFG CiTDC OSC IOCON \
         CiFIFOCON CiFIFOSTA CiFIFOUA CiFLTCON CiFLTOBJ CiMASK CiTXQCON CiTXQSTA CiTXQUA \
@@ -27,7 +27,7 @@ pub fn find(list: usize, name: &[u8]) -> usize {
         txqnif txqeif txatif txerr txlarb txabt txqci/\
         fifoua/\
         sid eid dlc ide rtr brs fdf esi seq sid11/\
-        sid eid dlc ide rtr brs fdf esi filhit sid11/",
+        sid eid dlc ide rtr brs fdf esi filhit sid11",
         list,
         name,
     )

@@ -6,7 +6,7 @@ mod filters;
 mod queue;
 
 use fifo::{FifoControl, TxQueueControl, TxQueueUserAddress, UserAddress};
-use named::Field;
+use named::NoValue;
 
 // Register k of CiFIFOCON, CiFIFOSTA, CiFIFOUA, CiFLTCON, CiFLTOBJ, CiMASK, CiTXQCON, CiTXQSTA and CiTXQUA.
 pub fn read(k: usize, i: usize, w: u32) -> u32 {
@@ -48,14 +48,14 @@ pub fn is_size(k: usize, i: usize) -> bool {
 }
 
 // A size's values begin with 1, and one above 32 is set as 32.
-pub fn sized(k: usize, v: u32, w: u32) -> Field {
+pub fn sized(k: usize, v: u32, w: u32) -> Result<u64, NoValue> {
     if v == 0 {
-        return Field::Unknown;
+        return Err(NoValue::Unknown);
     }
     let set = if k == 0 {
         FifoControl(w).with_fifo_size(v).0
     } else {
         TxQueueControl(w).with_fifo_size(v).0
     };
-    Field::Value(set as u64)
+    Ok(set as u64)
 }

@@ -1,9 +1,9 @@
 // What a line of a transcript is by itself.
 #![tactic(auto)]
 
-use spoken::{Fault, Line};
+use spoken::{Fault, Spoken};
 
-#[derive(Clone, Copy)]
+#[derive(Clone, Copy, PartialEq, Eq, Debug)]
 pub enum Item {
     Blank,
     // A call, understood or not.
@@ -18,30 +18,25 @@ pub enum Item {
     // Lines that are cases by themselves.
     Field,
     Crc,
-    Bad(Fault),
 }
 
 // A line by a table of rows; its bytes go to `lent`.
-fn row_of(line: &[u8], table: &[u8], lent: &mut [u8]) -> Line {
+fn row_of(line: &[u8], table: &[u8], lent: &mut [u8]) -> Result<Spoken, Fault> {
     let mut numbers = [0u64; 24];
     spoken::row_of(line, table, &mut numbers, lent)
 }
 
 // The bytes go to `rx`.
-fn got(line: &[u8], rx: &mut [u8]) -> Item {
-    match row_of(line, b"< b", rx) {
-        Line::Row(s) => Item::Got(s.count),
-        Line::Bad(f) => Item::Bad(f),
-    }
+fn got(line: &[u8], rx: &mut [u8]) -> Result<Item, Fault> {
+    let s = row_of(line, b"< b", rx)?;
+    Ok(Item::Got(s.count))
 }
 
-fn result(line: &[u8]) -> Item {
+fn result(line: &[u8]) -> Result<Item, Fault> {
     let mut numbers = [0u64; 24];
     let mut scratch = [0u8; 4200];
-    match spoken::result(line, &mut numbers, &mut scratch) {
-        Line::Row(_) => Item::Result,
-        Line::Bad(f) => Item::Bad(f),
-    }
+    spoken::result(line, &mut numbers, &mut scratch)?;
+    Ok(Item::Result)
 }
 
 fn by_row(row: usize) -> Item {
@@ -52,15 +47,13 @@ fn by_row(row: usize) -> Item {
     }
 }
 
-fn other(line: &[u8]) -> Item {
+fn other(line: &[u8]) -> Result<Item, Fault> {
     let mut scratch = [0u8; 4200];
-    match row_of(line, b"> bd ! - wait d", &mut scratch) {
-        Line::Row(s) => by_row(s.row),
-        Line::Bad(f) => Item::Bad(f),
-    }
+    let s = row_of(line, b"> bd ! - wait d", &mut scratch)?;
+    Ok(by_row(s.row))
 }
 
-fn by_name(line: &[u8], rx: &mut [u8]) -> Item {
+fn by_name(line: &[u8], rx: &mut [u8]) -> Result<Item, Fault> {
     if text::is(line, 0, b"<") {
         return got(line, rx);
     }
@@ -68,24 +61,24 @@ fn by_name(line: &[u8], rx: &mut [u8]) -> Item {
         return result(line);
     }
     if text::is(line, 0, b"field") {
-        return Item::Field;
+        return Ok(Item::Field);
     }
     if text::is(line, 0, b"crc") {
-        return Item::Crc;
+        return Ok(Item::Crc);
     }
     other(line)
 }
 
 // A line that is too long is a call that is not understood, or nothing.
-pub fn item_of(line: &[u8], long: bool, rx: &mut [u8]) -> Item {
+pub fn item_of(line: &[u8], long: bool, rx: &mut [u8]) -> Result<Item, Fault> {
     if line.len() == 0 {
-        return Item::Blank;
+        return Ok(Item::Blank);
     }
     if text::is(line, 0, b"call") {
-        return Item::Call;
+        return Ok(Item::Call);
     }
     if long {
-        return Item::Bad(Fault::Long);
+        return Err(Fault::Long);
     }
     by_name(line, rx)
 }

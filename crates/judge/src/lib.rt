@@ -3,9 +3,8 @@
 
 use classes::Seen;
 use items::Item;
-use spoken::{Fault, Line};
+use spoken::{Fault, Spoken};
 use std::rt::{Stderr, Stdout};
-use text::Number;
 
 mod state;
 
@@ -46,7 +45,7 @@ fn told_of(line: &[u8], out: &[u8]) -> usize {
 }
 
 // What the port does, `out`, is compared with the line, and with nothing where the case ends too early.
-fn judged(s: State, item: Item, line: &[u8], out: &[u8], note: &mut [u8]) -> State {
+fn judged(s: State, item: Result<Item, Fault>, line: &[u8], out: &[u8], note: &mut [u8]) -> State {
     if state::is_due(s, item) {
         let there = state::compared(item, line);
         let told = text::front(out, told_of(there, out));
@@ -60,7 +59,7 @@ fn single(
     stdout: Stdout,
     stderr: Stderr,
     s: State,
-    item: Item,
+    item: Result<Item, Fault>,
     line: &[u8],
     note: &mut [u8],
     counts: &mut [u64],
@@ -70,46 +69,52 @@ fn single(
     }
     let mut out = [0u8; 8192];
     match singles::single(item, line, &mut out) {
-        Number::Is(n) => {
+        Some(n) => {
             let t = held(s, line, text::front(&out, n as usize), note);
             state::count_single(stdout, t, singles::class(item, line), note, counts);
         }
-        Number::Bad => state::count_bad(stdout, stderr, s, line, counts),
+        None => state::count_bad(stdout, stderr, s, line, counts),
     }
 }
 
 // What a call's line says.
-pub fn hear(item: Item, line: &[u8], long: bool, numbers: &mut [u64], lent: &mut [u8]) -> Line {
+pub fn hear(
+    item: Result<Item, Fault>,
+    line: &[u8],
+    long: bool,
+    numbers: &mut [u64],
+    lent: &mut [u8],
+) -> Result<Spoken, Fault> {
     if long {
-        return Line::Bad(Fault::Long);
+        return Err(Fault::Long);
     }
-    if let Item::Call = item {
+    if let Ok(Item::Call) = item {
         return spoken::understood(line, numbers, lent);
     }
-    Line::Bad(Fault::Name)
+    Err(Fault::Name)
 }
 
 pub fn seen_after(
     seen: Seen,
-    item: Item,
-    heard: Line,
+    item: Result<Item, Fault>,
+    heard: Result<Spoken, Fault>,
     line: &[u8],
     numbers: &[u64],
     rx: &[u8],
 ) -> Seen {
-    if let Line::Row(spoken) = heard {
+    if let Ok(spoken) = heard {
         return classes::called(spoken.row, numbers);
     }
     match item {
-        Item::Sent => classes::asked(seen, line),
-        Item::Got(n) => classes::answered(seen, text::front(rx, n)),
+        Ok(Item::Sent) => classes::asked(seen, line),
+        Ok(Item::Got(n)) => classes::answered(seen, text::front(rx, n)),
         _ => seen,
     }
 }
 
-fn classed(s: State, seen: Seen, item: Item, line: &[u8]) -> State {
+fn classed(s: State, seen: Seen, item: Result<Item, Fault>, line: &[u8]) -> State {
     match item {
-        Item::Result => state::classed(s, classes::class(seen, line)),
+        Ok(Item::Result) => state::classed(s, classes::class(seen, line)),
         _ => s,
     }
 }
@@ -119,7 +124,7 @@ pub fn settled(
     stdout: Stdout,
     stderr: Stderr,
     before: State,
-    item: Item,
+    item: Result<Item, Fault>,
     line: &[u8],
     out: &[u8],
     note: &mut [u8],
@@ -136,8 +141,8 @@ pub fn after(
     stdout: Stdout,
     stderr: Stderr,
     s: State,
-    item: Item,
-    heard: Line,
+    item: Result<Item, Fault>,
+    heard: Result<Spoken, Fault>,
     seen: Seen,
     line: &[u8],
 ) -> State {

@@ -1,7 +1,7 @@
 // Where the transcript's reader stands, and what it writes.
 use items::Item;
 use output::{error, number, one_more, write};
-use spoken::{Fault, Line};
+use spoken::{Fault, Spoken};
 use std::rt::{Stderr, Stdout};
 
 // No case is open.
@@ -74,35 +74,35 @@ fn report(stdout: Stdout, at: u64, start: u64, note: &[u8]) {
 }
 
 // Whether a line ends the case before it.
-fn is_end(item: Item) -> bool {
+fn is_end(item: Result<Item, Fault>) -> bool {
     match item {
-        Item::Blank => true,
-        Item::Call => true,
-        Item::Field => true,
-        Item::Crc => true,
+        Ok(Item::Blank) => true,
+        Ok(Item::Call) => true,
+        Ok(Item::Field) => true,
+        Ok(Item::Crc) => true,
         _ => false,
     }
 }
 
-fn is_done(item: Item) -> bool {
+fn is_done(item: Result<Item, Fault>) -> bool {
     match item {
-        Item::Sent => true,
-        Item::Wait => true,
-        Item::Result => true,
+        Ok(Item::Sent) => true,
+        Ok(Item::Wait) => true,
+        Ok(Item::Result) => true,
         _ => false,
     }
 }
 
-fn is_answer(item: Item) -> bool {
+fn is_answer(item: Result<Item, Fault>) -> bool {
     match item {
-        Item::Got(_) => true,
-        Item::Failed => true,
+        Ok(Item::Got(_)) => true,
+        Ok(Item::Failed) => true,
         _ => false,
     }
 }
 
 // Whether the port is looked at: the case so far is good, and the line says what the call does, or ends a case that has no result.
-pub fn is_due(s: State, item: Item) -> bool {
+pub fn is_due(s: State, item: Result<Item, Fault>) -> bool {
     if s.differs {
         return false;
     }
@@ -113,7 +113,7 @@ pub fn is_due(s: State, item: Item) -> bool {
 }
 
 // Nothing is held against the port where a case ends without a result.
-pub fn compared(item: Item, line: &[u8]) -> &[u8] {
+pub fn compared(item: Result<Item, Fault>, line: &[u8]) -> &[u8] {
     if is_end(item) {
         return text::front(line, 0);
     }
@@ -135,7 +135,13 @@ pub fn classed(s: State, class: u8) -> State {
 }
 
 // A case ends: it is counted, and told where it differs. One without a result differs whatever its class.
-pub fn closed(stdout: Stdout, s: State, item: Item, note: &[u8], counts: &mut [u64]) -> State {
+pub fn closed(
+    stdout: Stdout,
+    s: State,
+    item: Result<Item, Fault>,
+    note: &[u8],
+    counts: &mut [u64],
+) -> State {
     let mut t = s;
     if !is_end(item) {
         return t;
@@ -172,32 +178,38 @@ fn lost(stdout: Stdout, stderr: Stderr, s: State, fault: Fault, line: &[u8]) -> 
     t
 }
 
-fn begun(stdout: Stdout, stderr: Stderr, s: State, heard: Line, line: &[u8]) -> State {
+fn begun(
+    stdout: Stdout,
+    stderr: Stderr,
+    s: State,
+    heard: Result<Spoken, Fault>,
+    line: &[u8],
+) -> State {
     let mut t = s;
     t.start = s.number;
     t.phase = TURN;
     t.class = 0;
     t.differs = false;
     match heard {
-        Line::Row(spoken) => {
+        Ok(spoken) => {
             t.lent = spoken.count;
             t
         }
-        Line::Bad(f) => lost(stdout, stderr, t, f, line),
+        Err(f) => lost(stdout, stderr, t, f, line),
     }
 }
 
-fn size_of(item: Item) -> usize {
+fn size_of(item: Result<Item, Fault>) -> usize {
     match item {
-        Item::Got(n) => n,
+        Ok(Item::Got(n)) => n,
         _ => 0,
     }
 }
 
-fn phase_after(item: Item) -> u8 {
+fn phase_after(item: Result<Item, Fault>) -> u8 {
     match item {
-        Item::Sent => REPLY,
-        Item::Result => OVER,
+        Ok(Item::Sent) => REPLY,
+        Ok(Item::Result) => OVER,
         _ => TURN,
     }
 }
@@ -207,14 +219,14 @@ pub fn after(
     stdout: Stdout,
     stderr: Stderr,
     s: State,
-    item: Item,
-    heard: Line,
+    item: Result<Item, Fault>,
+    heard: Result<Spoken, Fault>,
     line: &[u8],
 ) -> State {
-    if let Item::Call = item {
+    if let Ok(Item::Call) = item {
         return begun(stdout, stderr, s, heard, line);
     }
-    if let Item::Bad(f) = item {
+    if let Err(f) = item {
         return lost(stdout, stderr, s, f, line);
     }
     if is_end(item) || s.phase == LOST {

@@ -4,7 +4,6 @@
 
 use driver::{Answer, Call, Outcome, Refusal};
 use fifo::FifoControl;
-use spoken::Line;
 use std::rt::Stdout;
 
 fn tell_refusal(stdout: Stdout, r: Refusal) {
@@ -196,8 +195,8 @@ fn scrub_of(line: &[u8]) -> Call {
     let mut lent = [0u8; 64];
     numbers[starts::PLACE] = 1;
     match spoken::understood(line, &mut numbers, &mut lent) {
-        Line::Row(s) => starts::start(s.row, &numbers, text::front(&lent, s.count)),
-        Line::Bad(_) => driver::reset(),
+        Ok(s) => starts::start(s.row, &numbers, text::front(&lent, s.count)),
+        Err(_) => driver::reset(),
     }
 }
 

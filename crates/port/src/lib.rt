@@ -3,7 +3,7 @@
 
 use driver::{Answer, Call, Next, Outcome};
 use items::Item;
-use spoken::Line;
+use spoken::{Fault, Spoken};
 
 // A RAM read of so many bytes ends with them.
 fn ended(o: Outcome, read: usize, buf: &[u8], out: &mut [u8]) -> usize {
@@ -53,14 +53,14 @@ pub enum Step {
 }
 
 // A call's line begins it, and what it is answered goes to it.
-pub fn step_of(item: Item, heard: Line) -> Step {
-    if let Line::Row(spoken) = heard {
+pub fn step_of(item: Result<Item, Fault>, heard: Result<Spoken, Fault>) -> Step {
+    if let Ok(spoken) = heard {
         return Step::Begin(spoken.row);
     }
     match item {
-        Item::Got(_) => Step::Answer(Answer::Exchanged),
-        Item::Failed => Step::Answer(Answer::Failed),
-        Item::Wait => Step::Answer(Answer::Waited),
+        Ok(Item::Got(_)) => Step::Answer(Answer::Exchanged),
+        Ok(Item::Failed) => Step::Answer(Answer::Failed),
+        Ok(Item::Wait) => Step::Answer(Answer::Waited),
         _ => Step::Stay,
     }
 }

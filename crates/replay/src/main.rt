@@ -4,11 +4,11 @@
 use items::Item;
 use judge::State;
 use port::Step;
-use spoken::Line;
+use spoken::{Fault, Spoken};
 use std::rt::{Stderr, Stdin, Stdout};
 
 // Answers go to the call as long as it does what the transcript has.
-fn step_of(s: State, item: Item, heard: Line) -> Step {
+fn step_of(s: State, item: Result<Item, Fault>, heard: Result<Spoken, Fault>) -> Step {
     if s.differs || judge::is_lost(s) {
         return Step::Stay;
     }

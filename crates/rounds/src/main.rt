@@ -10,7 +10,6 @@ use message::Frame;
 use state::Model;
 use std::io::Read;
 use std::rt::{Stdin, Stdout};
-use text::Number;
 
 // The chip with its count of exchanges, and how many messages came out as they went in.
 #[derive(Clone, Copy)]
@@ -65,8 +64,8 @@ fn call_of(line: &[u8]) -> Call {
     let mut numbers = [0u64; 24];
     let mut lent = [0u8; 64];
     match spoken::understood(line, &mut numbers, &mut lent) {
-        spoken::Line::Row(s) => starts::start(s.row, &numbers, text::front(&lent, s.count)),
-        spoken::Line::Bad(_) => driver::reset(),
+        Ok(s) => starts::start(s.row, &numbers, text::front(&lent, s.count)),
+        Err(_) => driver::reset(),
     }
 }
 
@@ -188,8 +187,8 @@ fn play(stdout: Stdout, n: u32) {
 
 fn rounds_of(s: &[u8]) -> u32 {
     match text::decimal(s) {
-        Number::Is(n) => { if n < 4294967296 { n as u32 } else { 0 } }
-        Number::Bad => 0,
+        Some(n) => { if n < 4294967296 { n as u32 } else { 0 } }
+        None => 0,
     }
 }
 

@@ -1,8 +1,7 @@
 // What a line of a script is.
 #![tactic(auto)]
 
-use spoken::{Fault, Line, Spoken};
-use text::Number;
+use spoken::{Fault, Spoken};
 
 #[derive(Clone, Copy)]
 pub enum Entry {
@@ -45,17 +44,17 @@ pub const FAIL: usize = 6;
 pub const ANSWER: usize = 7;
 
 // The number of the exchange that an @ line is about.
-pub fn exchange_of(line: &[u8]) -> Number {
+pub fn exchange_of(line: &[u8]) -> Option<u64> {
     let w = text::word(line, 0);
     if w.len() < 2 {
-        return Number::Bad;
+        return None;
     }
     let start = 1;
     text::decimal(&w[start..])
 }
 
 // What an @ line says of its exchange.
-pub fn note_of(line: &[u8], numbers: &mut [u64], lent: &mut [u8]) -> Line {
+pub fn note_of(line: &[u8], numbers: &mut [u64], lent: &mut [u8]) -> Result<Spoken, Fault> {
     spoken::row_of(
         text::rest(line, 1),
         b"send d deliver difhb deliver difhbd sort ifhb sort ifhbd send q fail - answer b",
@@ -65,19 +64,19 @@ pub fn note_of(line: &[u8], numbers: &mut [u64], lent: &mut [u8]) -> Line {
 }
 
 fn note(line: &[u8], numbers: &mut [u64], lent: &mut [u8]) -> Entry {
-    let Number::Is(_) = exchange_of(line) else {
+    let Some(_) = exchange_of(line) else {
         return Entry::BadNote(Fault::Exchange);
     };
     match note_of(line, numbers, lent) {
-        Line::Row(_) => Entry::Note,
-        Line::Bad(f) => Entry::BadNote(f),
+        Ok(_) => Entry::Note,
+        Err(f) => Entry::BadNote(f),
     }
 }
 
 fn call(line: &[u8], numbers: &mut [u64], lent: &mut [u8]) -> Entry {
     match spoken::understood(line, numbers, lent) {
-        Line::Row(_) => Entry::Call,
-        Line::Bad(f) => Entry::Bad(f),
+        Ok(_) => Entry::Call,
+        Err(f) => Entry::Bad(f),
     }
 }
 
@@ -85,8 +84,8 @@ fn step(line: &[u8], numbers: &mut [u64], lent: &mut [u8]) -> Entry {
     let table =
         b"send d deliver difhb deliver difhbd sort ifhb sort ifhbd send q raw bd held d held q new -";
     match spoken::row_of(line, table, numbers, lent) {
-        Line::Row(s) => Entry::Step(s),
-        Line::Bad(f) => Entry::Bad(f),
+        Ok(s) => Entry::Step(s),
+        Err(f) => Entry::Bad(f),
     }
 }
 

@@ -2,52 +2,44 @@
 #![tactic(auto)]
 
 use items::Item;
-use named::Field;
-use text::Number;
+use named::NoValue;
+use spoken::Fault;
 
 // `crc BYTES -> HEX` as the port has it, or Bad where it is not understood.
-fn crc_line(line: &[u8], out: &mut [u8]) -> Number {
+fn crc_line(line: &[u8], out: &mut [u8]) -> Option<u64> {
     let mut scratch = [0u8; 4200];
     if text::count(line) != 4 || !text::is(line, 2, b"->") {
-        return Number::Bad;
+        return None;
     }
-    let Number::Is(n) = text::bytes(text::word(line, 1), &mut scratch) else {
-        return Number::Bad;
-    };
-    let Number::Is(_) = text::hex(text::word(line, 3)) else {
-        return Number::Bad;
-    };
-    let s = text::front(&scratch, n as usize);
+    let n = text::bytes(text::word(line, 1), &mut scratch)?;
+    let _ = text::hex(text::word(line, 3))?;
+    let s = text::front(&scratch, n);
     let a = lines::put(out, 0, b"crc ");
     let b = lines::bytes(out, a, s);
     let c = lines::put(out, b, b" -> ");
-    Number::Is(lines::hex(out, c, crc::checksum(s) as u64, 4) as u64)
+    Some(lines::hex(out, c, crc::checksum(s) as u64, 4) as u64)
 }
 
 // Up to 16 hex digits: a word, or the two of a header.
-fn double(w: &[u8]) -> Number {
+fn double(w: &[u8]) -> Option<u64> {
     let n = w.len();
     if n <= 8 {
         return text::hex(w);
     }
     let start = 0;
     let k = n - 8;
-    let Number::Is(high) = text::hex(&w[start..k]) else {
-        return Number::Bad;
-    };
-    let Number::Is(low) = text::hex(&w[k..n]) else {
-        return Number::Bad;
-    };
+    let high = text::hex(&w[start..k])?;
+    let low = text::hex(&w[k..n])?;
     joined(high, low)
 }
 
-fn joined(high: u64, low: u64) -> Number {
+fn joined(high: u64, low: u64) -> Option<u64> {
     if high < 0x1_0000_0000 {
         if low < 0x1_0000_0000 {
-            return Number::Is(high * 0x1_0000_0000 + low);
+            return Some(high * 0x1_0000_0000 + low);
         }
     }
-    Number::Bad
+    None
 }
 
 // Whether a line has so many words, with `->` at this place.
@@ -65,57 +57,47 @@ fn question(line: &[u8], k: usize) -> &[u8] {
 }
 
 // `field REGISTER NAME WORD -> VALUE`, a field read.
-fn read_line(line: &[u8], out: &mut [u8]) -> Number {
-    let Number::Is(w) = double(text::word(line, 3)) else {
-        return Number::Bad;
-    };
-    let Number::Is(_) = text::decimal(text::word(line, 5)) else {
-        return Number::Bad;
-    };
+fn read_line(line: &[u8], out: &mut [u8]) -> Option<u64> {
+    let w = double(text::word(line, 3))?;
+    let _ = text::decimal(text::word(line, 5))?;
     let a = lines::put(out, 0, question(line, 5));
     match fields::field_read(text::word(line, 1), text::word(line, 2), w) {
-        Field::Value(v) => Number::Is(lines::decimal(out, a, v) as u64),
-        Field::Absent => Number::Is(a as u64),
-        Field::Unknown => Number::Bad,
+        Ok(v) => Some(lines::decimal(out, a, v) as u64),
+        Err(NoValue::Absent) => Some(a as u64),
+        Err(NoValue::Unknown) => None,
     }
 }
 
 // `field REGISTER NAME VALUE WORD -> WORD`, a field set.
-fn set_line(line: &[u8], out: &mut [u8]) -> Number {
-    let Number::Is(v) = text::decimal(text::word(line, 3)) else {
-        return Number::Bad;
-    };
-    let Number::Is(w) = double(text::word(line, 4)) else {
-        return Number::Bad;
-    };
-    let Number::Is(_) = double(text::word(line, 6)) else {
-        return Number::Bad;
-    };
+fn set_line(line: &[u8], out: &mut [u8]) -> Option<u64> {
+    let v = text::decimal(text::word(line, 3))?;
+    let w = double(text::word(line, 4))?;
+    let _ = double(text::word(line, 6))?;
     let a = lines::put(out, 0, question(line, 6));
     let width = text::word(line, 4).len();
     match fields::field_set(text::word(line, 1), text::word(line, 2), v, w) {
-        Field::Value(x) => Number::Is(lines::hex(out, a, x, width) as u64),
-        Field::Absent => Number::Is(a as u64),
-        Field::Unknown => Number::Bad,
+        Ok(x) => Some(lines::hex(out, a, x, width) as u64),
+        Err(NoValue::Absent) => Some(a as u64),
+        Err(NoValue::Unknown) => None,
     }
 }
 
-fn field_line(line: &[u8], out: &mut [u8]) -> Number {
+fn field_line(line: &[u8], out: &mut [u8]) -> Option<u64> {
     if is_whole(line, 6, 4) {
         return read_line(line, out);
     }
     if is_whole(line, 7, 5) {
         return set_line(line, out);
     }
-    Number::Bad
+    None
 }
 
 // Whether TDCO's top bit makes a difference where it is set to v in a word.
-fn cut_class(v: Number, w: Number) -> u8 {
-    let Number::Is(v) = v else {
+fn cut_class(v: Option<u64>, w: Option<u64>) -> u8 {
+    let Some(v) = v else {
         return classes::COMPARED;
     };
-    let Number::Is(w) = w else {
+    let Some(w) = w else {
         return classes::COMPARED;
     };
     if classes::is_cut(v, (w % 0x1_0000_0000) as u32) {
@@ -127,7 +109,7 @@ fn cut_class(v: Number, w: Number) -> u8 {
 // Read from a word, TDCO's top bit is taken for 0.
 fn delay_class(line: &[u8]) -> u8 {
     if is_whole(line, 6, 4) {
-        return cut_class(Number::Is(0), text::hex(text::word(line, 3)));
+        return cut_class(Some(0), text::hex(text::word(line, 3)));
     }
     cut_class(
         text::decimal(text::word(line, 3)),
@@ -149,25 +131,25 @@ fn field_class(line: &[u8]) -> u8 {
     classes::COMPARED
 }
 
-pub fn is_single(item: Item) -> bool {
+pub fn is_single(item: Result<Item, Fault>) -> bool {
     match item {
-        Item::Field => true,
-        Item::Crc => true,
+        Ok(Item::Field) => true,
+        Ok(Item::Crc) => true,
         _ => false,
     }
 }
 
-pub fn class(item: Item, line: &[u8]) -> u8 {
+pub fn class(item: Result<Item, Fault>, line: &[u8]) -> u8 {
     match item {
-        Item::Field => field_class(line),
+        Ok(Item::Field) => field_class(line),
         _ => classes::COMPARED,
     }
 }
 
-pub fn single(item: Item, line: &[u8], out: &mut [u8]) -> Number {
+pub fn single(item: Result<Item, Fault>, line: &[u8], out: &mut [u8]) -> Option<u64> {
     match item {
-        Item::Field => field_line(line, out),
-        Item::Crc => crc_line(line, out),
-        _ => Number::Bad,
+        Ok(Item::Field) => field_line(line, out),
+        Ok(Item::Crc) => crc_line(line, out),
+        _ => None,
     }
 }

@@ -1,8 +1,6 @@
 // ADDR:WORD:MASK, an entry of a scrub's list: 12 bytes in the lent buffer, three words, each with its low byte first.
 ghost use Rattle.std.specs.Prelude.{◌≤◌};
 
-use text::Number;
-
 fn put_byte(out: &mut [u8], at: usize, b: u8) {
     if at < out.len() {
         out[at] = b;
@@ -19,14 +17,20 @@ fn put_word(out: &mut [u8], at: usize, v: u64)
 }
 
 // Whether they are three numbers, and entry k fits. A list has at most 256.
-fn put_entry(out: &mut [u8], k: usize, address: Number, wanted: Number, mask: Number) -> bool {
-    let Number::Is(a) = address else {
+fn put_entry(
+    out: &mut [u8],
+    k: usize,
+    address: Option<u64>,
+    wanted: Option<u64>,
+    mask: Option<u64>,
+) -> bool {
+    let Some(a) = address else {
         return false;
     };
-    let Number::Is(w) = wanted else {
+    let Some(w) = wanted else {
         return false;
     };
-    let Number::Is(m) = mask else {
+    let Some(m) = mask else {
         return false;
     };
     if 256 <= k {

@@ -3,10 +3,9 @@
 
 use driver::{Answer, Call, Next};
 use model::{Exchanged, Heard};
-use spoken::{Line, Spoken};
+use spoken::Spoken;
 use state::Model;
 use std::rt::Stdout;
-use text::Number;
 
 // What the @ lines say of one exchange, and the chip after their bus steps.
 #[derive(Clone, Copy)]
@@ -20,17 +19,17 @@ struct Told {
 
 fn is_about(note: &[u8], k: u64) -> bool {
     match script::exchange_of(note) {
-        Number::Is(n) => n == k,
-        Number::Bad => false,
+        Some(n) => n == k,
+        None => false,
     }
 }
 
 // The chip answers otherwise; of two such lines the last holds.
 fn given(t: Told, note: &[u8], rx: &mut [u8]) -> Told {
     let mut u = t;
-    if let Number::Is(n) = text::bytes(text::word(note, 2), rx) {
+    if let Some(n) = text::bytes(text::word(note, 2), rx) {
         u.answered = true;
-        u.given = n as usize;
+        u.given = n;
     }
     u
 }
@@ -69,7 +68,7 @@ fn noted(
 fn told_by(stdout: Stdout, t: Told, note: &[u8], rx: &mut [u8]) -> Told {
     let mut numbers = [0u64; 24];
     let mut lent = [0u8; 32768];
-    let Line::Row(s) = script::note_of(note, &mut numbers, &mut lent) else {
+    let Ok(s) = script::note_of(note, &mut numbers, &mut lent) else {
         return t;
     };
     noted(stdout, t, s, note, &numbers, &lent, rx)
@@ -356,7 +355,7 @@ pub fn run(stdout: Stdout, m: Model, line: &[u8], notes: &[u8], place: &mut [u64
     let mut lent = [0u8; 32768];
     numbers[starts::PLACE] = place[0];
     output::write_line(stdout, line);
-    let Line::Row(s) = spoken::understood(line, &mut numbers, &mut lent) else {
+    let Ok(s) = spoken::understood(line, &mut numbers, &mut lent) else {
         return m;
     };
     ran(

@@ -7,7 +7,7 @@
 use items::Item;
 use output::write_line;
 use port::Step;
-use spoken::{Fault, Line};
+use spoken::{Fault, Spoken};
 use std::rt::{Stderr, Stdin, Stdout};
 
 // What the call does now. A wait is not written here: its line comes with the answers.
@@ -26,9 +26,9 @@ fn is_step(step: Step) -> bool {
     }
 }
 
-fn got_of(item: Item) -> usize {
+fn got_of(item: Result<Item, Fault>) -> usize {
     match item {
-        Item::Got(n) => n,
+        Ok(Item::Got(n)) => n,
         _ => 0,
     }
 }
@@ -52,24 +52,29 @@ fn begin() -> Place {
     }
 }
 
-fn called(p: Place, heard: Line, numbers: &[u64]) -> Place {
+fn called(p: Place, heard: Result<Spoken, Fault>, numbers: &[u64]) -> Place {
     let mut q = p;
     match heard {
-        Line::Row(spoken) => {
+        Ok(spoken) => {
             q.open = true;
             q.sent = spoken.count;
             q.read = classes::read_of(classes::called(spoken.row, numbers));
         }
-        Line::Bad(_) => q.open = false,
+        Err(_) => q.open = false,
     }
     q
 }
 
-fn next(p: Place, item: Item, heard: Line, numbers: &[u64]) -> Place {
+fn next(
+    p: Place,
+    item: Result<Item, Fault>,
+    heard: Result<Spoken, Fault>,
+    numbers: &[u64],
+) -> Place {
     let mut q = p;
     q.number = output::one_more(p.number);
     match item {
-        Item::Call => called(q, heard, numbers),
+        Ok(Item::Call) => called(q, heard, numbers),
         _ => q,
     }
 }
@@ -81,10 +86,10 @@ enum Verdict {
     Bad(Fault),
 }
 
-fn call_judged(heard: Line) -> Verdict {
+fn call_judged(heard: Result<Spoken, Fault>) -> Verdict {
     match heard {
-        Line::Row(_) => Verdict::Good,
-        Line::Bad(f) => Verdict::Bad(f),
+        Ok(_) => Verdict::Good,
+        Err(f) => Verdict::Bad(f),
     }
 }
 
@@ -95,19 +100,19 @@ fn answer_judged(open: bool) -> Verdict {
     Verdict::Bad(Fault::Alone)
 }
 
-fn judged(open: bool, item: Item, heard: Line) -> Verdict {
+fn judged(open: bool, item: Result<Item, Fault>, heard: Result<Spoken, Fault>) -> Verdict {
     match item {
-        Item::Blank => Verdict::Good,
-        Item::Call => call_judged(heard),
-        Item::Got(_) => answer_judged(open),
-        Item::Failed => answer_judged(open),
-        Item::Wait => answer_judged(open),
-        Item::Bad(f) => Verdict::Bad(f),
+        Ok(Item::Blank) => Verdict::Good,
+        Ok(Item::Call) => call_judged(heard),
+        Ok(Item::Got(_)) => answer_judged(open),
+        Ok(Item::Failed) => answer_judged(open),
+        Ok(Item::Wait) => answer_judged(open),
+        Err(f) => Verdict::Bad(f),
         _ => Verdict::Bad(Fault::Place),
     }
 }
 
-fn step_of(j: Verdict, item: Item, heard: Line) -> Step {
+fn step_of(j: Verdict, item: Result<Item, Fault>, heard: Result<Spoken, Fault>) -> Step {
     match j {
         Verdict::Good => port::step_of(item, heard),
         Verdict::Bad(_) => Step::Stay,

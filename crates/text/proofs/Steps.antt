@@ -10,29 +10,29 @@ use borrow.Author.Tests.{lt-ltb, le-ltb, lt-leb, le-leb}
 use lib.ListN.{length, get_or, drop}
 use lib.Seq.{drop-cons, drop-length}
 use Rattle.text.specs.Number.{value_of, read_from, number_of}
-use Rattle.text.specs.declared.number.Number.{Number}
+use Rattle.std.proofs.Common.{Option, Some, None}
 
 good : (base v b : ℕ) (s : List ℕ) → value_of b < base → read_from base v (b ∷ s) ≡ read_from base (v * base + value_of b) s
 unfolding read_from
 good base v b s h = simp (lt-ltb _ _ h)
 
-bad : (base v b : ℕ) (s : List ℕ) → base ≤ value_of b → read_from base v (b ∷ s) ≡ Number.Bad
+bad : (base v b : ℕ) (s : List ℕ) → base ≤ value_of b → read_from base v (b ∷ s) ≡ None
 unfolding read_from
 bad base v b s h = simp (le-ltb _ _ h)
 
 -- one digit taken, d; r is the result
-pub again : (base v i : ℕ) (s : List ℕ) {d : ℕ} {r : Number} → i < length s → d ≡ value_of (get_or s i 0) → d < base → read_from base v (drop i s) ≡ r → read_from base (v * base + d) (drop (i + 1) s) ≡ r
+pub again : (base v i : ℕ) (s : List ℕ) {d : ℕ} {r : Option ℕ} → i < length s → d ≡ value_of (get_or s i 0) → d < base → read_from base v (drop i s) ≡ r → read_from base (v * base + d) (drop (i + 1) s) ≡ r
 again base v i s h e k f =
     let g : value_of (get_or s i 0) < base = rw e at k in
     rw (e, add-one i) (sym (good base v (get_or s i 0) (drop (suc i) s) g) ∙ (rw (drop-cons s i 0 h) at f))
 
 -- a character that is no digit
-pub stopped : (base v i : ℕ) (s : List ℕ) {d : ℕ} {r : Number} → i < length s → d ≡ value_of (get_or s i 0) → base ≤ d → read_from base v (drop i s) ≡ r → Number.Bad ≡ r
+pub stopped : (base v i : ℕ) (s : List ℕ) {d : ℕ} {r : Option ℕ} → i < length s → d ≡ value_of (get_or s i 0) → base ≤ d → read_from base v (drop i s) ≡ r → None ≡ r
 stopped base v i s h e k f =
     let g : base ≤ value_of (get_or s i 0) = rw e at k in
     sym (bad base v (get_or s i 0) (drop (suc i) s) g) ∙ (rw (drop-cons s i 0 h) at f)
 
-pub at_end : (base v i : ℕ) (s : List ℕ) → i ≤ length s → length s ≤ i → read_from base v (drop i s) ≡ Number.Is v
+pub at_end : (base v i : ℕ) (s : List ℕ) → i ≤ length s → length s ≤ i → read_from base v (drop i s) ≡ Some v
 unfolding read_from
 at_end base v i s h k = let e : i ≡ length s = omega arith in rw (e, drop-length s)
 
@@ -51,11 +51,11 @@ fits base v d i b k h e = omega (arith, below base v d i h e, small base (i + 1)
 pub first : (base : ℕ) → 0 < base ^ 0
 first base = rw (pow-zero base) (omega arith)
 
-pub empty : (base most : ℕ) (s : List ℕ) → length s < 1 → Number.Bad ≡ number_of base most s
+pub empty : (base most : ℕ) (s : List ℕ) → length s < 1 → None ≡ number_of base most s
 unfolding number_of
 empty base most s h = let e : length s ≤ 0 = omega arith in simp (le-ltb _ _ e)
 
-pub long : (base most : ℕ) (s : List ℕ) → 1 ≤ length s → most < length s → Number.Bad ≡ number_of base most s
+pub long : (base most : ℕ) (s : List ℕ) → 1 ≤ length s → most < length s → None ≡ number_of base most s
 unfolding number_of
 long base most s h k = simp (lt-ltb _ _ h, lt-leb _ _ k)
 

@@ -5,7 +5,7 @@ ghost use Rattle.std.specs.Prelude.{◌<◌, ◌≤◌, length};
 
 mod number;
 
-pub use number::{EXTENDED, Number, bytes, decimal, flags, hex, identifier};
+pub use number::{EXTENDED, bytes, decimal, flags, hex, identifier};
 
 // Where the part that begins at `from` ends: at the next `b`, the line's end where there is none.
 pub fn end_of(line: &[u8], b: u8, from: usize) -> usize

@@ -2,12 +2,6 @@
 ghost use Rattle.std.specs.Prelude.{◌≡◌, ◌<◌, ◌≤◌};
 ghost use Rattle.text.specs.Number.{value_of, number_of, decimal_of, hex_of};
 
-#[derive(Clone, Copy)]
-pub enum Number {
-    Is(u64),
-    Bad,
-}
-
 // 16, a digit of no base, for a character that is none: hex is lowercase.
 fn digit(b: u8) -> u64
     ensures { (result ≡ value_of b) × (result ≤ 16) }
@@ -28,38 +22,38 @@ fn digit(b: u8) -> u64
     16
 }
 
-fn read(s: &[u8], base: u64, most: usize) -> Number
+fn read(s: &[u8], base: u64, most: usize) -> Option<u64>
     requires { (base ≤ 16) × (most ≤ 12) }
     ensures { result ≡ number_of base most s.now }
 {
     if s.len() < 1 {
-        return Number::Bad;
+        return None;
     }
     if most < s.len() {
-        return Number::Bad;
+        return None;
     }
     let mut v: u64 = 0;
     let mut i = 0;
     while i < s.len() {
         let d = digit(s[i]);
         if base <= d {
-            return Number::Bad;
+            return None;
         }
         v = v * base + d;
         i += 1;
     }
-    Number::Is(v)
+    Some(v)
 }
 
 // At most 12 digits.
-pub fn decimal(s: &[u8]) -> Number
+pub fn decimal(s: &[u8]) -> Option<u64>
     ensures { result ≡ decimal_of s.now }
 {
     read(s, 10, 12)
 }
 
 // At most 8 digits: an address, an identifier or a word.
-pub fn hex(s: &[u8]) -> Number
+pub fn hex(s: &[u8]) -> Option<u64>
     ensures { result ≡ hex_of s.now }
 {
     read(s, 16, 8)
@@ -86,28 +80,28 @@ fn put_byte(out: &mut [u8], at: usize, high: u64, low: u64) -> bool {
     false
 }
 
-// Bytes, `-` for none, into the front of a lent buffer: how many, or Bad where the word is no bytes or they do not fit.
-pub fn bytes(s: &[u8], out: &mut [u8]) -> Number {
+// Bytes, `-` for none, into the front of a lent buffer: how many, or None where the word is no bytes or they do not fit.
+pub fn bytes(s: &[u8], out: &mut [u8]) -> Option<usize> {
     if check::same(s, b"-") {
-        return Number::Is(0);
+        return Some(0);
     }
     let n = s.len() / 2;
     if n == 0 {
-        return Number::Bad;
+        return None;
     }
     if s.len() % 2 == 1 {
-        return Number::Bad;
+        return None;
     }
     let mut i = 0;
     while i < n {
         let high = digit_at(s, 2 * i);
         let low = digit_at(s, 2 * i + 1);
         if !put_byte(out, i, high, low) {
-            return Number::Bad;
+            return None;
         }
         i += 1;
     }
-    Number::Is(n as u64)
+    Some(n)
 }
 
 // The bit that stands for a flag's letter, 0 where it is none.
@@ -130,57 +124,53 @@ fn flag(b: u8) -> u64
 }
 
 // FDF 1, BRS 2, ESI 4, RTR 8, or `-`: each letter stands for more than those before it together.
-pub fn flags(s: &[u8]) -> Number {
+pub fn flags(s: &[u8]) -> Option<u64> {
     if s.len() == 0 {
-        return Number::Bad;
+        return None;
     }
     if check::same(s, b"-") {
-        return Number::Is(0);
+        return Some(0);
     }
     let mut sum: u64 = 0;
     let mut i = 0;
     while i < s.len() {
         let d = flag(s[i]);
         if d <= sum {
-            return Number::Bad;
+            return None;
         }
         sum += d;
         i += 1;
     }
-    Number::Is(sum)
+    Some(sum)
 }
 
 // What is added to an extended identifier in its number.
 pub const EXTENDED: u64 = 0x1_0000_0000;
 
-fn kind(b: u8) -> Number {
+fn kind(b: u8) -> Option<u64> {
     if b == b's' {
-        return Number::Is(0);
+        return Some(0);
     }
     if b == b'x' {
-        return Number::Is(EXTENDED);
+        return Some(EXTENDED);
     }
-    Number::Bad
+    None
 }
 
-fn sum_of(a: Number, b: Number) -> Number {
-    let Number::Is(x) = a else {
-        return Number::Bad;
-    };
-    let Number::Is(y) = b else {
-        return Number::Bad;
-    };
+fn sum_of(a: Option<u64>, b: Option<u64>) -> Option<u64> {
+    let x = a?;
+    let y = b?;
     if x <= EXTENDED {
         if y < EXTENDED {
-            return Number::Is(x + y);
+            return Some(x + y);
         }
     }
-    Number::Bad
+    None
 }
 
-pub fn identifier(s: &[u8]) -> Number {
+pub fn identifier(s: &[u8]) -> Option<u64> {
     if s.len() < 2 {
-        return Number::Bad;
+        return None;
     }
     let start = 1;
     sum_of(kind(s[0]), hex(&s[start..]))
