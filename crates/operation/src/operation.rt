@@ -17,13 +17,11 @@ pub enum Operation {
     None,
 }
 
+#[tactic(auto, unfolding(crate::specs::Operation::in_ram))]
 fn in_ram(a: u32, n: usize) -> bool
     ensures { result ≡ in_ram a n }
 {
-    if spi::in_range(a, n) {
-        return n % 4 == 0;
-    }
-    false
+    spi::in_range(a, n) && n % 4 == 0
 }
 
 #[tactic(auto, unfolding(crate::specs::Operation::read_at))]
@@ -121,6 +119,7 @@ fn by_opcode(op: u32, a: u32, s: &[u8], want: usize) -> Operation
     Operation::None
 }
 
+#[tactic(auto, unfolding(crate::specs::Operation::asked))]
 pub fn asked(s: &[u8], want: usize) -> Operation
     ensures { result ≡ asked s.now want }
 {
