@@ -1,8 +1,8 @@
 # A file of Rattle, written as Rust: what differs is exactly this.
 #   - what is for proofs alone becomes a comment. Marked //@ are lines: `ghost use ..;`, `requires { .. }` and `ensures { .. }` with a name
-#     or without, ghost members `ghost x: { .. };`, each on one line or several, `#![tactic(..)]` and `#[tactic(..)]`, `impl Model for` and
-#     `use std::marker::Model;`. Marked /*@ */ are parts of lines: a contract in front of the `;` that ends a trait's method, `final` in front
-#     of `fn`, and `Drop` as a bound or in a derive
+#     or without, ghost members `ghost x: { .. };`, each on one line or several, `#![tactic(..)]` and `#[tactic(..)]`, `impl Model for ..`
+#     and `use std::marker::Model;`. Marked /*@ */ are parts of lines: a contract in front of the `;` that ends a trait's method, `final`
+#     in front of `fn`, and `Drop` as a bound or in a derive
 #   - behind the derive in front of each `struct` and `enum` stands another one, with those of Debug, PartialEq and Eq that it has not, and
 #     that no `impl` of the file gives
 #   - `crate::X` becomes `ROOT::NAME::X`, as a Rattle crate is a module here, and `pub(crate)` becomes `pub(in ROOT::NAME)`
@@ -54,21 +54,25 @@ function ranked(r, signs,    i, k) { for (i = split(signs, k, " "); i > 0; i--) 
 function core_names() {
     # what is in scope in both without an import: no item, import or pattern of the source's own has such a name
     set_of(prelude, "Some None Ok Err Option Result AsMut AsRef Clone Copy Default DoubleEndedIterator Drop Eq ExactSizeIterator Extend Fn")
-    set_of(prelude, "FnMut FnOnce From FromIterator Into IntoIterator Iterator Ord PartialEq PartialOrd Send Sized Sync TryFrom TryInto Unpin")
-    set_of(prelude, "Box String ToOwned ToString Vec")
+    set_of(prelude, "FnMut FnOnce From FromIterator Into IntoIterator Iterator Ord PartialEq PartialOrd Send Sized Sync TryFrom TryInto")
+    set_of(prelude, "Unpin Box String ToOwned ToString Vec")
     # traits whose methods differ, or that Rattle has no methods of
     set_of(differs, "Clone Copy Drop Model Owns Send Sync Unpin")
     set_of(of_layout, "size_of size_of_val align_of align_of_val discriminant transmute type_name")
     set_of(core_module, "array error cmp convert fmt iter marker mem num ops option result slice")
     # of slices and arrays
     set_of(method, "len is_empty get get_mut first first_mut last last_mut split_at split_at_mut split_first split_last iter iter_mut")
-    set_of(method, "split starts_with ends_with contains copy_from_slice fill swap reverse chunks chunks_exact windows partition_point")
+    set_of(method, "split splitn starts_with ends_with strip_prefix strip_suffix contains copy_from_slice fill swap reverse")
+    set_of(method, "chunks chunks_exact chunks_exact_mut windows partition_point")
+    # of bool
+    set_of(method, "then then_some")
     # of Option and Result
     set_of(method, "is_some is_none is_some_and is_ok is_err is_ok_and is_err_and ok err ok_or ok_or_else map map_err map_or map_or_else")
     set_of(method, "and_then or_else unwrap unwrap_or unwrap_or_else unwrap_or_default copied filter take replace as_ref as_mut xor")
     # of iterators and ranges
-    set_of(method, "into_iter enumerate zip rev skip step_by chain take_while skip_while map_while filter_map any all position find find_map")
-    set_of(method, "count sum product fold nth next next_back")
+    set_of(method, "into_iter enumerate zip rev skip step_by chain take_while skip_while map_while filter_map any all position find")
+    set_of(method, "find_map")
+    set_of(method, "count sum product fold try_fold nth next next_back size_hint")
     # of numbers
     set_of(method, "min max clamp pow abs_diff div_ceil rem_euclid div_euclid is_power_of_two count_ones count_zeros leading_zeros")
     set_of(method, "trailing_zeros rotate_left rotate_right swap_bytes reverse_bits to_le_bytes to_be_bytes")
@@ -152,7 +156,8 @@ function scan(l, s) {
     } else if (s == "use std::marker::Model;") proof(l, "use std")
     else if (s ~ /^#\[derive\(/) derive(l, s)
     else if (s ~ /^use std::(rt|io)/) {
-        if (s !~ /^use std::rt::([A-Z][A-Za-z]*|\{[A-Z][A-Za-z]*(, [A-Z][A-Za-z]*)*\});$/ && s != "use std::io::Read;") die(l, "a use of std of another form")
+        if (s !~ /^use std::rt::([A-Z][A-Za-z]*|\{[A-Z][A-Za-z]*(, [A-Z][A-Za-z]*)*\});$/ && s != "use std::io::Read;")
+            die(l, "a use of std of another form")
         if (s ~ /^use std::rt::/) whole[l] = "use " kitroot substr(s, 8)
         add("use std", "G", l, 1)
     } else if (s ~ /^use std::/) core_use(l, s)
@@ -170,7 +175,8 @@ function proof(l, what) {
 # A contract, or a ghost member, on one line or more: the brace that closes its first ends it, but for a member's default, or what is behind
 # its type; nothing in it may hide a brace.
 function ghostly(l, s,    i, c, rest) {
-    if (s ~ /"|--|\{-|\/\/|\/\*|\*\/|«|»|[\001-\037\177]/) die(l, "a string, a comment, a quoted name or a control character in a contract")
+    if (s ~ /"|--|\{-|\/\/|\/\*|\*\/|«|»|[\001-\037\177]/)
+        die(l, "a string, a comment, a quoted name or a control character in a contract")
     if (s ~ /^ *$/) die(l, "an empty line in a contract")
     ghost[l] = 1
     for (i = 1; i <= length(s); i++) {
@@ -222,7 +228,8 @@ function missing(l, w, trait, behind) {
 
 # What of std is core's in Rust. A module that is imported may begin a path.
 function core_use(l, s,    n, i, part, whose, list) {
-    if (s !~ /^use std::([a-zA-Z_]+|[a-zA-Z_]+::[a-zA-Z_]+|([a-zA-Z_]+::)?\{[a-zA-Z_]+(, [a-zA-Z_]+)*\});$/) die(l, "a use of std of another form")
+    if (s !~ /^use std::([a-zA-Z_]+|[a-zA-Z_]+::[a-zA-Z_]+|([a-zA-Z_]+::)?\{[a-zA-Z_]+(, [a-zA-Z_]+)*\});$/)
+        die(l, "a use of std of another form")
     list = substr(s, 10, length(s) - 10)
     if (match(list, /^[a-z_]+::/)) { whose = substr(list, 1, RLENGTH - 2); list = substr(list, RLENGTH + 1) }
     gsub(/[{} ]/, "", list)
@@ -381,7 +388,7 @@ function declaration(    w) {
 }
 # Of an impl block or a trait.
 function member(of_trait, declared) {
-    if (is_kind("G")) { if (token[p] == "ghost member" || token[p] ~ /^(ghost use|tactic)$/) { p++; return } wanted("a member that is known") }
+    if (is_kind("G")) { if (token[p] !~ /^(ghost member|ghost use|tactic)$/) wanted("a member that is known"); p++; return }
     if (!of_trait) visibility()
     if (is("const")) constant(declared)
     else if (is("type") && of_trait) associated(declared)
@@ -679,6 +686,7 @@ function matching() {
 function pattern() { if (is("|")) wanted("a pattern"); for (one_pattern(); is("|"); one_pattern()) p++ }
 function one_pattern() {
     if (is("_") || is("true") || is("false")) p++
+    else if (is_kind("B") && token[p] == "a string") p++
     else if (is("-") || is_kind("N") || is_kind("B")) { literal(); if (is("..=")) { p++; literal() } }
     else if (is("(")) patterns(")")
     else if (is("[")) patterns("]")
@@ -848,7 +856,9 @@ function of_number(    w) {
     p++
     if (is("(")) arguments()
 }
-function arguments() { for (take("("); !is(")"); comma(")")) expression(0); p++ }
+function arguments() { for (take("("); !is(")"); comma(")")) ranged(0); p++ }
+# Those of a method that takes a place or a part, as an index does.
+function parted() { take("("); if (!is(")")) within(); if (is(",")) p++; take(")") }
 function behind(    w) {
     while (is(".") || is("[") || is("?") || is("(")) {
         if (is("[")) { p++; within(); take("]") }
@@ -859,14 +869,17 @@ function behind(    w) {
             if (is_kind("N") && token[p] ~ /^[0-9]$/) { p++; continue }
             w = small()
             if (is("::")) { p++; arguments_of_types(); if (!is("(")) wanted("(") }
-            if (is("(")) { if (!(w in method)) refused("neither a crate nor core has this method"); arguments() }
+            if (is("(")) {
+                if (!(w in method)) refused("neither a crate nor core has this method")
+                if (w ~ /^get(_mut)?$/) parted(); else arguments()
+            }
         }
     }
 }
 # A place, or a part from one place up to another.
 function within() {
     if (!is("..") && !is("..=")) expression(0)
-    if (is("..") || is("..=")) { p++; if (!is("]")) expression(0) }
+    if (is("..") || is("..=")) { p++; if (!is("]") && !is(")") && !is(",")) expression(0) }
 }
 
 # ---- What is written.

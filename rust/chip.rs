@@ -6,17 +6,14 @@ use crate::{Header, Refusal};
 /// What a frame that arrived came to: `Delivered`, refused (named for a FIFO: 20, 21, 22; sorted: 21, 22, 31, 30), or turned down by a
 /// cause.
 pub use crate::proved::bus::Delivery;
-/// What a send came to: a frame, a message that is no frame, nothing to send, or refused (20).
-pub use crate::proved::bus::Sending;
-/// What a slot in RAM holds. Beside every reading but `Whole` the frame has no content.
-pub use crate::proved::message::Decoded;
+/// Why a send gave no frame: the message is none, there was nothing to send, or it was refused (20).
+pub use crate::proved::bus::Unsent;
 /// A message: header, DLC, SEQ (0 in one received), timestamp and payload.
 pub use crate::proved::message::Frame;
 /// The first `len` bytes; those behind are 0.
 pub use crate::proved::message::Payload;
-/// Whether a slot holds a whole message: not (`NoFrame`) a classic one to send with a DLC above 8, nor (`Short`) one that is longer than
-/// the slot.
-pub use crate::proved::message::Reading;
+/// Why a slot holds no whole message: a classic one to send with a DLC above 8 (`NoFrame`), or one that is longer than the slot (`Short`).
+pub use crate::proved::message::Undecoded;
 /// The chip's state: registers, FIFOs and RAM.
 pub use crate::proved::state::Model;
 
@@ -49,19 +46,19 @@ impl Chip {
         Chip { model: state::reset([0; 2048]), exchanges: 0, no_layout: 0 }
     }
 
-    /// The chip sends the oldest message of a FIFO, if sending is requested there. The frame has no content but beside `Sending::Frame`.
-    pub fn send(&mut self, fifo: u32) -> (Sending, Frame) {
+    /// The chip sends the oldest message of a FIFO, if sending is requested there.
+    pub fn send(&mut self, fifo: u32) -> Result<Frame, Unsent> {
         let sent = bus::send(self.model, fifo);
         self.model = sent.model;
-        (sent.sending, sent.frame)
+        sent.sent
     }
 
     /// The chip sends from the transmit queue, if sending is requested there: of all that it holds the message whose identifier wins
     /// arbitration, of equal ones that in the lowest slot. Nothing is sent where the queue is off.
-    pub fn send_queue(&mut self) -> (Sending, Frame) {
+    pub fn send_queue(&mut self) -> Result<Frame, Unsent> {
         let sent = bus::send_queue(self.model);
         self.model = sent.model;
-        (sent.sending, sent.frame)
+        sent.sent
     }
 
     /// A frame arrives for a FIFO, at this time. Its payload is as long as its DLC means: DLC 0 to 8 as many bytes, 9 to 15 in an FD frame
@@ -89,7 +86,7 @@ impl Chip {
     }
 
     /// The message `k` places behind a FIFO's oldest, decoded from RAM, or `None` where it holds fewer. Refused: 20.
-    pub fn held_at(&self, fifo: u32, k: u8) -> Result<Option<Decoded>, Refusal> {
+    pub fn held_at(&self, fifo: u32, k: u8) -> Result<Option<Result<Frame, Undecoded>>, Refusal> {
         Ok((k < self.held(fifo)?).then(|| bus::held_at(self.model, fifo, k)))
     }
 
@@ -99,7 +96,7 @@ impl Chip {
     }
 
     /// The message in a slot of the transmit queue, 0 to 31, decoded from RAM, or `None` where the slot holds none.
-    pub fn held_queue_at(&self, slot: u8) -> Option<Decoded> {
+    pub fn held_queue_at(&self, slot: u8) -> Option<Result<Frame, Undecoded>> {
         bus::queue_holds(self.model, slot).then(|| bus::queue_item(self.model, slot))
     }
 }

@@ -62,8 +62,6 @@ pub use proved::driver::OscillatorConfiguration;
 pub use proved::driver::Settings;
 /// A message's identifier and flags. A payload has 0 to 8 bytes, with `fdf` also 12, 16, 20, 24, 32, 48 or 64.
 pub use proved::driver::Header;
-/// A timestamp, or none.
-pub use proved::driver::Stamp;
 /// An entry of a list that [`Mcp::scrub`] goes through: the address of a register, the word that it is to have, and a 1 for each bit that
 /// is cared for. The registers are CiCON (0x000), CiNBTCFG (0x004), CiDBTCFG (0x008), CiTDC (0x00C), CiTSCON (0x014), CiINT (0x01C), of the
 /// transmit queue, FIFOs and filters all (every fourth address from 0x050 to 0x2EC), OSC (0xE00) and IOCON (0xE04).
@@ -214,8 +212,6 @@ pub mod calls {
     pub use crate::proved::driver::Numbers;
     /// How a call ended; `Running` where it has not. `Checked`: the word of a checked read, and how many exchanges mismatched before it.
     pub use crate::proved::driver::Outcome;
-    /// What [`configure_tx_queue`] is given: the transmit queue off, or on and set up so.
-    pub use crate::proved::driver::TxQueueSetting;
 }
 
 #[cfg(feature = "chip")]

@@ -1,9 +1,9 @@
 //! The Rust user's side: one loop over the user's SPI, and a method for each call.
 use crate::calls;
-use crate::calls::{answer_lent, body_of, finish_lent, next_lent, numbers_of, Answer, Call, Next, Outcome, TxQueueSetting};
+use crate::calls::{answer_lent, body_of, finish_lent, next_lent, numbers_of, Answer, Call, Next, Outcome};
 use crate::{
     BitTimeConfiguration, FifoConfiguration, FilterConfiguration, Header, IoConfiguration, OscillatorConfiguration, Refusal, Report,
-    Scrubber, Settings, Stamp, TxQueueConfiguration, Watch,
+    Scrubber, Settings, TxQueueConfiguration, Watch,
 };
 
 /// An exchange was not carried out. What went wrong is the line's to remember.
@@ -144,10 +144,7 @@ impl<L: Line> Mcp<L> {
                 header: found.header,
                 dlc: found.dlc,
                 filter: found.filter,
-                time: match found.stamp {
-                    Stamp::At(t) => Some(t),
-                    Stamp::None => None,
-                },
+                time: found.stamp,
                 len: found.len as usize,
             })),
             Outcome::Empty => Ok(None),
@@ -275,7 +272,7 @@ impl<L: Line> Mcp<L> {
     /// # }
     /// ```
     pub fn configure_tx_queue(&mut self, c: Option<TxQueueConfiguration>) -> Result<(), Refusal> {
-        self.done(calls::configure_tx_queue(c.map_or(TxQueueSetting::Off, TxQueueSetting::On)))
+        self.done(calls::configure_tx_queue(c))
     }
 
     /// Sets a filter up, 0 to 31, and turns it on. Refused: 20, also for the FIFO that it gives to; 21; 1.

@@ -1,6 +1,6 @@
 //! The wheel engineer's question, asked of the modelled chip: when push says Ok, is my torque command in the chip, and will exactly
 //! that go out? What is held and sent is written as `drive examples/torque.script` of the project writes it.
-use masevuru::chip::{Chip, Frame, Reading, Sending};
+use masevuru::chip::{Chip, Frame, Unsent};
 use masevuru::*;
 
 /// A line on which one exchange can be made to fail.
@@ -83,9 +83,9 @@ fn held(chip: &Chip) -> Result<(), Refusal> {
     println!("held 1 {}", chip.held(1)?);
     let mut k = 0;
     while let Some(slot) = chip.held_at(1, k)? {
-        match slot.reading {
-            Reading::Whole => println!("+ {}", told(slot.frame)),
-            _ => println!("+ no frame"),
+        match slot {
+            Ok(frame) => println!("+ {}", told(frame)),
+            Err(_) => println!("+ no frame"),
         }
         k += 1;
     }
@@ -95,10 +95,10 @@ fn held(chip: &Chip) -> Result<(), Refusal> {
 /// The chip's turn on the bus.
 fn send(chip: &mut Chip) {
     match chip.send(1) {
-        (Sending::Frame, frame) => println!("bus send 1 = {}", told(frame)),
-        (Sending::NoFrame, _) => println!("bus send 1 = no frame"),
-        (Sending::Nothing, _) => println!("bus send 1 = nothing sent"),
-        (Sending::Refused(r), _) => println!("bus send 1 = refused {}", number(r)),
+        Ok(frame) => println!("bus send 1 = {}", told(frame)),
+        Err(Unsent::NoFrame) => println!("bus send 1 = no frame"),
+        Err(Unsent::Nothing) => println!("bus send 1 = nothing sent"),
+        Err(Unsent::Refused(r)) => println!("bus send 1 = refused {}", number(r)),
     }
 }
 

@@ -2,8 +2,8 @@
 use crate::{bytes, layout, lent, there, CHeader, NULL};
 use core::ffi::{c_int, c_void};
 use core::mem::{align_of, offset_of, size_of};
-use masevuru::chip::{Chip, Decoded, Delivery, Frame, Reading, Sending};
-use masevuru::{number, Line, Refusal, Stamp};
+use masevuru::chip::{Chip, Delivery, Frame, Undecoded, Unsent};
+use masevuru::{number, Line, Refusal};
 
 #[repr(C)]
 pub struct CChip {
@@ -50,16 +50,12 @@ impl CFrame {
     }
 
     fn of(frame: Frame) -> CFrame {
-        let (stamped, time) = match frame.stamp {
-            Stamp::At(t) => (1, t),
-            Stamp::None => (0, 0),
-        };
         CFrame {
             header: CHeader::of(frame.header),
             seq: frame.seq,
-            time,
+            time: frame.stamp.unwrap_or(0),
             kind: FRAME,
-            stamped,
+            stamped: frame.stamp.is_some().into(),
             len: frame.payload.len as u8,
             dlc: frame.dlc,
             filter: frame.filter,
@@ -67,10 +63,10 @@ impl CFrame {
         }
     }
 
-    fn held(held: Option<Decoded>) -> CFrame {
+    fn held(held: Option<Result<Frame, Undecoded>>) -> CFrame {
         match held {
-            Some(Decoded { reading: Reading::Whole, frame }) => CFrame::of(frame),
-            Some(_) => CFrame::none(NO_FRAME),
+            Some(Ok(frame)) => CFrame::of(frame),
+            Some(Err(_)) => CFrame::none(NO_FRAME),
             None => CFrame::none(NOTHING),
         }
     }
@@ -127,12 +123,12 @@ pub unsafe extern "C" fn mcp_chip_transfer(p: *mut c_void, tx: *const u8, tx_len
 pub unsafe extern "C" fn mcp_chip_wait(_: *mut c_void, _: u32) {}
 
 /// A frame, MCP_NO_FRAME or MCP_NOTHING, or a refusal.
-fn sent((sending, frame): (Sending, Frame)) -> Result<CFrame, Refusal> {
-    match sending {
-        Sending::Frame => Ok(CFrame::of(frame)),
-        Sending::NoFrame => Ok(CFrame::none(NO_FRAME)),
-        Sending::Nothing => Ok(CFrame::none(NOTHING)),
-        Sending::Refused(r) => Err(r),
+fn sent(sent: Result<Frame, Unsent>) -> Result<CFrame, Refusal> {
+    match sent {
+        Ok(frame) => Ok(CFrame::of(frame)),
+        Err(Unsent::NoFrame) => Ok(CFrame::none(NO_FRAME)),
+        Err(Unsent::Nothing) => Ok(CFrame::none(NOTHING)),
+        Err(Unsent::Refused(r)) => Err(r),
     }
 }
 

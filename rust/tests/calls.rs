@@ -3,7 +3,7 @@
 //! that are scrubbed, mismatches that are counted, messages that overtake others in the transmit queue. What is expected was written down
 //! from documents 01 and 02.
 use masevuru::calls::*;
-use masevuru::chip::{Chip, Delivery, Frame, Payload, Reading, Sending, Sorted};
+use masevuru::chip::{Chip, Delivery, Frame, Payload, Sorted, Undecoded, Unsent};
 use masevuru::*;
 
 /// The chip, with one exchange that fails and some whose answers are changed.
@@ -225,14 +225,14 @@ const ROWS: [Row; 36] = [
     (
         "configure_tx_queue",
         |m, _| told(m.configure_tx_queue(Some(queue()))),
-        || configure_tx_queue(TxQueueSetting::On(queue())),
+        || configure_tx_queue(Some(queue())),
         &[(4, 11)],
         (QUEUE, 4, 0, 0),
     ),
     (
         "configure_tx_queue, off",
         |m, _| told(m.configure_tx_queue(None)),
-        || configure_tx_queue(TxQueueSetting::Off),
+        || configure_tx_queue(None),
         &[(2, 11)],
         (QUEUE, 2, 0, 0),
     ),
@@ -341,7 +341,7 @@ fn turns_at_the_start() {
     }
     let refused = [push(257, HEADER, 5, &BYTES), read_register(0x1000), set_op_mode(8), request(0), get(1, 63), write_ram(0x400, 7)];
     assert_eq!(refused.map(turns), [0; 6]);
-    let none = TxQueueSetting::On(TxQueueConfiguration { size: 0, ..queue() });
+    let none = Some(TxQueueConfiguration { size: 0, ..queue() });
     let refused = [configure_tx_queue(none), queue_push(std(0x800), 5, &BYTES), queue_push_unchecked(HEADER, 5, &[0; 9])];
     assert_eq!(refused.map(turns), [0; 3]);
     let ram = Watch { address: 0x400, ..AGREES[0] };
@@ -363,9 +363,8 @@ fn transmitted() {
         let refusal = if k == 4 { Refusal::SpiWrite } else { Refusal::SpiRead };
         assert_eq!(m.transmit(1, HEADER, 5, &BYTES), Err(TransmitRefusal { refusal, accepted: k > 5 }), "exchange {k}");
         assert_eq!(m.request(1), Ok(()));
-        let (sending, frame) = m.line.chip.send(1);
-        assert_eq!((sending, frame.seq), if k > 5 { (Sending::Frame, 5) } else { (Sending::Nothing, 0) }, "exchange {k}");
-        assert_eq!(m.line.chip.send(1).0, Sending::Nothing);
+        assert_eq!(m.line.chip.send(1).map(|frame| frame.seq), if k > 5 { Ok(5) } else { Err(Unsent::Nothing) }, "exchange {k}");
+        assert_eq!(m.line.chip.send(1), Err(Unsent::Nothing));
     }
     let mut m = prepared();
     let refused = m.transmit(257, HEADER, 5, &BYTES).unwrap_err();
@@ -386,7 +385,7 @@ fn finished_again() {
             assert_eq!(finish(end, &received, &mut buf[..room]), Outcome::Refused(Refusal::BufferTooSmall));
         }
         assert_eq!((buf, line.chip.held(2)), ([0x5A; 72], Ok(is_held)));
-        let found = Found { header: HEADER, dlc: 5, filter: 0, stamp: Stamp::At(0xA1B2_C3D4), len: 5 };
+        let found = Found { header: HEADER, dlc: 5, filter: 0, stamp: Some(0xA1B2_C3D4), len: 5 };
         assert_eq!(finish(end, &received, &mut buf[..64]), Outcome::Message(found));
         assert_eq!((&buf[..5], &buf[5..]), (&BYTES[..5], &[0x5A; 67][..]));
     }
@@ -478,7 +477,7 @@ fn refusals() {
         assert_eq!((told(m.push(n, HEADER, 5, &BYTES)), told(m.request(n)), told(m.configure_fifo(n, sender()))), (20, 20, 20));
         let to = FilterConfiguration { fifo: n, ..filter() };
         assert_eq!((told(m.transmit(n, HEADER, 5, &BYTES)), told(m.configure_filter(0, to))), (20, 20));
-        assert_eq!(m.line.chip.send(n).0, Sending::Refused(Refusal::BadNumber));
+        assert_eq!(m.line.chip.send(n), Err(Unsent::Refused(Refusal::BadNumber)));
         assert_eq!(m.line.chip.deliver(n, HEADER, 8, 0, &BYTES), Delivery::Refused(Refusal::BadNumber));
         assert_eq!((told(m.line.chip.held(n)), told(m.line.chip.held_at(n, 0))), (20, 20));
     }
@@ -534,7 +533,7 @@ fn sorting() {
     m.configure_filter(31, to(1, 0x300)).unwrap();
     assert_eq!(sort(&mut m, 0x123, &BYTES), for_fifo(Delivery::Delivered, 2, 0));
     assert_eq!(sort(&mut m, 0x223, &BYTES[..5]), for_fifo(Delivery::Delivered, 3, 9));
-    assert_eq!(m.line.chip.held_at(3, 1).unwrap().unwrap().frame.header.id, 0x223);
+    assert_eq!(slot(&m, 3, 1).header.id, 0x223);
     // FIFO 3 is behind 4 x 16 and 2 x 76 bytes; the frame is in its second slot
     let mut word = [0; 4];
     m.read_ram(0x400 + 64 + 152 + 16 + 4, &mut word).unwrap();
@@ -562,7 +561,7 @@ fn every_filter() {
             assert_eq!(m.get(fifo, &mut buf).unwrap().unwrap().filter, 0);
             assert_eq!(m.line.chip.sort(HEADER, 5, 7, &BYTES[..5]), Sorted { delivery: Delivery::Delivered, fifo, filter: f });
             assert_eq!(m.line.chip.deliver(fifo, HEADER, 5, 7, &BYTES[..5]), Delivery::Delivered);
-            let filters = [0, 1].map(|k| m.line.chip.held_at(fifo, k).unwrap().unwrap().frame.filter);
+            let filters = [0, 1].map(|k| slot(&m, fifo, k).filter);
             assert_eq!(filters, [f as u8, 0]);
             m.disable_filter(f).unwrap(); // the message keeps the one that took it
             let found = |filter| Ok(Some(Received { header: HEADER, dlc: 5, filter, time, len: 5 }));
@@ -580,9 +579,14 @@ fn every_filter() {
     // a message to send has none, whatever its SEQ
     let mut m = prepared();
     assert!(m.push(1, HEADER, 0x7F_FFFF, &BYTES).is_ok() && m.request(1).is_ok());
-    assert_eq!(m.line.chip.held_at(1, 0).unwrap().unwrap().frame.filter, 0);
-    let (sending, frame) = m.line.chip.send(1);
-    assert_eq!((sending, frame.seq, frame.filter), (Sending::Frame, 0x7F_FFFF, 0));
+    assert_eq!(slot(&m, 1, 0).filter, 0);
+    let frame = m.line.chip.send(1).unwrap();
+    assert_eq!((frame.seq, frame.filter), (0x7F_FFFF, 0));
+}
+
+/// The message `k` places behind the oldest of FIFO n.
+fn slot(m: &Driver, n: u32, k: u8) -> Frame {
+    m.line.chip.held_at(n, k).unwrap().unwrap().unwrap()
 }
 
 /// How many bytes a DLC means: a classic frame has 8 at most; there is none above 15.
@@ -614,9 +618,8 @@ fn every_dlc() {
         for chip in [named, sorted] {
             let (mut m, mut held) = (on(chip), Payload { len, bytes: [0; 64] });
             held.bytes[..len].copy_from_slice(payload);
-            let frame = Frame { header, dlc: dlc as u8, filter: 0, seq: 0, stamp: Stamp::At(time), payload: held };
-            let slot = m.line.chip.held_at(2, 0).unwrap().unwrap();
-            assert_eq!((slot.reading, slot.frame), (Reading::Whole, frame));
+            let frame = Frame { header, dlc: dlc as u8, filter: 0, seq: 0, stamp: Some(time), payload: held };
+            assert_eq!(slot(&m, 2, 0), frame);
             // its second slot of 76 bytes, behind 4 x 16: word 1 has the DLC in bits 3 to 0
             let mut word = [0; 4];
             m.read_ram(0x400 + 64 + 76 + 4, &mut word).unwrap();
@@ -650,8 +653,8 @@ fn classic_dlcs() {
         // left by a raw write in word 1 of FIFO 3's oldest, behind 4 x 16 and 2 x 76 bytes: 8 bytes, of which 5 were delivered
         let (mut m, mut buf) = (prepared(), [0x5A; 72]);
         m.write_ram(0x400 + 64 + 152 + 4, &[dlc, 0, 0, 0]).unwrap();
-        let slot = m.line.chip.held_at(3, 0).unwrap().unwrap();
-        assert_eq!((slot.reading, slot.frame.dlc, slot.frame.payload.len), (Reading::Whole, dlc, 8));
+        let frame = slot(&m, 3, 0);
+        assert_eq!((frame.dlc, frame.payload.len), (dlc, 8));
         assert_eq!((m.peek(3, &mut buf), m.get(3, &mut buf)), (found(dlc, 8), found(dlc, 8)));
         assert_eq!((&buf[..8], &buf[8..]), (&[1, 2, 3, 4, 5, 0, 0, 0][..], &[0x5A; 64][..]));
     }
@@ -666,8 +669,8 @@ fn classic_dlcs() {
             continue;
         }
         assert_eq!((m.push(1, HEADER, 5, &bytes[..len]), m.request(1)), (Ok(()), Ok(())));
-        let (sending, frame) = m.line.chip.send(1);
-        assert_eq!((sending, frame.dlc as usize, frame.payload.len), (Sending::Frame, len, len));
+        let frame = m.line.chip.send(1).unwrap();
+        assert_eq!((frame.dlc as usize, frame.payload.len), (len, len));
     }
 }
 
@@ -682,15 +685,15 @@ fn ext(id: u32) -> Header {
 
 /// What the queue's slots 0 to 3 hold: its SEQ, 0 where that is nothing.
 fn slots(m: &Driver) -> [u32; 4] {
-    core::array::from_fn(|k| m.line.chip.held_queue_at(k as u8).map_or(0, |slot| slot.frame.seq))
+    core::array::from_fn(|k| m.line.chip.held_queue_at(k as u8).map_or(0, |slot| slot.map_or(0, |frame| frame.seq)))
 }
 
 /// The SEQ of what the queue sends, 0 where nothing is sent.
 fn sent(m: &mut Driver) -> u32 {
     match m.line.chip.send_queue() {
-        (Sending::Frame, frame) => frame.seq,
-        (other, _) => {
-            assert_eq!(other, Sending::Nothing);
+        Ok(frame) => frame.seq,
+        Err(other) => {
+            assert_eq!(other, Unsent::Nothing);
             0
         }
     }
@@ -798,13 +801,15 @@ fn the_queue_by_document_02() {
                 assert_eq!(m.queue_push(header, seq, &seq.to_le_bytes()), expected, "{size} slots, SEQ {seq}");
             } else {
                 assert_eq!(m.queue_request(), Ok(()));
-                let (sending, frame) = m.line.chip.send_queue();
-                let went = (sending == Sending::Frame).then_some((frame.header, frame.seq));
-                assert_eq!(went, by_words.send(), "{size} slots, at {seq}");
-                assert!(sending == Sending::Nothing || frame.payload.bytes[..4] == frame.seq.to_le_bytes());
+                let sent = m.line.chip.send_queue();
+                assert_eq!(sent.ok().map(|frame| (frame.header, frame.seq)), by_words.send(), "{size} slots, at {seq}");
+                assert!(sent.map_or_else(
+                    |why| why == Unsent::Nothing,
+                    |frame| frame.payload.bytes[..4] == frame.seq.to_le_bytes()
+                ));
             }
             for k in 0..=32 {
-                let slot = m.line.chip.held_queue_at(k).map(|slot| (slot.frame.header, slot.frame.seq));
+                let slot = m.line.chip.held_queue_at(k).map(|slot| slot.unwrap()).map(|frame| (frame.header, frame.seq));
                 assert_eq!(slot, by_words.held.get(k as usize).copied().flatten(), "{size} slots, slot {k} at {seq}");
             }
             assert_eq!(m.line.chip.held_queue() as usize, by_words.held.iter().flatten().count());
@@ -910,13 +915,13 @@ fn queue_talks() {
         assert_eq!(talk(queue_request(), &[kept]).0[1], written(0x50, kept | 0x200));
         assert_eq!(talk(queue_push_unchecked(HEADER, 0, &[]), &[0, kept]).0[3], written(0x50, kept | 0x100));
         assert_eq!(talk(queue_push(HEADER, 0, &[]), &[!0, kept, 1, 0]).0[5], written(0x50, kept | 0x100));
-        let off = talk(configure_tx_queue(TxQueueSetting::Off), &[kept]);
+        let off = talk(configure_tx_queue(None), &[kept]);
         assert_eq!(off, done(&[&[0x30, 0x00], &written(0x00, kept & !0x0010_0000)]));
         // PLSIZE 31..29, FSIZE 28..24, TXAT 22..21, TXPRI 20..16, TXATIE 4, TXQEIE 2, TXQNIE 0
         let ones = TxQueueConfiguration { size: 32, plsize: 7, txpri: 31, txat: 3, txatie: true, empty: true, notfull: true };
         let none = TxQueueConfiguration { size: 1, ..queue() };
         for (c, bits) in [(none, 0), (ones, 0xFF7F_0015)] {
-            let on = talk(configure_tx_queue(TxQueueSetting::On(c)), &[kept, kept]);
+            let on = talk(configure_tx_queue(Some(c)), &[kept, kept]);
             let control = written(0x50, kept & !0xFF7F_0015 | bits);
             assert_eq!(on, done(&[&[0x30, 0x00], &written(0x00, kept | 0x0010_0000), &[0x30, 0x50], &control]));
         }
@@ -1086,7 +1091,7 @@ fn unchecked() {
     let mut m = prepared();
     assert_eq!((m.push(1, HEADER, 1, &BYTES), m.queue_push_unchecked(std(0x124), 2, &BYTES)), (Ok(()), Ok(())));
     assert_eq!((m.line.chip.held_queue(), m.line.chip.held(1)), (0, Ok(1)));
-    assert_eq!(m.line.chip.held_at(1, 0).unwrap().unwrap().frame.seq, 2);
+    assert_eq!(slot(&m, 1, 0).seq, 2);
     // 12 bytes in a slot for 8: its message is no frame, and the next slot's first word is overwritten
     let (mut m, fd) = (queued(), Header { fdf: true, ..HEADER });
     for seq in 1..=3 {
@@ -1095,10 +1100,10 @@ fn unchecked() {
     assert_eq!((m.queue_request(), sent(&mut m), m.queue_push(std(0x300), 4, &BYTES)), (Ok(()), 1, Ok(())));
     assert_eq!(slots(&m), [0, 2, 3, 4]);
     assert_eq!(m.queue_push_unchecked(fd, 5, &[0; 12]), Ok(()));
-    let reading = |m: &Driver, k| m.line.chip.held_queue_at(k).map(|slot| (slot.reading, slot.frame.header.id));
-    assert_eq!((reading(&m, 0), reading(&m, 1)), (Some((Reading::Short, 0)), Some((Reading::Whole, 0))));
+    let reading = |m: &Driver, k| m.line.chip.held_queue_at(k).map(|slot| slot.map(|frame| frame.header.id));
+    assert_eq!((reading(&m, 0), reading(&m, 1)), (Some(Err(Undecoded::Short)), Some(Ok(0))));
     // it takes part in arbitration by its identifier bits: 0 of the spoilt one, then 123, which is no frame
-    assert_eq!((sent(&mut m), m.line.chip.send_queue().0, sent(&mut m), sent(&mut m)), (2, Sending::NoFrame, 3, 4));
+    assert_eq!((sent(&mut m), m.line.chip.send_queue(), sent(&mut m), sent(&mut m)), (2, Err(Unsent::NoFrame), 3, 4));
 }
 
 /// Filter 0 as `filter()` sets it up: control of filters 0 to 3, of which its byte is cared for; its object; its mask.
@@ -1142,7 +1147,7 @@ fn scrubbed_in_turn() {
             let odd = [FILTER[0], Watch { address: 0x1F2, ..FILTER[1] }];
             assert_eq!((told(m.scrub(&mut s, &[], true)), told(m.scrub(&mut s, &odd, true))), (32, 33));
             assert_eq!((told(m.get(2, &mut [0; 64])), told(m.transmit(1, HEADER, 5, &BYTES)), told(m.checked_read(0))), (0, 0, 0));
-            assert_eq!((m.line.chip.send(1).0, m.reset()), (Sending::Frame, Ok(())));
+            assert_eq!((m.line.chip.send(1).is_ok(), m.reset()), (true, Ok(())));
             m.line.exchanges = 0;
             let Ok(Report::Differ { address, .. }) = m.scrub(&mut s, &FILTER, false) else { panic!("place {start}, step {k}") };
             assert_eq!((u32::from(address), s.place, m.line.exchanges), (FILTER[due].address, due + 1, 1));
@@ -1566,18 +1571,18 @@ fn short_scratch() {
 fn the_chip() {
     let mut m = prepared();
     assert_eq!(m.push(1, HEADER, 5, &BYTES), Ok(()));
-    let slot = m.line.chip.held_at(1, 0).unwrap().unwrap();
-    assert_eq!((slot.reading, slot.frame.header, slot.frame.seq, slot.frame.payload.len), (Reading::Whole, HEADER, 5, 8));
-    assert_eq!(slot.frame.dlc, 8);
-    assert_eq!(slot.frame.payload.bytes[..8], BYTES);
+    let frame = slot(&m, 1, 0);
+    assert_eq!((frame.header, frame.seq, frame.payload.len), (HEADER, 5, 8));
+    assert_eq!(frame.dlc, 8);
+    assert_eq!(frame.payload.bytes[..8], BYTES);
     assert_eq!(m.line.chip.held_at(1, 1), Ok(None));
     assert_eq!((m.line.chip.held(0), m.line.chip.held_at(32, 0)), (Err(Refusal::BadNumber), Err(Refusal::BadNumber)));
-    assert_eq!(m.line.chip.send(1).0, Sending::Nothing); // not requested
+    assert_eq!(m.line.chip.send(1), Err(Unsent::Nothing)); // not requested
     // a classic DLC of 9 in the slot: taken, and no frame
     assert_eq!((m.request(1), m.write_ram(0x404, &[9, 0, 0, 0])), (Ok(()), Ok(())));
-    assert_eq!(m.line.chip.held_at(1, 0).unwrap().unwrap().reading, Reading::NoFrame);
-    assert_eq!((m.line.chip.send(1).0, m.line.chip.send(1).0), (Sending::NoFrame, Sending::Nothing));
-    assert_eq!(m.line.chip.send(0).0, Sending::Refused(Refusal::BadNumber));
+    assert_eq!(m.line.chip.held_at(1, 0), Ok(Some(Err(Undecoded::NoFrame))));
+    assert_eq!((m.line.chip.send(1), m.line.chip.send(1)), (Err(Unsent::NoFrame), Err(Unsent::Nothing)));
+    assert_eq!(m.line.chip.send(0), Err(Unsent::Refused(Refusal::BadNumber)));
     // 22 messages of 64 bytes do not fit: 27 on the chip's side, 12 on the driver's
     let deep = FifoConfiguration { size: 22, plsize: 7, ..sender() };
     assert_eq!((m.set_op_mode(4), m.configure_fifo(1, deep), told(m.set_op_mode(0))), (Ok(()), Ok(()), 12));

@@ -3,7 +3,7 @@
 //! find a message whose length is not what its DLC means, leave a scrubber where it does not belong, count other mismatches than the
 //! answers had, or take more turns than it said. What the transmit queue sends it has held.
 use masevuru::calls::*;
-use masevuru::chip::{Chip, Decoded, Delivery, Reading, Sending, Sorted};
+use masevuru::chip::{Chip, Delivery, Frame, Sorted, Undecoded, Unsent};
 use masevuru::*;
 
 #[derive(Clone)]
@@ -422,31 +422,32 @@ fn a_hundred_thousand() {
 fn sent_from_queue(chip: &mut Chip) -> usize {
     let held = |chip: &Chip| -> Vec<_> { (0..32).map(|k| chip.held_queue_at(k)).collect() };
     let (before, is_requested) = (held(chip), chip.model.queue.control & 0x200 != 0);
-    let (sending, frame) = chip.send_queue();
+    let sent = chip.send_queue();
     let after = held(chip);
     let gone: Vec<_> = before.iter().zip(&after).filter(|(b, a)| b != a).collect();
     assert_eq!(chip.held_queue() as usize, after.iter().flatten().count());
-    match (sending, &gone[..]) {
-        (Sending::Nothing, []) => {
+    match (sent, &gone[..]) {
+        (Err(Unsent::Nothing), []) => {
             assert!(!is_requested || before.iter().all(Option::is_none));
             0
         }
-        (Sending::Frame, [(Some(Decoded { reading: Reading::Whole, frame: held }), None)]) if *held == frame => 1,
-        (Sending::NoFrame, [(Some(Decoded { reading: Reading::NoFrame | Reading::Short, .. }), None)]) => 2,
-        _ => panic!("{sending:?}, {gone:?}"),
+        (Ok(frame), [(Some(Ok(held)), None)]) if *held == frame => 1,
+        (Err(Unsent::NoFrame), [(Some(Err(_)), None)]) => 2,
+        _ => panic!("{sent:?}, {gone:?}"),
     }
 }
 
 /// The message that a FIFO was given last.
-fn newest(chip: &Chip, fifo: u32) -> Decoded {
+fn newest(chip: &Chip, fifo: u32) -> Result<Frame, Undecoded> {
     chip.held_at(fifo, chip.held(fifo).unwrap() - 1).unwrap().unwrap()
 }
 
 /// Whether a slot has the header, the DLC and the payload of a frame, and the filter that took it.
-fn is_brought(slot: Decoded, g: &Given, filter: u32, frame: &[u8]) -> bool {
-    let f = slot.frame;
-    let is_same = f.header == g.header && u32::from(f.dlc) == g.dlc && u32::from(f.filter) == filter;
-    slot.reading == Reading::Whole && is_same && &f.payload.bytes[..f.payload.len] == frame
+fn is_brought(slot: Result<Frame, Undecoded>, g: &Given, filter: u32, frame: &[u8]) -> bool {
+    slot.is_ok_and(|f| {
+        let is_same = f.header == g.header && u32::from(f.dlc) == g.dlc && u32::from(f.filter) == filter;
+        is_same && &f.payload.bytes[..f.payload.len] == frame
+    })
 }
 
 fn report_number(report: Report) -> usize {
@@ -502,7 +503,7 @@ fn started(call: usize, g: &Given, bytes: &[u8]) -> Call {
         22 => peek(g.fifo, g.len),
         23 => get(g.fifo, 64),
         24 => scrub(Scrubber { place: g.dlc as usize }, &g.list, g.rewrite),
-        25 => configure_tx_queue(g.queue.map_or(TxQueueSetting::Off, TxQueueSetting::On)),
+        25 => configure_tx_queue(g.queue),
         26 => queue_push(g.header, g.b, &bytes[..g.len]),
         27 => queue_push_unchecked(g.header, g.b, &bytes[..g.len]),
         28 => queue_request(),
