@@ -2,6 +2,7 @@
 #![tactic(auto)]
 
 use bus::{Delivery, Sent, Unsent};
+use lines::Writer;
 use message::{Frame, Undecoded};
 use model::Heard;
 use output::{write, write_line};
@@ -10,39 +11,38 @@ use spoken::Spoken;
 use state::Model;
 use std::rt::Stdout;
 
-fn sent_answer(sent: Result<Frame, Unsent>, out: &mut [u8]) -> usize {
+fn sent_answer(sent: Result<Frame, Unsent>, w: &mut Writer) {
     match sent {
-        Ok(f) => lines::frame(out, 0, true, f),
-        Err(Unsent::NoFrame) => lines::put(out, 0, b"no frame"),
-        Err(Unsent::Nothing) => lines::put(out, 0, b"nothing sent"),
-        Err(Unsent::Refused(r)) => lines::refusal(out, 0, r),
+        Ok(f) => w.frame(true, f),
+        Err(Unsent::NoFrame) => w.put(b"no frame"),
+        Err(Unsent::Nothing) => w.put(b"nothing sent"),
+        Err(Unsent::Refused(r)) => w.refusal(r),
     }
 }
 
-fn delivered_answer(delivery: Delivery, out: &mut [u8]) -> usize {
+fn delivered_answer(delivery: Delivery, w: &mut Writer) {
     match delivery {
-        Delivery::Delivered => lines::put(out, 0, b"delivered"),
-        Delivery::Refused(r) => lines::refusal(out, 0, r),
-        Delivery::Configuration => lines::put(out, 0, b"turned down configuration"),
-        Delivery::NotReceiving => lines::put(out, 0, b"turned down not receiving"),
-        Delivery::TooLong => lines::put(out, 0, b"turned down too long"),
-        Delivery::Full => lines::put(out, 0, b"turned down full"),
+        Delivery::Delivered => w.put(b"delivered"),
+        Delivery::Refused(r) => w.refusal(r),
+        Delivery::Configuration => w.put(b"turned down configuration"),
+        Delivery::NotReceiving => w.put(b"turned down not receiving"),
+        Delivery::TooLong => w.put(b"turned down too long"),
+        Delivery::Full => w.put(b"turned down full"),
     }
 }
 
 // Behind `delivered`: the FIFO that has the frame now, and the filter that took it.
-fn put_taken(fifo: u32, filter: u32, out: &mut [u8], at: usize) -> usize {
-    let a = lines::byte(out, at, b' ');
-    let b = lines::decimal(out, a, fifo as u64);
-    let c = lines::put(out, b, b" filter ");
-    lines::decimal(out, c, filter as u64)
+fn put_taken(fifo: u32, filter: u32, w: &mut Writer) {
+    w.byte(b' ');
+    w.decimal(fifo as u64);
+    w.put(b" filter ");
+    w.decimal(filter as u64);
 }
 
-fn sorted_answer(delivery: Delivery, fifo: u32, filter: u32, out: &mut [u8]) -> usize {
-    let n = delivered_answer(delivery, out);
-    match delivery {
-        Delivery::Delivered => put_taken(fifo, filter, out, n),
-        _ => n,
+fn sorted_answer(delivery: Delivery, fifo: u32, filter: u32, w: &mut Writer) {
+    delivered_answer(delivery, w);
+    if let Delivery::Delivered = delivery {
+        put_taken(fifo, filter, w);
     }
 }
 
@@ -55,7 +55,9 @@ fn answered(stdout: Stdout, words: &[u8], answer: &[u8]) {
 
 fn sent(stdout: Stdout, s: Sent, words: &[u8]) -> Model {
     let mut out = [0u8; 256];
-    let n = sent_answer(s.sent, &mut out);
+    let mut w = Writer::new(&mut out);
+    sent_answer(s.sent, &mut w);
+    let n = w.len();
     answered(stdout, words, text::front(&out, n));
     s.model
 }
@@ -97,7 +99,9 @@ fn delivered(
     );
     let delivery = d.delivery;
     let mut out = [0u8; 64];
-    let n = delivered_answer(delivery, &mut out);
+    let mut w = Writer::new(&mut out);
+    delivered_answer(delivery, &mut w);
+    let n = w.len();
     answered(stdout, words, text::front(&out, n));
     d.model
 }
@@ -116,7 +120,9 @@ fn sorted(
     let s = bus::sort(m, header, dlc, starts::word(numbers, 2), payload);
     let delivery = s.delivery;
     let mut out = [0u8; 64];
-    let n = sorted_answer(delivery, s.fifo, s.filter, &mut out);
+    let mut w = Writer::new(&mut out);
+    sorted_answer(delivery, s.fifo, s.filter, &mut w);
+    let n = w.len();
     answered(stdout, words, text::front(&out, n));
     s.model
 }
@@ -142,9 +148,11 @@ pub fn bus_step(
 
 // What came back from an exchange that was carried out, and 27 where it asked to leave Configuration and was not granted.
 pub fn write_received(stdout: Stdout, heard: Heard, rx: &[u8], out: &mut [u8]) {
-    let a = lines::put(out, 0, b"< ");
-    let b = lines::bytes(out, a, rx);
-    write_line(stdout, text::front(out, b));
+    let mut w = Writer::new(out);
+    w.put(b"< ");
+    w.bytes(rx);
+    let n = w.len();
+    write_line(stdout, text::front(out, n));
     if let Heard::NoLayout = heard {
         write_line(stdout, b"* 27");
     }
@@ -163,7 +171,9 @@ pub fn received(heard: Heard, want: usize) -> usize {
 }
 
 pub fn write_exchange(stdout: Stdout, sent: &[u8], want: usize, out: &mut [u8]) {
-    let n = lines::exchange(out, 0, sent, want);
+    let mut w = Writer::new(out);
+    w.exchange(sent, want);
+    let n = w.len();
     write_line(stdout, text::front(out, n));
 }
 
@@ -189,11 +199,11 @@ fn raw(stdout: Stdout, m: Model, sent: &[u8], want: usize) -> Model {
     x.model
 }
 
-fn put_item(held: Result<Frame, Undecoded>, sending: bool, out: &mut [u8]) -> usize {
-    let a = lines::put(out, 0, b"+ ");
+fn put_item(held: Result<Frame, Undecoded>, sending: bool, w: &mut Writer) {
+    w.put(b"+ ");
     match held {
-        Ok(f) => lines::frame(out, a, sending, f),
-        Err(_) => lines::put(out, a, b"no frame"),
+        Ok(f) => w.frame(sending, f),
+        Err(_) => w.put(b"no frame"),
     }
 }
 
@@ -207,8 +217,10 @@ fn is_sending(m: Model, n: u32) -> bool {
 
 fn item(stdout: Stdout, held: Result<Frame, Undecoded>, sending: bool) {
     let mut out = [0u8; 256];
-    let a = put_item(held, sending, &mut out);
-    write_line(stdout, text::front(&out, a));
+    let mut w = Writer::new(&mut out);
+    put_item(held, sending, &mut w);
+    let n = w.len();
+    write_line(stdout, text::front(&out, n));
 }
 
 fn items(stdout: Stdout, m: Model, n: u32, count: u8) {
@@ -219,17 +231,20 @@ fn items(stdout: Stdout, m: Model, n: u32, count: u8) {
     }
 }
 
-fn put_held(m: Model, n: u32, out: &mut [u8]) -> usize {
+fn put_held(m: Model, n: u32, w: &mut Writer) {
     if fifo::is_fifo(n) {
-        return lines::decimal(out, 0, bus::held_len(m, n) as u64);
+        w.decimal(bus::held_len(m, n) as u64);
+    } else {
+        w.refusal(Refusal::BadNumber);
     }
-    lines::refusal(out, 0, Refusal::BadNumber)
 }
 
 // A FIFO that there is not holds nothing.
 fn held(stdout: Stdout, m: Model, n: u32, words: &[u8]) {
     let mut out = [0u8; 64];
-    let k = put_held(m, n, &mut out);
+    let mut w = Writer::new(&mut out);
+    put_held(m, n, &mut w);
+    let k = w.len();
     write(stdout, words);
     write(stdout, b" ");
     write_line(stdout, text::front(&out, k));

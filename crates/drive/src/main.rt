@@ -2,6 +2,7 @@
 // has the script; what happened is written as a transcript.
 #![tactic(auto)]
 
+use lines::Writer;
 use output::write;
 use script::Entry;
 use spoken::{Fault, Spoken};
@@ -91,10 +92,12 @@ fn closed(p: Place) -> Place {
 }
 
 fn opened(p: Place, line: &[u8], head: &mut [u8]) -> Place {
+    let mut w = Writer::new(head);
+    w.put(line);
     Place {
         number: p.number,
         open: true,
-        head: lines::put(head, 0, line),
+        head: w.len(),
         notes: 0,
     }
 }
@@ -113,8 +116,10 @@ fn noted(stdout: Stdout, stderr: Stderr, p: Place, line: &[u8], notes: &mut [u8]
     }
     if fits(notes, p.notes, line) {
         let mut q = p;
-        let a = lines::put(notes, p.notes, line);
-        q.notes = lines::byte(notes, a, b'\n');
+        let mut w = Writer::behind(notes, p.notes);
+        w.put(line);
+        w.byte(b'\n');
+        q.notes = w.len();
         return q;
     }
     refused(stdout, stderr, p, Fault::Room, line)

@@ -15,7 +15,7 @@ use crate::Call;
 use crate::parts_of::{
     idle, with_fetch, with_plan, with_push, with_ram, with_register, with_scrub, with_transmit,
 };
-use areas::{FifoConfiguration, FilterConfiguration};
+use areas::{FifoConfiguration, FilterConfiguration, TxQueueConfiguration};
 use changes::{BitTimeConfiguration, IoConfiguration, OscillatorConfiguration, Settings};
 use configure::PlanNumbers;
 use fetch::FetchNumbers;

@@ -39,9 +39,7 @@ fn seq_in(b: u32) -> u32 {
     let mut object = [0u8; 72];
     let word = words::le_bytes(b | flag_word(FDF));
     parts::put_at(&mut object, 4, &word);
-    let decoded = message::decode(true, false, &object);
-    let frame = decoded.frame;
-    frame.seq
+    message::decode(true, false, &object).map_or(0, |frame| frame.seq)
 }
 
 pub fn read(sending: bool, i: usize, a: u32, b: u32) -> u32 {

@@ -3,6 +3,7 @@
 
 use classes::Seen;
 use items::Item;
+use lines::Writer;
 use spoken::{Fault, Spoken};
 use std::rt::{Stderr, Stdout};
 
@@ -16,11 +17,13 @@ fn held(s: State, line: &[u8], out: &[u8], note: &mut [u8]) -> State {
     if check::same(line, out) {
         return s;
     }
-    let a = lines::put(note, 0, b"- ");
-    let b = lines::put(note, a, line);
-    let c = lines::put(note, b, b"\n+ ");
-    let d = lines::put(note, c, out);
-    state::differing(s, lines::put(note, d, b"\n"))
+    let mut w = Writer::new(note);
+    w.put(b"- ");
+    w.put(line);
+    w.put(b"\n+ ");
+    w.put(out);
+    w.put(b"\n");
+    state::differing(s, w.len())
 }
 
 // Whether both are results of a kind that a transcript may have without its last words: a message's DLC and filter, or the number of
@@ -70,7 +73,7 @@ fn single(
     let mut out = [0u8; 8192];
     match singles::single(item, line, &mut out) {
         Some(n) => {
-            let t = held(s, line, text::front(&out, n as usize), note);
+            let t = held(s, line, text::front(&out, n), note);
             state::count_single(stdout, t, singles::class(item, line), note, counts);
         }
         None => state::count_bad(stdout, stderr, s, line, counts),

@@ -4,6 +4,7 @@
 
 use driver::{Answer, Call, Outcome, Refusal};
 use fifo::FifoControl;
+use lines::Writer;
 use std::rt::Stdout;
 
 fn tell_refusal(stdout: Stdout, r: Refusal) {
@@ -29,7 +30,9 @@ fn tell(stdout: Stdout, what: &[u8], o: Outcome) {
 
 fn show(stdout: Stdout, what: &[u8], s: &[u8]) {
     let mut line = [0u8; 256];
-    let n = lines::bytes(&mut line, 0, s);
+    let mut w = Writer::new(&mut line);
+    w.bytes(s);
+    let n = w.len();
     output::write(stdout, what);
     output::write_line(stdout, text::front(&line, n));
 }
@@ -204,7 +207,9 @@ fn scrub_of(line: &[u8]) -> Call {
 fn stands(stdout: Stdout, what: &[u8], call: Call) {
     let none = [0u8; 1];
     let mut line = [0u8; 128];
-    let n = lines::result(&mut line, 0, begun(call), text::front(&none, 0));
+    let mut w = Writer::new(&mut line);
+    w.result(begun(call), text::front(&none, 0));
+    let n = w.len();
     let s = driver::scrubber(call);
     output::write(stdout, what);
     output::write(stdout, text::front(&line, n));

@@ -3,17 +3,19 @@
 
 use driver::{Answer, Call, Next, Outcome};
 use items::Item;
+use lines::Writer;
 use spoken::{Fault, Spoken};
 
 // A RAM read of so many bytes ends with them.
-fn ended(o: Outcome, read: usize, buf: &[u8], out: &mut [u8]) -> usize {
-    let a = lines::put(out, 0, b"= ");
+fn ended(o: Outcome, read: usize, buf: &[u8], w: &mut Writer) {
+    w.put(b"= ");
     if 0 < read {
         if let Outcome::Done = o {
-            return lines::read_result(out, a, text::front(buf, read - 1));
+            w.read_result(text::front(buf, read - 1));
+            return;
         }
     }
-    lines::result(out, a, o, buf)
+    w.result(o, buf);
 }
 
 // What the call does now, if it is wanted. The first `sent` bytes of `lent` are what a RAM write sends, the first `got` of `rx` what
@@ -33,15 +35,17 @@ pub fn line(
     }
     let mut tx = [0u8; 4200];
     let mut buf = [0u8; 2048];
+    let mut w = Writer::new(out);
     match driver::next(call, text::front(lent, sent), &mut tx) {
-        Next::Transfer { n, want } => lines::exchange(out, 0, text::front(&tx, n), want),
-        Next::Wait => lines::put(out, 0, b"wait 500"),
+        Next::Transfer { n, want } => w.exchange(text::front(&tx, n), want),
+        Next::Wait => w.put(b"wait 500"),
         Next::Over => {
             let o = driver::finish(call, text::front(rx, got), &mut buf);
-            ended(o, read, &buf, out)
+            ended(o, read, &buf, &mut w);
         }
-        Next::Short => lines::put(out, 0, b"short"),
+        Next::Short => w.put(b"short"),
     }
+    w.len()
 }
 
 // What a line of the transcript means to the call.

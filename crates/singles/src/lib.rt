@@ -2,11 +2,12 @@
 #![tactic(auto)]
 
 use items::Item;
+use lines::Writer;
 use named::NoValue;
 use spoken::Fault;
 
 // `crc BYTES -> HEX` as the port has it, or Bad where it is not understood.
-fn crc_line(line: &[u8], out: &mut [u8]) -> Option<u64> {
+fn crc_line(line: &[u8], out: &mut [u8]) -> Option<usize> {
     let mut scratch = [0u8; 4200];
     if text::count(line) != 4 || !text::is(line, 2, b"->") {
         return None;
@@ -14,10 +15,12 @@ fn crc_line(line: &[u8], out: &mut [u8]) -> Option<u64> {
     let n = text::bytes(text::word(line, 1), &mut scratch)?;
     let _ = text::hex(text::word(line, 3))?;
     let s = text::front(&scratch, n);
-    let a = lines::put(out, 0, b"crc ");
-    let b = lines::bytes(out, a, s);
-    let c = lines::put(out, b, b" -> ");
-    Some(lines::hex(out, c, crc::checksum(s) as u64, 4) as u64)
+    let mut w = Writer::new(out);
+    w.put(b"crc ");
+    w.bytes(s);
+    w.put(b" -> ");
+    w.hex(crc::checksum(s) as u64, 4);
+    Some(w.len())
 }
 
 // Up to 16 hex digits: a word, or the two of a header.
@@ -57,32 +60,36 @@ fn question(line: &[u8], k: usize) -> &[u8] {
 }
 
 // `field REGISTER NAME WORD -> VALUE`, a field read.
-fn read_line(line: &[u8], out: &mut [u8]) -> Option<u64> {
-    let w = double(text::word(line, 3))?;
+fn read_line(line: &[u8], out: &mut [u8]) -> Option<usize> {
+    let word = double(text::word(line, 3))?;
     let _ = text::decimal(text::word(line, 5))?;
-    let a = lines::put(out, 0, question(line, 5));
-    match fields::field_read(text::word(line, 1), text::word(line, 2), w) {
-        Ok(v) => Some(lines::decimal(out, a, v) as u64),
-        Err(NoValue::Absent) => Some(a as u64),
-        Err(NoValue::Unknown) => None,
+    let mut w = Writer::new(out);
+    w.put(question(line, 5));
+    match fields::field_read(text::word(line, 1), text::word(line, 2), word) {
+        Ok(v) => w.decimal(v),
+        Err(NoValue::Absent) => {}
+        Err(NoValue::Unknown) => return None,
     }
+    Some(w.len())
 }
 
 // `field REGISTER NAME VALUE WORD -> WORD`, a field set.
-fn set_line(line: &[u8], out: &mut [u8]) -> Option<u64> {
+fn set_line(line: &[u8], out: &mut [u8]) -> Option<usize> {
     let v = text::decimal(text::word(line, 3))?;
-    let w = double(text::word(line, 4))?;
+    let word = double(text::word(line, 4))?;
     let _ = double(text::word(line, 6))?;
-    let a = lines::put(out, 0, question(line, 6));
+    let mut w = Writer::new(out);
+    w.put(question(line, 6));
     let width = text::word(line, 4).len();
-    match fields::field_set(text::word(line, 1), text::word(line, 2), v, w) {
-        Ok(x) => Some(lines::hex(out, a, x, width) as u64),
-        Err(NoValue::Absent) => Some(a as u64),
-        Err(NoValue::Unknown) => None,
+    match fields::field_set(text::word(line, 1), text::word(line, 2), v, word) {
+        Ok(x) => w.hex(x, width),
+        Err(NoValue::Absent) => {}
+        Err(NoValue::Unknown) => return None,
     }
+    Some(w.len())
 }
 
-fn field_line(line: &[u8], out: &mut [u8]) -> Option<u64> {
+fn field_line(line: &[u8], out: &mut [u8]) -> Option<usize> {
     if is_whole(line, 6, 4) {
         return read_line(line, out);
     }
@@ -146,7 +153,7 @@ pub fn class(item: Result<Item, Fault>, line: &[u8]) -> u8 {
     }
 }
 
-pub fn single(item: Result<Item, Fault>, line: &[u8], out: &mut [u8]) -> Option<u64> {
+pub fn single(item: Result<Item, Fault>, line: &[u8], out: &mut [u8]) -> Option<usize> {
     match item {
         Ok(Item::Field) => field_line(line, out),
         Ok(Item::Crc) => crc_line(line, out),

@@ -2,7 +2,7 @@
 use crate::fifos::header_of;
 use crate::setup::{are_flags, is_on, spoilt};
 use crate::simple::{number, word};
-use driver::{Call, TxQueueConfiguration, TxQueueSetting};
+use driver::{Call, TxQueueConfiguration};
 
 fn settings(a: &[u64]) -> TxQueueConfiguration {
     TxQueueConfiguration {
