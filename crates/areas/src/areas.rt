@@ -14,7 +14,8 @@ use crate::{
     TxQueueConfiguration,
 };
 use configuration::CanControl;
-use fifo::{FifoControl, TxQueueControl, is_fifo};
+use field::{Numbered, Single};
+use fifo::{ControlWord, FifoControl, TxQueueControl, is_fifo};
 use filter::{FilterControl, FilterMask, FilterObject};
 use header::{eid_of, sid_of};
 use plan::Change;

@@ -6,7 +6,7 @@ ghost use Rattle.place.specs.declared.Register.{Register};
 ghost use Rattle.bank.specs.Registers.{granted, turned_all, con_set, settled, con_written, frozen_set, control_written, status_written, queue_written, osc_set, plain_set, filter_set, object_set, mask_set, register_written};
 
 use configuration::CanControl;
-use fifo::{FifoStatus, TxQueueControl};
+use fifo::{ControlWord, FifoStatus, TxQueueControl};
 use place::Register;
 use state::{
     Fixed, Model, fifo_at, frozen_at, set_word, with_fifo, with_fixed, with_queue, with_setup,

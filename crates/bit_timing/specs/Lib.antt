@@ -1,3 +1,4 @@
+pub mod BitTime
 pub mod Nominal
 pub mod Data
 pub mod Delay

@@ -1,78 +1,46 @@
 // Data bit time, CiDBTCFG.
-ghost use Rattle.std.specs.Prelude.{◌≡◌};
-ghost use Rattle.field.specs.Field.{read, write, Fits};
-ghost use Rattle.field.specs.Register.{Carries};
-ghost use Rattle.bit_timing.specs.Data.{CiDBTCFG, SJW, TSEG2, TSEG1, BRP};
+ghost use Rattle.std.specs.Prelude.{refl};
+ghost use Rattle.std.proofs.Common.{rules};
+ghost use Rattle.bit_timing.specs.Data.{CiDBTCFG};
+
+use crate::BitTime;
+use field::{Register, Single};
 
 #[derive(Clone, Copy)]
 pub struct DataBitTimeConfiguration(pub u32);
 
-impl DataBitTimeConfiguration {
-    pub const ADDRESS: u16 = 0x008;
+impl Register for DataBitTimeConfiguration {
+    ghost kind = { CiDBTCFG };
 
-    pub const RESET: u32 = 0x000E_0303;
+    ghost word = { λ r. r.0 };
 
-    pub fn address() -> u16
-        ensures { result ≡ CiDBTCFG.address 0 }
-    {
-        Self::ADDRESS
+    ghost ADDRESS = { CiDBTCFG.address 0 };
+
+    ghost RESET = { CiDBTCFG.reset };
+
+    ghost reset_is = { refl };
+
+    const ADDRESS: u16 = 0x008;
+
+    const RESET: u32 = 0x000E_0303;
+
+    fn word(self) -> u32 {
+        self.0
     }
 
-    pub fn reset() -> DataBitTimeConfiguration
-        ensures { Carries CiDBTCFG 0 result.0 Self.RESET Self.ADDRESS }
-    {
-        DataBitTimeConfiguration(Self::RESET)
+    fn of_word(w: u32) -> DataBitTimeConfiguration {
+        DataBitTimeConfiguration(w)
     }
+}
 
-    pub fn sjw(self) -> u32
-        ensures { result ≡ read SJW self.0 }
-    {
-        field::get(self.0, 0, 4)
-    }
+impl Single for DataBitTimeConfiguration {
+    ghost address_is = { refl };
+}
 
-    pub fn with_sjw(self, v: u32) -> DataBitTimeConfiguration
-        requires { Fits SJW v }
-        ensures { result.0 ≡ write SJW v self.0 }
-    {
-        DataBitTimeConfiguration(field::set(self.0, 0, 4, v))
-    }
+impl BitTime for DataBitTimeConfiguration {
+    ghost BITS = { 4 };
 
-    pub fn tseg2(self) -> u32
-        ensures { result ≡ read TSEG2 self.0 }
-    {
-        field::get(self.0, 8, 4)
-    }
+    ghost is_bit_time = { Prim.search rules };
 
-    pub fn with_tseg2(self, v: u32) -> DataBitTimeConfiguration
-        requires { Fits TSEG2 v }
-        ensures { result.0 ≡ write TSEG2 v self.0 }
-    {
-        DataBitTimeConfiguration(field::set(self.0, 8, 4, v))
-    }
-
-    pub fn tseg1(self) -> u32
-        ensures { result ≡ read TSEG1 self.0 }
-    {
-        field::get(self.0, 16, 5)
-    }
-
-    pub fn with_tseg1(self, v: u32) -> DataBitTimeConfiguration
-        requires { Fits TSEG1 v }
-        ensures { result.0 ≡ write TSEG1 v self.0 }
-    {
-        DataBitTimeConfiguration(field::set(self.0, 16, 5, v))
-    }
-
-    pub fn brp(self) -> u32
-        ensures { result ≡ read BRP self.0 }
-    {
-        field::get(self.0, 24, 8)
-    }
-
-    pub fn with_brp(self, v: u32) -> DataBitTimeConfiguration
-        requires { Fits BRP v }
-        ensures { result.0 ≡ write BRP v self.0 }
-    {
-        DataBitTimeConfiguration(field::set(self.0, 24, 8, v))
-    }
+    const BITS: u32 = 4;
 }

@@ -1,32 +1,44 @@
 // Transmitter delay compensation, CiTDC.
-ghost use Rattle.std.specs.Prelude.{◌≡◌, min};
+ghost use Rattle.std.specs.Prelude.{◌≡◌, min, refl};
 ghost use Rattle.field.specs.Field.{read, write, Fits, flag, mark};
-ghost use Rattle.field.specs.Register.{Carries};
 ghost use Rattle.bit_timing.specs.Delay.{CiTDC, TDCV, TDCO, TDCMOD, SID11EN, EDGFLTEN};
 ghost use Rattle.bit_timing.specs.Signed.{seven_of, number_of, Small};
 
 use crate::signed;
+use field::{Register, Single};
 
 #[derive(Clone, Copy)]
 pub struct TransmitterDelayCompensation(pub u32);
 
+impl Register for TransmitterDelayCompensation {
+    ghost kind = { CiTDC };
+
+    ghost word = { λ r. r.0 };
+
+    ghost ADDRESS = { CiTDC.address 0 };
+
+    ghost RESET = { CiTDC.reset };
+
+    ghost reset_is = { refl };
+
+    const ADDRESS: u16 = 0x00C;
+
+    const RESET: u32 = 0x0002_1000;
+
+    fn word(self) -> u32 {
+        self.0
+    }
+
+    fn of_word(w: u32) -> TransmitterDelayCompensation {
+        TransmitterDelayCompensation(w)
+    }
+}
+
+impl Single for TransmitterDelayCompensation {
+    ghost address_is = { refl };
+}
+
 impl TransmitterDelayCompensation {
-    pub const ADDRESS: u16 = 0x00C;
-
-    pub const RESET: u32 = 0x0002_1000;
-
-    pub fn address() -> u16
-        ensures { result ≡ CiTDC.address 0 }
-    {
-        Self::ADDRESS
-    }
-
-    pub fn reset() -> TransmitterDelayCompensation
-        ensures { Carries CiTDC 0 result.0 Self.RESET Self.ADDRESS }
-    {
-        TransmitterDelayCompensation(Self::RESET)
-    }
-
     pub fn tdcv(self) -> u32
         ensures { result ≡ read TDCV self.0 }
     {

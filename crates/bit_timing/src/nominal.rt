@@ -1,78 +1,46 @@
 // Nominal bit time, CiNBTCFG.
-ghost use Rattle.std.specs.Prelude.{◌≡◌};
-ghost use Rattle.field.specs.Field.{read, write, Fits};
-ghost use Rattle.field.specs.Register.{Carries};
-ghost use Rattle.bit_timing.specs.Nominal.{CiNBTCFG, SJW, TSEG2, TSEG1, BRP};
+ghost use Rattle.std.specs.Prelude.{refl};
+ghost use Rattle.std.proofs.Common.{rules};
+ghost use Rattle.bit_timing.specs.Nominal.{CiNBTCFG};
+
+use crate::BitTime;
+use field::{Register, Single};
 
 #[derive(Clone, Copy)]
 pub struct NominalBitTimeConfiguration(pub u32);
 
-impl NominalBitTimeConfiguration {
-    pub const ADDRESS: u16 = 0x004;
+impl Register for NominalBitTimeConfiguration {
+    ghost kind = { CiNBTCFG };
 
-    pub const RESET: u32 = 0x003E_0F0F;
+    ghost word = { λ r. r.0 };
 
-    pub fn address() -> u16
-        ensures { result ≡ CiNBTCFG.address 0 }
-    {
-        Self::ADDRESS
+    ghost ADDRESS = { CiNBTCFG.address 0 };
+
+    ghost RESET = { CiNBTCFG.reset };
+
+    ghost reset_is = { refl };
+
+    const ADDRESS: u16 = 0x004;
+
+    const RESET: u32 = 0x003E_0F0F;
+
+    fn word(self) -> u32 {
+        self.0
     }
 
-    pub fn reset() -> NominalBitTimeConfiguration
-        ensures { Carries CiNBTCFG 0 result.0 Self.RESET Self.ADDRESS }
-    {
-        NominalBitTimeConfiguration(Self::RESET)
+    fn of_word(w: u32) -> NominalBitTimeConfiguration {
+        NominalBitTimeConfiguration(w)
     }
+}
 
-    pub fn sjw(self) -> u32
-        ensures { result ≡ read SJW self.0 }
-    {
-        field::get(self.0, 0, 7)
-    }
+impl Single for NominalBitTimeConfiguration {
+    ghost address_is = { refl };
+}
 
-    pub fn with_sjw(self, v: u32) -> NominalBitTimeConfiguration
-        requires { Fits SJW v }
-        ensures { result.0 ≡ write SJW v self.0 }
-    {
-        NominalBitTimeConfiguration(field::set(self.0, 0, 7, v))
-    }
+impl BitTime for NominalBitTimeConfiguration {
+    ghost BITS = { 7 };
 
-    pub fn tseg2(self) -> u32
-        ensures { result ≡ read TSEG2 self.0 }
-    {
-        field::get(self.0, 8, 7)
-    }
+    ghost is_bit_time = { Prim.search rules };
 
-    pub fn with_tseg2(self, v: u32) -> NominalBitTimeConfiguration
-        requires { Fits TSEG2 v }
-        ensures { result.0 ≡ write TSEG2 v self.0 }
-    {
-        NominalBitTimeConfiguration(field::set(self.0, 8, 7, v))
-    }
-
-    pub fn tseg1(self) -> u32
-        ensures { result ≡ read TSEG1 self.0 }
-    {
-        field::get(self.0, 16, 8)
-    }
-
-    pub fn with_tseg1(self, v: u32) -> NominalBitTimeConfiguration
-        requires { Fits TSEG1 v }
-        ensures { result.0 ≡ write TSEG1 v self.0 }
-    {
-        NominalBitTimeConfiguration(field::set(self.0, 16, 8, v))
-    }
-
-    pub fn brp(self) -> u32
-        ensures { result ≡ read BRP self.0 }
-    {
-        field::get(self.0, 24, 8)
-    }
-
-    pub fn with_brp(self, v: u32) -> NominalBitTimeConfiguration
-        requires { Fits BRP v }
-        ensures { result.0 ≡ write BRP v self.0 }
-    {
-        NominalBitTimeConfiguration(field::set(self.0, 24, 8, v))
-    }
+    const BITS: u32 = 7;
 }

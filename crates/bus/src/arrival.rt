@@ -10,7 +10,7 @@ ghost use Rattle.bus.specs.Held.{slot_of};
 ghost use Rattle.bus.specs.Bus.{stamp_for, delivered, receives, appended, give, deliver_of};
 
 use crate::held;
-use fifo::FifoControl;
+use fifo::{ControlWord, FifoControl};
 use header::Header;
 use spi::Refusal;
 use state::{Model, fifo_at, frozen_at};

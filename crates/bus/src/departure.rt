@@ -5,7 +5,7 @@ ghost use Rattle.message.specs.Structs.{decoded_as};
 ghost use Rattle.bus.specs.Bus.{output_of, sends, send_output, send_model, sent_as};
 
 use crate::held;
-use fifo::FifoControl;
+use fifo::{ControlWord, FifoControl};
 use message::{Frame, Undecoded};
 use spi::Refusal;
 use state::{Model, fifo_at, frozen_at};

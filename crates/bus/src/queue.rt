@@ -10,7 +10,7 @@ ghost use Rattle.bus.specs.Queue.{queue_slot, queue_holds, queue_item, rank_at, 
 
 use crate::departure::{Sent, Unsent};
 use crate::{departure, held};
-use fifo::TxQueueControl;
+use fifo::{ControlWord, TxQueueControl};
 use message::{Frame, Undecoded};
 use ring::queue::NO_SLOT;
 use state::{Model, frozen_at};

@@ -12,10 +12,12 @@ use crate::{
     Settings,
 };
 use bit_timing::{
-    DataBitTimeConfiguration, NominalBitTimeConfiguration, TransmitterDelayCompensation, signed,
+    BitTime, DataBitTimeConfiguration, NominalBitTimeConfiguration, TransmitterDelayCompensation,
+    signed,
 };
 use chip::{IoControl, OscillatorControl};
 use configuration::{CanControl, TimeStampControl};
+use field::Single;
 use interrupt::{Cause, Interrupt};
 use plan::{Change, keeping};
 

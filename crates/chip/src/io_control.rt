@@ -1,29 +1,42 @@
 // Input and output control, IOCON. A pin's number is taken modulo 2.
-ghost use Rattle.std.specs.Prelude.{◌≡◌, ◌%◌};
+ghost use Rattle.std.specs.Prelude.{◌≡◌, ◌%◌, refl};
 ghost use Rattle.field.specs.Field.{flag, mark};
-ghost use Rattle.field.specs.Register.{Carries};
 ghost use Rattle.chip.specs.IoControl.{IOCON, TRIS, LAT, GPIO, PM, XSTBYEN, TXCANOD, SOF, INTOD};
+
+use field::{Register, Single};
 
 #[derive(Clone, Copy)]
 pub struct IoControl(pub u32);
 
+impl Register for IoControl {
+    ghost kind = { IOCON };
+
+    ghost word = { λ r. r.0 };
+
+    ghost ADDRESS = { IOCON.address 0 };
+
+    ghost RESET = { IOCON.reset };
+
+    ghost reset_is = { refl };
+
+    const ADDRESS: u16 = 0xE04;
+
+    const RESET: u32 = 0x0300_0003;
+
+    fn word(self) -> u32 {
+        self.0
+    }
+
+    fn of_word(w: u32) -> IoControl {
+        IoControl(w)
+    }
+}
+
+impl Single for IoControl {
+    ghost address_is = { refl };
+}
+
 impl IoControl {
-    pub const ADDRESS: u16 = 0xE04;
-
-    pub const RESET: u32 = 0x0300_0003;
-
-    pub fn address() -> u16
-        ensures { result ≡ IOCON.address 0 }
-    {
-        Self::ADDRESS
-    }
-
-    pub fn reset() -> IoControl
-        ensures { Carries IOCON 0 result.0 Self.RESET Self.ADDRESS }
-    {
-        IoControl(Self::RESET)
-    }
-
     pub fn tris(self, pin: u8) -> bool
         ensures { result ≡ flag (TRIS (pin % 2)) self.0 }
     {

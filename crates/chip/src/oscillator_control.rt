@@ -1,29 +1,42 @@
 // Oscillator control, OSC.
-ghost use Rattle.std.specs.Prelude.{◌≡◌};
+ghost use Rattle.std.specs.Prelude.{◌≡◌, refl};
 ghost use Rattle.field.specs.Field.{read, write, Fits, flag, mark};
-ghost use Rattle.field.specs.Register.{Carries};
 ghost use Rattle.chip.specs.OscillatorControl.{OSC, PLLEN, OSCDIS, LPMEN, SCLKDIV, CLKODIV, PLLRDY, OSCRDY, SCLKRDY};
+
+use field::{Register, Single};
 
 #[derive(Clone, Copy)]
 pub struct OscillatorControl(pub u32);
 
+impl Register for OscillatorControl {
+    ghost kind = { OSC };
+
+    ghost word = { λ r. r.0 };
+
+    ghost ADDRESS = { OSC.address 0 };
+
+    ghost RESET = { OSC.reset };
+
+    ghost reset_is = { refl };
+
+    const ADDRESS: u16 = 0xE00;
+
+    const RESET: u32 = 0x0000_0460;
+
+    fn word(self) -> u32 {
+        self.0
+    }
+
+    fn of_word(w: u32) -> OscillatorControl {
+        OscillatorControl(w)
+    }
+}
+
+impl Single for OscillatorControl {
+    ghost address_is = { refl };
+}
+
 impl OscillatorControl {
-    pub const ADDRESS: u16 = 0xE00;
-
-    pub const RESET: u32 = 0x0000_0460;
-
-    pub fn address() -> u16
-        ensures { result ≡ OSC.address 0 }
-    {
-        Self::ADDRESS
-    }
-
-    pub fn reset() -> OscillatorControl
-        ensures { Carries OSC 0 result.0 Self.RESET Self.ADDRESS }
-    {
-        OscillatorControl(Self::RESET)
-    }
-
     pub fn pllen(self) -> bool
         ensures { result ≡ flag PLLEN self.0 }
     {

@@ -2,7 +2,7 @@
 ghost use Rattle.std.specs.Prelude.{◌≡◌, ◌<◌};
 ghost use Rattle.classes.specs.Classes.{is_high, is_long, is_last, is_cut, is_beyond};
 
-use fifo::FifoControl;
+use fifo::{ControlWord, FifoControl};
 
 pub fn is_high(user: u32) -> bool
     ensures { result ≡ is_high user }

@@ -1,29 +1,42 @@
 // CAN control, CiCON.
-ghost use Rattle.std.specs.Prelude.{◌≡◌};
+ghost use Rattle.std.specs.Prelude.{◌≡◌, refl};
 ghost use Rattle.field.specs.Field.{read, write, Fits, flag, mark};
-ghost use Rattle.field.specs.Register.{Carries};
 ghost use Rattle.configuration.specs.CanControl.{CiCON, DNCNT, ISOCRCEN, PXEDIS, WAKFIL, WFT, BUSY, BRSDIS, RTXAT, ESIGM, SERR2LOM, STEF, TXQEN, OPMOD, REQOP, ABAT, TXBWS};
+
+use field::{Register, Single};
 
 #[derive(Clone, Copy)]
 pub struct CanControl(pub u32);
 
+impl Register for CanControl {
+    ghost kind = { CiCON };
+
+    ghost word = { λ r. r.0 };
+
+    ghost ADDRESS = { CiCON.address 0 };
+
+    ghost RESET = { CiCON.reset };
+
+    ghost reset_is = { refl };
+
+    const ADDRESS: u16 = 0x000;
+
+    const RESET: u32 = 0x0498_0760;
+
+    fn word(self) -> u32 {
+        self.0
+    }
+
+    fn of_word(w: u32) -> CanControl {
+        CanControl(w)
+    }
+}
+
+impl Single for CanControl {
+    ghost address_is = { refl };
+}
+
 impl CanControl {
-    pub const ADDRESS: u16 = 0x000;
-
-    pub const RESET: u32 = 0x0498_0760;
-
-    pub fn address() -> u16
-        ensures { result ≡ CiCON.address 0 }
-    {
-        Self::ADDRESS
-    }
-
-    pub fn reset() -> CanControl
-        ensures { Carries CiCON 0 result.0 Self.RESET Self.ADDRESS }
-    {
-        CanControl(Self::RESET)
-    }
-
     pub fn dncnt(self) -> u32
         ensures { result ≡ read DNCNT self.0 }
     {

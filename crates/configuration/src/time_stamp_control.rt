@@ -1,29 +1,42 @@
 // Time stamp control, CiTSCON.
-ghost use Rattle.std.specs.Prelude.{◌≡◌};
+ghost use Rattle.std.specs.Prelude.{◌≡◌, refl};
 ghost use Rattle.field.specs.Field.{read, write, Fits, flag, mark};
-ghost use Rattle.field.specs.Register.{Carries};
 ghost use Rattle.configuration.specs.TimeStampControl.{CiTSCON, TBCPRE, TBCEN, TSEOF, TSRES};
+
+use field::{Register, Single};
 
 #[derive(Clone, Copy)]
 pub struct TimeStampControl(pub u32);
 
+impl Register for TimeStampControl {
+    ghost kind = { CiTSCON };
+
+    ghost word = { λ r. r.0 };
+
+    ghost ADDRESS = { CiTSCON.address 0 };
+
+    ghost RESET = { CiTSCON.reset };
+
+    ghost reset_is = { refl };
+
+    const ADDRESS: u16 = 0x014;
+
+    const RESET: u32 = 0x0000_0000;
+
+    fn word(self) -> u32 {
+        self.0
+    }
+
+    fn of_word(w: u32) -> TimeStampControl {
+        TimeStampControl(w)
+    }
+}
+
+impl Single for TimeStampControl {
+    ghost address_is = { refl };
+}
+
 impl TimeStampControl {
-    pub const ADDRESS: u16 = 0x014;
-
-    pub const RESET: u32 = 0x0000_0000;
-
-    pub fn address() -> u16
-        ensures { result ≡ CiTSCON.address 0 }
-    {
-        Self::ADDRESS
-    }
-
-    pub fn reset() -> TimeStampControl
-        ensures { Carries CiTSCON 0 result.0 Self.RESET Self.ADDRESS }
-    {
-        TimeStampControl(Self::RESET)
-    }
-
     pub fn tbcpre(self) -> u32
         ensures { result ≡ read TBCPRE self.0 }
     {

@@ -15,6 +15,7 @@ use crate::{PlanNumbers, PlanStage};
 use call::Outcome;
 use chip::OscillatorControl;
 use configuration::CanControl;
+use field::Single;
 use plan::{Item, Poll, echo_word, is_shown, is_there, late, modified_word};
 use spi::{Answer, Ask, Refusal, done_reply, wait_reply, word_reply};
 

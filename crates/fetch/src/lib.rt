@@ -12,7 +12,7 @@ ghost use Rattle.fetch.specs.Step.{after_control, to_address, after_status, afte
 ghost use Rattle.fetch.specs.Numbers.{found_in, fetch_at, standing, started, moved_to};
 
 use call::Found;
-use fifo::{FifoControl, FifoStatus};
+use fifo::{ControlWord, FifoControl, FifoStatus};
 use spi::{Answer, Refusal};
 
 #[derive(Clone, Copy)]

@@ -4,6 +4,10 @@
 ghost use Rattle.std.specs.Prelude.{◌≡◌, ◌+◌, ◌-◌, ◌^◌, ◌≤◌, ◌<◌, min, eqb};
 ghost use Rattle.field.specs.Field.{field_of, with_field, digit};
 
+mod register;
+
+pub use register::{Numbered, Register, Single};
+
 // The `width` low bits.
 fn ones(width: u32) -> u32
     requires { width ≤ 32 }

@@ -8,9 +8,9 @@ mod tx_queue_status;
 mod tx_queue_user_address;
 mod user_address;
 
-pub use control::{FifoControl, PLSIZE, is_fifo, payload_bytes};
-pub use status::FifoStatus;
+pub use control::{ControlWord, FifoControl, PLSIZE, is_fifo, payload_bytes};
+pub use status::{FifoStatus, StatusWord};
 pub use tx_queue_control::TxQueueControl;
 pub use tx_queue_status::TxQueueStatus;
 pub use tx_queue_user_address::TxQueueUserAddress;
-pub use user_address::UserAddress;
+pub use user_address::{UserAddress, UserAddressWord};

@@ -1,30 +1,105 @@
 // FIFO status, CiFIFOSTAn.
-ghost use Rattle.std.specs.Prelude.{◌≡◌};
+ghost use Rattle.std.specs.Prelude.{◌≡◌, refl};
 ghost use Rattle.field.specs.Field.{read, write, Fits, flag, mark};
-ghost use Rattle.field.specs.Register.{Carries};
+ghost use Rattle.std.proofs.Common.{rules};
 ghost use Rattle.fifo.specs.Status.{CiFIFOSTA, TFNRFNIF, TFHRFHIF, TFERFFIF, RXOVIF, TXATIF, TXERR, TXLARB, TXABT, FIFOCI};
+
+use field::{Numbered, Register};
+
+// What the status words of a FIFO and of the transmit queue share.
+pub trait StatusWord: Register {
+    final fn txatif(self) -> bool
+        ensures { result ≡ flag TXATIF (Self.word self) }
+    {
+        field::bit(self.word(), 4)
+    }
+
+    final fn with_txatif(self, on: bool) -> Self
+        ensures { Self.word result ≡ mark TXATIF on (Self.word self) }
+    {
+        Self::of_word(field::set_bit(self.word(), 4, on))
+    }
+
+    final fn txerr(self) -> bool
+        ensures { result ≡ flag TXERR (Self.word self) }
+    {
+        field::bit(self.word(), 5)
+    }
+
+    final fn with_txerr(self, on: bool) -> Self
+        ensures { Self.word result ≡ mark TXERR on (Self.word self) }
+    {
+        Self::of_word(field::set_bit(self.word(), 5, on))
+    }
+
+    final fn txlarb(self) -> bool
+        ensures { result ≡ flag TXLARB (Self.word self) }
+    {
+        field::bit(self.word(), 6)
+    }
+
+    final fn with_txlarb(self, on: bool) -> Self
+        ensures { Self.word result ≡ mark TXLARB on (Self.word self) }
+    {
+        Self::of_word(field::set_bit(self.word(), 6, on))
+    }
+
+    final fn txabt(self) -> bool
+        ensures { result ≡ flag TXABT (Self.word self) }
+    {
+        field::bit(self.word(), 7)
+    }
+
+    final fn with_txabt(self, on: bool) -> Self
+        ensures { Self.word result ≡ mark TXABT on (Self.word self) }
+    {
+        Self::of_word(field::set_bit(self.word(), 7, on))
+    }
+}
 
 #[derive(Clone, Copy)]
 pub struct FifoStatus(pub u32);
 
-impl FifoStatus {
+impl Register for FifoStatus {
+    ghost kind = { CiFIFOSTA };
+
+    ghost word = { λ r. r.0 };
+
+    ghost ADDRESS = { CiFIFOSTA.address 1 };
+
+    ghost RESET = { CiFIFOSTA.reset };
+
+    ghost reset_is = { refl };
+
     // The address in FIFO 1.
-    pub const FIRST: u16 = 0x060;
+    const ADDRESS: u16 = 0x060;
 
-    pub const RESET: u32 = 0x0000_0000;
+    const RESET: u32 = 0x0000_0000;
 
-    pub fn address(n: u8) -> u16
-        ensures { result ≡ CiFIFOSTA.address n }
-    {
-        Self::FIRST + 12 * (n as u16) - 12
+    fn word(self) -> u32 {
+        self.0
     }
 
-    pub fn reset() -> FifoStatus
-        ensures { Carries CiFIFOSTA 1 result.0 Self.RESET Self.FIRST }
-    {
-        FifoStatus(Self::RESET)
+    fn of_word(w: u32) -> FifoStatus {
+        FifoStatus(w)
     }
+}
 
+impl Numbered for FifoStatus {
+    ghost LOWEST = { 1 };
+
+    ghost STEP = { 12 };
+
+    ghost steps = { Prim.search rules };
+
+    const LOWEST: u16 = 1;
+
+    const STEP: u16 = 12;
+}
+
+impl StatusWord for FifoStatus {}
+
+impl FifoStatus {
     pub fn tfnrfnif(self) -> bool
         ensures { result ≡ flag TFNRFNIF self.0 }
     {
@@ -71,54 +146,6 @@ impl FifoStatus {
         ensures { result.0 ≡ mark RXOVIF on self.0 }
     {
         FifoStatus(field::set_bit(self.0, 3, on))
-    }
-
-    pub fn txatif(self) -> bool
-        ensures { result ≡ flag TXATIF self.0 }
-    {
-        field::bit(self.0, 4)
-    }
-
-    pub fn with_txatif(self, on: bool) -> FifoStatus
-        ensures { result.0 ≡ mark TXATIF on self.0 }
-    {
-        FifoStatus(field::set_bit(self.0, 4, on))
-    }
-
-    pub fn txerr(self) -> bool
-        ensures { result ≡ flag TXERR self.0 }
-    {
-        field::bit(self.0, 5)
-    }
-
-    pub fn with_txerr(self, on: bool) -> FifoStatus
-        ensures { result.0 ≡ mark TXERR on self.0 }
-    {
-        FifoStatus(field::set_bit(self.0, 5, on))
-    }
-
-    pub fn txlarb(self) -> bool
-        ensures { result ≡ flag TXLARB self.0 }
-    {
-        field::bit(self.0, 6)
-    }
-
-    pub fn with_txlarb(self, on: bool) -> FifoStatus
-        ensures { result.0 ≡ mark TXLARB on self.0 }
-    {
-        FifoStatus(field::set_bit(self.0, 6, on))
-    }
-
-    pub fn txabt(self) -> bool
-        ensures { result ≡ flag TXABT self.0 }
-    {
-        field::bit(self.0, 7)
-    }
-
-    pub fn with_txabt(self, on: bool) -> FifoStatus
-        ensures { result.0 ≡ mark TXABT on self.0 }
-    {
-        FifoStatus(field::set_bit(self.0, 7, on))
     }
 
     pub fn fifoci(self) -> u32

@@ -1,30 +1,46 @@
 // Transmit queue status, CiTXQSTA.
-ghost use Rattle.std.specs.Prelude.{◌≡◌};
+ghost use Rattle.std.specs.Prelude.{◌≡◌, refl};
 ghost use Rattle.field.specs.Field.{read, write, Fits, flag, mark};
-ghost use Rattle.field.specs.Register.{Carries};
 ghost use Rattle.fifo.specs.Status.{TXATIF, TXERR, TXLARB, TXABT};
 ghost use Rattle.fifo.specs.TxQueueStatus.{CiTXQSTA, TXQNIF, TXQEIF, TXQCI};
+
+use crate::StatusWord;
+use field::{Register, Single};
 
 #[derive(Clone, Copy)]
 pub struct TxQueueStatus(pub u32);
 
+impl Register for TxQueueStatus {
+    ghost kind = { CiTXQSTA };
+
+    ghost word = { λ r. r.0 };
+
+    ghost ADDRESS = { CiTXQSTA.address 0 };
+
+    ghost RESET = { CiTXQSTA.reset };
+
+    ghost reset_is = { refl };
+
+    const ADDRESS: u16 = 0x054;
+
+    const RESET: u32 = 0x0000_0000;
+
+    fn word(self) -> u32 {
+        self.0
+    }
+
+    fn of_word(w: u32) -> TxQueueStatus {
+        TxQueueStatus(w)
+    }
+}
+
+impl Single for TxQueueStatus {
+    ghost address_is = { refl };
+}
+
+impl StatusWord for TxQueueStatus {}
+
 impl TxQueueStatus {
-    pub const ADDRESS: u16 = 0x054;
-
-    pub const RESET: u32 = 0x0000_0000;
-
-    pub fn address() -> u16
-        ensures { result ≡ CiTXQSTA.address 0 }
-    {
-        Self::ADDRESS
-    }
-
-    pub fn reset() -> TxQueueStatus
-        ensures { Carries CiTXQSTA 0 result.0 Self.RESET Self.ADDRESS }
-    {
-        TxQueueStatus(Self::RESET)
-    }
-
     pub fn txqnif(self) -> bool
         ensures { result ≡ flag TXQNIF self.0 }
     {
@@ -47,54 +63,6 @@ impl TxQueueStatus {
         ensures { result.0 ≡ mark TXQEIF on self.0 }
     {
         TxQueueStatus(field::set_bit(self.0, 2, on))
-    }
-
-    pub fn txatif(self) -> bool
-        ensures { result ≡ flag TXATIF self.0 }
-    {
-        field::bit(self.0, 4)
-    }
-
-    pub fn with_txatif(self, on: bool) -> TxQueueStatus
-        ensures { result.0 ≡ mark TXATIF on self.0 }
-    {
-        TxQueueStatus(field::set_bit(self.0, 4, on))
-    }
-
-    pub fn txerr(self) -> bool
-        ensures { result ≡ flag TXERR self.0 }
-    {
-        field::bit(self.0, 5)
-    }
-
-    pub fn with_txerr(self, on: bool) -> TxQueueStatus
-        ensures { result.0 ≡ mark TXERR on self.0 }
-    {
-        TxQueueStatus(field::set_bit(self.0, 5, on))
-    }
-
-    pub fn txlarb(self) -> bool
-        ensures { result ≡ flag TXLARB self.0 }
-    {
-        field::bit(self.0, 6)
-    }
-
-    pub fn with_txlarb(self, on: bool) -> TxQueueStatus
-        ensures { result.0 ≡ mark TXLARB on self.0 }
-    {
-        TxQueueStatus(field::set_bit(self.0, 6, on))
-    }
-
-    pub fn txabt(self) -> bool
-        ensures { result ≡ flag TXABT self.0 }
-    {
-        field::bit(self.0, 7)
-    }
-
-    pub fn with_txabt(self, on: bool) -> TxQueueStatus
-        ensures { result.0 ≡ mark TXABT on self.0 }
-    {
-        TxQueueStatus(field::set_bit(self.0, 7, on))
     }
 
     pub fn txqci(self) -> u32

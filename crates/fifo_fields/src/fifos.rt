@@ -1,5 +1,5 @@
 // CiFIFOCON and CiFIFOSTA.
-use fifo::{FifoControl, FifoStatus};
+use fifo::{ControlWord, FifoControl, FifoStatus, StatusWord};
 use named::cut;
 
 pub fn control(w: u32, i: usize) -> u32 {

@@ -5,7 +5,9 @@ mod fifos;
 mod filters;
 mod queue;
 
-use fifo::{FifoControl, TxQueueControl, TxQueueUserAddress, UserAddress};
+use fifo::{
+    ControlWord, FifoControl, TxQueueControl, TxQueueUserAddress, UserAddress, UserAddressWord,
+};
 use named::NoValue;
 
 // Register k of CiFIFOCON, CiFIFOSTA, CiFIFOUA, CiFLTCON, CiFLTOBJ, CiMASK, CiTXQCON, CiTXQSTA and CiTXQUA.

@@ -1,5 +1,5 @@
 // CiTXQCON and CiTXQSTA.
-use fifo::{TxQueueControl, TxQueueStatus};
+use fifo::{ControlWord, StatusWord, TxQueueControl, TxQueueStatus};
 use named::cut;
 
 pub fn control(w: u32, i: usize) -> u32 {

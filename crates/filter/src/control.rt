@@ -1,30 +1,52 @@
 // Filter control, CiFLTCONk: four filters each, filter m in word m / 4 at byte m % 4.
-ghost use Rattle.std.specs.Prelude.{◌≡◌, ◌%◌};
+ghost use Rattle.std.specs.Prelude.{◌≡◌, ◌%◌, refl};
 ghost use Rattle.field.specs.Field.{read, write, Fits, flag, mark};
-ghost use Rattle.field.specs.Register.{Carries};
+ghost use Rattle.std.proofs.Common.{rules};
 ghost use Rattle.filter.specs.Control.{CiFLTCON, FBP, FLTEN};
+
+use field::{Numbered, Register};
 
 #[derive(Clone, Copy)]
 pub struct FilterControl(pub u32);
 
-impl FilterControl {
+impl Register for FilterControl {
+    ghost kind = { CiFLTCON };
+
+    ghost word = { λ r. r.0 };
+
+    ghost ADDRESS = { CiFLTCON.address 0 };
+
+    ghost RESET = { CiFLTCON.reset };
+
+    ghost reset_is = { refl };
+
     // The address of word 0.
-    pub const FIRST: u16 = 0x1D0;
+    const ADDRESS: u16 = 0x1D0;
 
-    pub const RESET: u32 = 0x0000_0000;
+    const RESET: u32 = 0x0000_0000;
 
-    pub fn address(k: u8) -> u16
-        ensures { result ≡ CiFLTCON.address k }
-    {
-        Self::FIRST + 4 * (k as u16)
+    fn word(self) -> u32 {
+        self.0
     }
 
-    pub fn reset() -> FilterControl
-        ensures { Carries CiFLTCON 0 result.0 Self.RESET Self.FIRST }
-    {
-        FilterControl(Self::RESET)
+    fn of_word(w: u32) -> FilterControl {
+        FilterControl(w)
     }
+}
 
+impl Numbered for FilterControl {
+    ghost LOWEST = { 0 };
+
+    ghost STEP = { 4 };
+
+    ghost steps = { Prim.search rules };
+
+    const LOWEST: u16 = 0;
+
+    const STEP: u16 = 4;
+}
+
+impl FilterControl {
     // The FIFO that filter m gives its messages to.
     pub fn target(self, m: u8) -> u32
         ensures { result ≡ read (FBP (m % 4)) self.0 }

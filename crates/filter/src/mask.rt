@@ -1,30 +1,52 @@
 // Filter mask, CiMASKm.
-ghost use Rattle.std.specs.Prelude.{◌≡◌};
+ghost use Rattle.std.specs.Prelude.{◌≡◌, refl};
 ghost use Rattle.field.specs.Field.{read, write, Fits, flag, mark};
-ghost use Rattle.field.specs.Register.{Carries};
+ghost use Rattle.std.proofs.Common.{rules};
 ghost use Rattle.filter.specs.Mask.{CiMASK, MSID, MEID, MSID11, MIDE};
+
+use field::{Numbered, Register};
 
 #[derive(Clone, Copy)]
 pub struct FilterMask(pub u32);
 
-impl FilterMask {
+impl Register for FilterMask {
+    ghost kind = { CiMASK };
+
+    ghost word = { λ r. r.0 };
+
+    ghost ADDRESS = { CiMASK.address 0 };
+
+    ghost RESET = { CiMASK.reset };
+
+    ghost reset_is = { refl };
+
     // The address in filter 0.
-    pub const FIRST: u16 = 0x1F4;
+    const ADDRESS: u16 = 0x1F4;
 
-    pub const RESET: u32 = 0x0000_0000;
+    const RESET: u32 = 0x0000_0000;
 
-    pub fn address(n: u8) -> u16
-        ensures { result ≡ CiMASK.address n }
-    {
-        Self::FIRST + 8 * (n as u16)
+    fn word(self) -> u32 {
+        self.0
     }
 
-    pub fn reset() -> FilterMask
-        ensures { Carries CiMASK 0 result.0 Self.RESET Self.FIRST }
-    {
-        FilterMask(Self::RESET)
+    fn of_word(w: u32) -> FilterMask {
+        FilterMask(w)
     }
+}
 
+impl Numbered for FilterMask {
+    ghost LOWEST = { 0 };
+
+    ghost STEP = { 8 };
+
+    ghost steps = { Prim.search rules };
+
+    const LOWEST: u16 = 0;
+
+    const STEP: u16 = 8;
+}
+
+impl FilterMask {
     pub fn msid(self) -> u32
         ensures { result ≡ read MSID self.0 }
     {

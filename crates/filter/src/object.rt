@@ -1,30 +1,52 @@
 // Filter object, CiFLTOBJm.
-ghost use Rattle.std.specs.Prelude.{◌≡◌};
+ghost use Rattle.std.specs.Prelude.{◌≡◌, refl};
 ghost use Rattle.field.specs.Field.{read, write, Fits, flag, mark};
-ghost use Rattle.field.specs.Register.{Carries};
+ghost use Rattle.std.proofs.Common.{rules};
 ghost use Rattle.filter.specs.Object.{CiFLTOBJ, SID, EID, SID11, EXIDE};
+
+use field::{Numbered, Register};
 
 #[derive(Clone, Copy)]
 pub struct FilterObject(pub u32);
 
-impl FilterObject {
+impl Register for FilterObject {
+    ghost kind = { CiFLTOBJ };
+
+    ghost word = { λ r. r.0 };
+
+    ghost ADDRESS = { CiFLTOBJ.address 0 };
+
+    ghost RESET = { CiFLTOBJ.reset };
+
+    ghost reset_is = { refl };
+
     // The address in filter 0.
-    pub const FIRST: u16 = 0x1F0;
+    const ADDRESS: u16 = 0x1F0;
 
-    pub const RESET: u32 = 0x0000_0000;
+    const RESET: u32 = 0x0000_0000;
 
-    pub fn address(n: u8) -> u16
-        ensures { result ≡ CiFLTOBJ.address n }
-    {
-        Self::FIRST + 8 * (n as u16)
+    fn word(self) -> u32 {
+        self.0
     }
 
-    pub fn reset() -> FilterObject
-        ensures { Carries CiFLTOBJ 0 result.0 Self.RESET Self.FIRST }
-    {
-        FilterObject(Self::RESET)
+    fn of_word(w: u32) -> FilterObject {
+        FilterObject(w)
     }
+}
 
+impl Numbered for FilterObject {
+    ghost LOWEST = { 0 };
+
+    ghost STEP = { 8 };
+
+    ghost steps = { Prim.search rules };
+
+    const LOWEST: u16 = 0;
+
+    const STEP: u16 = 8;
+}
+
+impl FilterObject {
     pub fn sid(self) -> u32
         ensures { result ≡ read SID self.0 }
     {

@@ -1,10 +1,11 @@
 // Interrupts, CiINT: a flag for each cause, and its enable.
 #![tactic(auto)]
 
-ghost use Rattle.std.specs.Prelude.{◌≡◌, ◌<◌};
+ghost use Rattle.std.specs.Prelude.{◌≡◌, ◌<◌, refl};
 ghost use Rattle.field.specs.Field.{flag, mark};
-ghost use Rattle.field.specs.Register.{Carries};
 ghost use Rattle.interrupt.specs.Interrupt.{CiINT, cause_bit, IF, IE};
+
+use field::{Register, Single};
 
 // The data sheet's names without IF and IE.
 #[derive(Clone, Copy)]
@@ -47,23 +48,35 @@ fn bit_of(cause: Cause) -> u32
 #[derive(Clone, Copy)]
 pub struct Interrupt(pub u32);
 
+impl Register for Interrupt {
+    ghost kind = { CiINT };
+
+    ghost word = { λ r. r.0 };
+
+    ghost ADDRESS = { CiINT.address 0 };
+
+    ghost RESET = { CiINT.reset };
+
+    ghost reset_is = { refl };
+
+    const ADDRESS: u16 = 0x01C;
+
+    const RESET: u32 = 0x0000_0000;
+
+    fn word(self) -> u32 {
+        self.0
+    }
+
+    fn of_word(w: u32) -> Interrupt {
+        Interrupt(w)
+    }
+}
+
+impl Single for Interrupt {
+    ghost address_is = { refl };
+}
+
 impl Interrupt {
-    pub const ADDRESS: u16 = 0x01C;
-
-    pub const RESET: u32 = 0x0000_0000;
-
-    pub fn address() -> u16
-        ensures { result ≡ CiINT.address 0 }
-    {
-        Self::ADDRESS
-    }
-
-    pub fn reset() -> Interrupt
-        ensures { Carries CiINT 0 result.0 Self.RESET Self.ADDRESS }
-    {
-        Interrupt(Self::RESET)
-    }
-
     // TXIF, RXIF and the others.
     pub fn flagged(self, cause: Cause) -> bool
         ensures { result ≡ flag (IF cause) self.0 }

@@ -3,7 +3,8 @@
 #![tactic(auto)]
 
 use driver::{Answer, Call, Outcome, Refusal};
-use fifo::FifoControl;
+use field::Numbered;
+use fifo::{ControlWord, FifoControl};
 use lines::Writer;
 use std::rt::Stdout;
 

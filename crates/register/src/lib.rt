@@ -10,6 +10,7 @@ ghost use Rattle.register.specs.RegisterCall.{RegisterCall};
 
 use call::Outcome;
 use configuration::CanControl;
+use field::Single;
 use spi::{Answer, Ask, CheckedWord, Refusal};
 
 #[derive(Clone, Copy)]

@@ -3,7 +3,7 @@ ghost use Rattle.std.specs.Prelude.{◌≡◌, ◌≤◌, ◌*◌, ◌+◌, get_
 ghost use Rattle.ring.specs.Layout.{stamped, size, room, end, base, slot_at};
 
 use crate::{depth, sending};
-use fifo::FifoControl;
+use fifo::{ControlWord, FifoControl};
 
 pub fn stamped(frozen: u32) -> bool
     ensures { result ≡ stamped frozen }

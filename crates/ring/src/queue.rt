@@ -6,7 +6,7 @@ ghost use Rattle.ring.specs.Queue.{first_not, free, full, empty, status, fresh, 
 
 use crate::depth;
 use crate::ring::{kept, without_txreq};
-use fifo::{FifoControl, FifoStatus};
+use fifo::{ControlWord, FifoControl, FifoStatus};
 
 #[derive(Clone, Copy)]
 pub struct Queue {

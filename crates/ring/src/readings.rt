@@ -4,7 +4,7 @@ ghost use Rattle.ring.specs.Ring.{sending};
 ghost use Rattle.ring.specs.Registers.{frozen_fields, copied, control, ready, edge, status};
 
 use crate::{Fifo, depth, sending};
-use fifo::{FifoControl, FifoStatus};
+use fifo::{ControlWord, FifoControl, FifoStatus};
 
 // A control word as it reads: `last` is what was last written.
 pub fn control_word(frozen: u32, last: u32) -> u32

@@ -5,7 +5,7 @@ ghost use Rattle.field.specs.Settings.{◌:=◌, settings};
 ghost use Rattle.fifo.specs.Control.{UINC, FRESET, TXREQ};
 ghost use Rattle.ring.specs.Ring.{sending, depth, place, shown, claimed, taken, increased, controlled, overflowed, emptied, sent, configured, commanded, turned, fresh};
 
-use fifo::FifoControl;
+use fifo::{ControlWord, FifoControl};
 
 #[derive(Clone, Copy)]
 pub struct Fifo {

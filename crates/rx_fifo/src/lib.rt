@@ -13,7 +13,8 @@ ghost use Rattle.rx_fifo.specs.Numbers.{fetch_of, FetchEnds};
 
 use call::{Found, Outcome};
 use fetch::{FetchNumbers, FetchStage, Want};
-use fifo::{FifoControl, FifoStatus, UserAddress};
+use field::Numbered;
+use fifo::{ControlWord, FifoControl, FifoStatus, UserAddress};
 use spi::{Answer, Ask, Refusal};
 
 mod held;

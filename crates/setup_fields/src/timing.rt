@@ -2,7 +2,8 @@
 ghost use Rattle.std.specs.Prelude.{◌<◌};
 
 use bit_timing::{
-    DataBitTimeConfiguration, NominalBitTimeConfiguration, TransmitterDelayCompensation, signed,
+    BitTime, DataBitTimeConfiguration, NominalBitTimeConfiguration, TransmitterDelayCompensation,
+    signed,
 };
 use named::cut;
 

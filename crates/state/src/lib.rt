@@ -11,6 +11,7 @@ use bit_timing::{
 };
 use chip::{IoControl, OscillatorControl};
 use configuration::{CanControl, TimeStampControl};
+use field::Register;
 use fifo::{FifoControl, TxQueueControl};
 use filter::{FilterControl, FilterMask, FilterObject};
 use interrupt::Interrupt;

@@ -9,7 +9,8 @@ ghost use Rattle.transmit.specs.Transmit.{request_change, transmit_start, transm
 ghost use Rattle.transmit.specs.Numbers.{request_of, transmit_in, RequestStarts, RequestSteps, TransmitSteps};
 
 use call::Outcome;
-use fifo::{FifoControl, is_fifo};
+use field::Numbered;
+use fifo::{ControlWord, FifoControl, is_fifo};
 use header::Header;
 use spi::{Answer, Ask, Refusal, done_reply, word_reply};
 use tx_fifo::{PushNumbers, PushStage, push_ask, push_done, push_outcome, push_start, push_step};

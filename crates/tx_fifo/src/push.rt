@@ -11,7 +11,8 @@ ghost use Rattle.tx_fifo.specs.Numbers.{stage_at, ram_at, push_of, PushBegins, P
 
 use call::Outcome;
 use configuration::CanControl;
-use fifo::{FifoControl, FifoStatus, UserAddress, is_fifo};
+use field::{Numbered, Single};
+use fifo::{ControlWord, FifoControl, FifoStatus, UserAddress, is_fifo};
 use header::Header;
 use message::{clear, encode};
 use spi::{Answer, Ask, Refusal, done_reply, in_range, word_reply};
