@@ -3,7 +3,8 @@
 #![tactic(auto)]
 
 use lines::Writer;
-use output::write;
+use output::{Streams, write};
+use reading::{Line, Reader};
 use script::Entry;
 use spoken::{Fault, Spoken};
 use state::Model;
@@ -157,7 +158,12 @@ fn run(
     numbers: &mut [u64; 24],
     scrubber: &mut [u64; 1],
 ) {
-    let mut r = reading::begin();
+    let streams = Streams {
+        stdin,
+        stdout,
+        stderr,
+    };
+    let mut reader = Reader::new(streams, piece);
     let mut m = acts::new_chip();
     let mut p = Place {
         number: 0,
@@ -165,12 +171,11 @@ fn run(
         head: 0,
         notes: 0,
     };
-    let mut turns = u64::MAX;
-    loop {
-        r = reading::next_line(stdin, stderr, r, piece, buf);
-        let line = text::front(buf, r.len);
-        let entry = script::entry_of(line, reading::is_long(r.kind), numbers, lent);
-        let end = reading::is_end(r.kind);
+    for _ in 0..u64::MAX {
+        let read = reader.next_line(buf);
+        let end = read.is_none();
+        let Line { text: line, long } = read.unwrap_or_default();
+        let entry = script::entry_of(line, long, numbers, lent);
         let over = end || script::ends(entry);
         p = next(p);
         m = run_call(stdout, m, p, over, head, notes, scrubber);
@@ -179,10 +184,6 @@ fn run(
         }
         m = act(stdout, m, entry, line, numbers, lent, scrubber);
         p = after(stdout, stderr, p, entry, line, head, notes);
-        if turns < 1 {
-            return;
-        }
-        turns -= 1;
     }
 }
 

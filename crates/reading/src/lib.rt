@@ -1,196 +1,126 @@
 // Lines of standard input, of any number and any length.
 #![tactic(auto)]
 
+ghost use Rattle.std.specs.Prelude.{◌≤◌, length};
+
+use output::Streams;
 use std::io::Read;
-use std::rt::{Stderr, Stdin};
 
-// What stands in the line's buffer: a line, the front of a line that is longer than the buffer, or nothing: the input has ended.
-#[derive(Clone, Copy)]
-pub enum Kind {
-    Line,
-    Long,
-    End,
-}
-
-pub fn is_long(kind: Kind) -> bool {
-    match kind {
-        Kind::Long => true,
-        _ => false,
-    }
-}
-
-pub fn is_end(kind: Kind) -> bool {
-    match kind {
-        Kind::End => true,
-        _ => false,
-    }
-}
-
-// Which bytes of the piece that was read last are left, and how many of the line's buffer are the line's.
-#[derive(Clone, Copy)]
-pub struct Reader {
-    pub at: usize,
-    pub have: usize,
-    pub len: usize,
-    pub kind: Kind,
-}
-
-// Before the first line.
-pub fn begin() -> Reader {
-    Reader {
-        at: 0,
-        have: 0,
-        len: 0,
-        kind: Kind::Line,
-    }
-}
-
-fn byte_at(s: &[u8], at: usize) -> u8 {
-    if at < s.len() { s[at] } else { 0 }
-}
-
-fn put_at(s: &mut [u8], at: usize, b: u8) {
-    if at < s.len() {
-        s[at] = b;
-    }
+// A line, or the front of one that is longer than the buffer.
+#[derive(Clone, Copy, Default)]
+pub struct Line<'a> {
+    pub text: &'a [u8],
+    pub long: bool,
 }
 
 // Whether the line so far ends in a space, or is empty.
-fn is_open(line: &[u8], len: usize) -> bool {
-    if len == 0 {
-        return true;
-    }
-    byte_at(line, len - 1) == b' '
+fn is_open(line: &[u8]) -> bool {
+    matches!(line, [] | [.., b' '])
 }
 
 // The line's length after one more byte: spaces that follow a space, or stand in front, are left out.
-fn longer(line: &mut [u8], len: usize, b: u8) -> usize {
-    if b == b' ' {
-        if is_open(line, len) {
-            return len;
-        }
+fn longer(line: &mut [u8], len: usize, b: u8) -> usize
+    requires { len ≤ length line.old }
+    ensures { result ≤ length line.new }
+{
+    if len == line.len() || b == b' ' && is_open(&line[..len]) {
+        return len;
     }
-    if len <= line.len() {
-        put_at(line, len, b);
-        if len < line.len() {
-            return len + 1;
-        }
-    }
-    len
+    line[len] = b;
+    len + 1
 }
 
 // The line's length without a carriage return at its end. Of a line that fills its buffer the end is not there.
-fn without_return(line: &[u8], len: usize) -> usize {
-    if len == 0 {
-        return 0;
-    }
-    if line.len() <= len {
-        return len;
-    }
-    if byte_at(line, len - 1) == b'\r' {
-        return len - 1;
-    }
-    len
-}
-
-// Which bytes of a piece are left.
-#[derive(Clone, Copy)]
-struct Place {
-    at: usize,
-    have: usize,
-}
-
-// A read that fails ends the input, and is told.
-fn told(stderr: Stderr) {
-    let _ = stderr.write_all(b"standard input can not be read\n");
-}
-
-// How many bytes of a piece were read.
-fn count(stdin: Stdin, stderr: Stderr, piece: &mut [u8]) -> usize {
-    let mut input = stdin;
-    match input.read(piece) {
-        Ok(n) => n,
-        Err(_) => {
-            told(stderr);
-            0
-        }
-    }
-}
-
-// Where the next byte stands; the next piece is read where none is left, and at the input's end there is none.
-fn fetched(stdin: Stdin, stderr: Stderr, at: usize, have: usize, piece: &mut [u8]) -> Place {
-    if at < have {
-        return Place { at: at, have: have };
-    }
-    Place {
-        at: 0,
-        have: count(stdin, stderr, piece),
+fn without_return(line: &[u8], len: usize) -> usize
+    requires { len ≤ length line.now }
+    ensures { result ≤ length line.now }
+{
+    match &line[..len] {
+        [front @ .., b'\r'] if len < line.len() => front.len(),
+        _ => len,
     }
 }
 
 // A line that fills its buffer is taken for one that is longer.
-fn ended(line: &[u8], at: usize, have: usize, len: usize) -> Reader {
-    if line.len() <= len {
-        return Reader {
-            at: at,
-            have: have,
-            len: len,
-            kind: Kind::Long,
+fn ended(line: &[u8], len: usize) -> Line<'_>
+    requires { len ≤ length line.now }
+{
+    if len == line.len() {
+        return Line {
+            text: line,
+            long: true,
         };
     }
-    let mut n = len;
-    if 0 < len {
-        if is_open(line, len) {
-            n = len - 1;
-        }
-    }
-    Reader {
-        at: at,
-        have: have,
-        len: n,
-        kind: Kind::Line,
+    let text = &line[..len];
+    Line {
+        text: text.strip_suffix(b" ").unwrap_or(text),
+        long: false,
     }
 }
 
-fn last(line: &[u8], len: usize) -> Reader {
-    if len == 0 {
-        return Reader {
+// Standard input, and which bytes of the piece that was read last are left.
+#[derive(Drop)]
+pub struct Reader<'a> {
+    streams: Streams,
+    piece: &'a mut [u8],
+    at: usize,
+    have: usize,
+}
+
+impl<'a> Reader<'a> {
+    // Before the first line.
+    pub fn new(streams: Streams, piece: &'a mut [u8]) -> Reader<'a> {
+        Reader {
+            streams,
+            piece,
             at: 0,
             have: 0,
-            len: 0,
-            kind: Kind::End,
-        };
+        }
     }
-    ended(line, 0, 0, len)
-}
 
-// The next line, without the spaces at its ends and with single spaces between its words, and without a carriage return before its
-// newline. No input has so many bytes that the turns run out.
-pub fn next_line(
-    stdin: Stdin,
-    stderr: Stderr,
-    r: Reader,
-    piece: &mut [u8],
-    line: &mut [u8],
-) -> Reader {
-    let mut at = r.at;
-    let mut have = r.have;
-    let mut len = 0;
-    let mut turns = u64::MAX;
-    while 0 < turns {
-        turns -= 1;
-        let p = fetched(stdin, stderr, at, have, piece);
-        at = p.at;
-        have = p.have;
-        if have <= at {
-            return last(line, len);
+    // How many bytes of the next piece were read. A read that fails ends the input, and is told.
+    fn fetched(&mut self) -> usize {
+        let mut input = self.streams.stdin;
+        match input.read(self.piece) {
+            Ok(n) => n,
+            Err(_) => {
+                self.streams.tell(b"standard input can not be read\n");
+                0
+            }
         }
-        let b = byte_at(piece, at);
-        at += 1;
-        if b == b'\n' {
-            return ended(line, at, have, without_return(line, len));
-        }
-        len = longer(line, len, b);
     }
-    last(line, len)
+
+    // The next byte; the next piece is read where none is left, and at the input's end there is none.
+    fn next_byte(&mut self) -> Option<u8> {
+        if self.have <= self.at {
+            self.have = self.fetched();
+            self.at = 0;
+        }
+        if self.have <= self.at {
+            return None;
+        }
+        let at = self.at;
+        self.at += 1;
+        self.piece.get(at).copied()
+    }
+
+    // The next line, without the spaces at its ends and with single spaces between its words, and without a carriage return before its
+    // newline; none at the input's end. No input has so many bytes that the turns run out.
+    pub fn next_line<'b>(&mut self, line: &'b mut [u8]) -> Option<Line<'b>> {
+        let mut len = 0;
+        for _ in 0..u64::MAX {
+            let Some(b) = self.next_byte() else {
+                if len == 0 {
+                    return None;
+                }
+                break;
+            };
+            if b == b'\n' {
+                len = without_return(line, len);
+                break;
+            }
+            len = longer(line, len, b);
+        }
+        Some(ended(line, len))
+    }
 }

@@ -3,7 +3,9 @@
 
 use items::Item;
 use judge::State;
+use output::Streams;
 use port::Step;
+use reading::{Line, Reader};
 use spoken::{Fault, Spoken};
 use std::rt::{Stderr, Stdin, Stdout};
 
@@ -29,15 +31,19 @@ fn run(
     numbers: &mut [u64; 24],
     counts: &mut [u64; 9],
 ) {
-    let mut r = reading::begin();
+    let streams = Streams {
+        stdin,
+        stdout,
+        stderr,
+    };
+    let mut reader = Reader::new(streams, piece);
     let mut s = judge::begin();
     let mut seen = classes::called(0, numbers);
     let mut call = driver::reset();
-    let mut turns = u64::MAX;
-    loop {
-        r = reading::next_line(stdin, stderr, r, piece, buf);
-        let long = reading::is_long(r.kind);
-        let line = text::front(buf, r.len);
+    for _ in 0..u64::MAX {
+        let read = reader.next_line(buf);
+        let ended = read.is_none();
+        let Line { text: line, long } = read.unwrap_or_default();
         let item = items::item_of(line, long, rx);
         let due = judge::is_due(s, item);
         let read = classes::read_of(seen);
@@ -49,10 +55,9 @@ fn run(
         seen = judge::seen_after(seen, item, heard, line, numbers, rx);
         let step = step_of(s, item, heard);
         call = port::moved(call, step, numbers, lent, s.lent, rx, s.got);
-        if reading::is_end(r.kind) || turns < 1 {
+        if ended {
             return;
         }
-        turns -= 1;
     }
 }
 

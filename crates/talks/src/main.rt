@@ -5,8 +5,9 @@
 #![tactic(auto)]
 
 use items::Item;
-use output::write_line;
+use output::{Streams, write_line};
 use port::Step;
+use reading::{Line, Reader};
 use spoken::{Fault, Spoken};
 use std::rt::{Stderr, Stdin, Stdout};
 
@@ -141,18 +142,18 @@ fn run(
     out: &mut [u8; 8192],
     numbers: &mut [u64; 24],
 ) {
-    let mut r = reading::begin();
+    let streams = Streams {
+        stdin,
+        stdout,
+        stderr,
+    };
+    let mut reader = Reader::new(streams, piece);
     let mut p = begin();
     let mut call = driver::reset();
-    let mut turns = u64::MAX;
-    loop {
-        r = reading::next_line(stdin, stderr, r, piece, buf);
-        let kind = r.kind;
-        if reading::is_end(kind) {
+    for _ in 0..u64::MAX {
+        let Some(Line { text: line, long }) = reader.next_line(buf) else {
             return;
-        }
-        let long = reading::is_long(kind);
-        let line = text::front(buf, r.len);
+        };
         let item = items::item_of(line, long, rx);
         let heard = judge::hear(item, line, long, numbers, lent);
         let got = got_of(item);
@@ -163,10 +164,6 @@ fn run(
         let n = port::line(call, is_step(step), p.read, lent, p.sent, rx, got, out);
         told(stdout, stderr, p, j, line);
         show(stdout, text::front(out, n));
-        if turns < 1 {
-            return;
-        }
-        turns -= 1;
     }
 }
 
