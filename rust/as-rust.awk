@@ -61,27 +61,27 @@ function core_names() {
     set_of(of_layout, "size_of size_of_val align_of align_of_val discriminant transmute type_name")
     set_of(core_module, "array error cmp convert fmt iter marker mem num ops option result slice")
     # of slices and arrays
-    set_of(method, "len is_empty get get_mut first first_mut last last_mut split_at split_at_mut split_first split_last iter iter_mut")
-    set_of(method, "split splitn starts_with ends_with strip_prefix strip_suffix contains copy_from_slice fill swap reverse")
-    set_of(method, "chunks chunks_exact chunks_exact_mut windows partition_point")
+    set_of(core_method, "len is_empty get get_mut first first_mut last last_mut split_at split_at_mut split_first split_last iter iter_mut")
+    set_of(core_method, "split splitn starts_with ends_with strip_prefix strip_suffix contains copy_from_slice fill swap reverse")
+    set_of(core_method, "chunks chunks_exact chunks_exact_mut windows partition_point")
     # of bool
-    set_of(method, "then then_some")
+    set_of(core_method, "then then_some")
     # of Option and Result
-    set_of(method, "is_some is_none is_some_and is_ok is_err is_ok_and is_err_and ok err ok_or ok_or_else map map_err map_or map_or_else")
-    set_of(method, "and_then or_else unwrap unwrap_or unwrap_or_else unwrap_or_default copied filter take replace as_ref as_mut xor")
+    set_of(core_method, "is_some is_none is_some_and is_ok is_err is_ok_and is_err_and ok err ok_or ok_or_else map map_err map_or")
+    set_of(core_method, "map_or_else and_then or_else unwrap unwrap_or unwrap_or_else unwrap_or_default copied filter take replace as_ref as_mut xor")
     # of iterators and ranges
-    set_of(method, "into_iter enumerate zip rev skip step_by chain take_while skip_while map_while filter_map any all position find")
-    set_of(method, "find_map")
-    set_of(method, "count sum product fold try_fold nth next next_back size_hint")
+    set_of(core_method, "into_iter enumerate zip rev skip step_by chain take_while skip_while map_while filter_map any all position find")
+    set_of(core_method, "find_map")
+    set_of(core_method, "count sum product fold try_fold nth next next_back size_hint")
     # of numbers
-    set_of(method, "min max clamp pow abs_diff div_ceil rem_euclid div_euclid is_power_of_two count_ones count_zeros leading_zeros")
-    set_of(method, "trailing_zeros rotate_left rotate_right swap_bytes reverse_bits to_le_bytes to_be_bytes")
-    set_of(method, "wrapping_add wrapping_sub wrapping_mul wrapping_neg wrapping_shl wrapping_shr checked_add checked_sub checked_mul")
-    set_of(method, "checked_div checked_rem checked_pow checked_shl checked_shr saturating_add saturating_sub saturating_mul")
-    set_of(method, "is_ascii_digit is_ascii_hexdigit is_ascii_lowercase is_ascii_uppercase is_ascii_alphabetic is_ascii_alphanumeric")
-    set_of(method, "is_ascii_whitespace is_ascii_graphic eq_ignore_ascii_case to_ascii_lowercase to_ascii_uppercase as_bytes")
+    set_of(core_method, "min max clamp pow abs_diff div_ceil rem_euclid div_euclid is_power_of_two count_ones count_zeros leading_zeros")
+    set_of(core_method, "trailing_zeros rotate_left rotate_right swap_bytes reverse_bits to_le_bytes to_be_bytes")
+    set_of(core_method, "wrapping_add wrapping_sub wrapping_mul wrapping_neg wrapping_shl wrapping_shr checked_add checked_sub checked_mul")
+    set_of(core_method, "checked_div checked_rem checked_pow checked_shl checked_shr saturating_add saturating_sub saturating_mul")
+    set_of(core_method, "is_ascii_digit is_ascii_hexdigit is_ascii_lowercase is_ascii_uppercase is_ascii_alphabetic is_ascii_alphanumeric")
+    set_of(core_method, "is_ascii_whitespace is_ascii_graphic eq_ignore_ascii_case to_ascii_lowercase to_ascii_uppercase as_bytes")
     # of traits
-    set_of(method, "eq ne lt le gt ge cmp partial_cmp then then_with is_eq is_ne is_lt is_le is_gt is_ge into try_into")
+    set_of(core_method, "eq ne lt le gt ge cmp partial_cmp then then_with is_eq is_ne is_lt is_le is_gt is_ge into try_into")
     # by a path: of a number of a fixed width, and of any
     set_of(of_fixed, "from try_from default from_le_bytes from_be_bytes min max abs_diff div_ceil is_power_of_two count_ones count_zeros")
     set_of(of_fixed, "leading_zeros trailing_zeros rotate_left rotate_right swap_bytes reverse_bits to_le_bytes to_be_bytes wrapping_add")
@@ -187,7 +187,8 @@ function ghostly(l, s,    i, c, rest) {
             if (in_ghost == "G" && rest ~ /^ = \{/) continue
             if (in_ghost == "G" && rest == "," || rest == ";") { }
             else if (in_ghost == "G" || rest != "") die(l, "something follows a contract on its line")
-            if (in_ghost == "G") add(rest == ";" ? "ghost member" : "ghost field", "G", l, 1)
+            if (in_model) { if (in_ghost != "G" || rest != ";") die(l, "it is not of a Model") }
+            else if (in_ghost == "G") add(rest == ";" ? "ghost member" : "ghost field", "G", l, 1)
             else {
                 add("contract", "C", l, 1)
                 if (rest == ";") {
@@ -334,7 +335,7 @@ function item(    start) {
     start = p
     if (is_kind("G")) { if (token[p] ~ /^ghost [mf]/) wanted("an item that is known"); p++; return }
     if (is("impl")) { implementation(); return }
-    if (is_kind("D")) p++
+    if (is_kind("D")) { is_ordered = (row[p], "Ord") in derived || (row[p], "PartialOrd") in derived; p++ }
     visibility()
     if (is("struct") || is("enum")) {
         if (!(p > 1 && kind[start] == "D" && place[start + 1] == 1)) wanted("a type at the beginning of its line, behind its derive")
@@ -520,7 +521,7 @@ function enumeration() {
         capital()
         if (is("(")) fields(")", 0)
         else if (is("{")) fields("}", 0)
-        else if (is("=")) { p++; literal() }
+        else if (is("=")) { if (is_ordered) wanted("no number beside an order, which Rust goes by then"); p++; literal() }
     }
     p++
 }
@@ -587,9 +588,10 @@ function arguments_of_types(    w) {
 }
 function is_integer() { return is_kind("W") && token[p] in integer }
 
+# A trait's method has no name of core's: at a type of core's Rust could take the one for the other.
 function procedure(of_type, declared,    lines) {
     take("fn")
-    small()
+    if (small() in core_method && declared) refused("a method of core's")
     if (is("<")) generics()
     for (take("("); !is(")"); comma(")")) parameter(of_type)
     p++
@@ -713,7 +715,7 @@ function parts(    w, long) {
     else if (is_small()) from(small())
     else if (is("None")) { p++; return }
     else if (is("Some") || is("Ok") || is("Err")) { p++; if (!is("(")) refused("a pattern by a name alone") }
-    else if ((w = capital()) in prelude && w != "Option" && w != "Result") refused("a name of Rust's")
+    else if ((w = capital()) in prelude && !((w == "Option" || w == "Result") && is("::"))) refused("a name of Rust's")
     for (; is("::"); long = 1) { p++; any_name() }
     if (is("(")) patterns(")")
     else if (is("{")) {
@@ -870,7 +872,7 @@ function behind(    w) {
             w = small()
             if (is("::")) { p++; arguments_of_types(); if (!is("(")) wanted("(") }
             if (is("(")) {
-                if (!(w in method)) refused("neither a crate nor core has this method")
+                if (!(w in method) && !(w in core_method)) refused("neither a crate nor core has this method")
                 if (w ~ /^get(_mut)?$/) parted(); else arguments()
             }
         }

@@ -1,6 +1,7 @@
 # Holds rust/widths.txt, the first file, against the package's proved modules, the others: every function that computes or casts is listed
 # with each line of it that does, and every line has its reason. It knows no types: a line computes where its code has one of the signs
-# + - * / % << >> ! (-> => and comparisons are none of them) or the word `as`. What is not as listed is told, and ends it with 1.
+# + - * / % << >> ! (-> => comparisons, the + of bounds and the ! of macros are none of them), the word `as`, or a call of core's that gives
+# another answer at another width. What is not as listed is told, and ends it with 1.
 #
 # A function's number is made of its text, contracts with it and comments without; that of a file's declarations, of all lines outside
 # of bodies that say usize. Where neither is another, no line has become one that computes with a usize.
@@ -53,19 +54,24 @@ FNR == 1 {
 {
     code = $0
     contract = sub(/^\/\/@ /, "", code)
+    if (!contract && code ~ /^\/\*@ .* \*\/;$/) {
+        contract = 1
+        code = substr(code, 4, length(code) - 7) ";"
+    }
     if (!contract) sub(/\/\/.*/, "", code)
+    gsub(/\/\*@[^*]*\*\//, "", code)
     code = trimmed(code)
-    if (code == "" || code ~ /^ghost use / || contract && code ~ /^#!?\[tactic\(/) next
-    if (!contract && code ~ /["']/) told(FILENAME ":" FNR, "a string or a byte, in which a sign may hide")
+    if (code == "" || code ~ /^ghost use / || contract && (name == "" || code ~ /^#!?\[tactic\(/)) next
+    if (!contract && has_quote(code)) told(FILENAME ":" FNR, "a string or a byte, in which a sign may hide")
     if (name == "") outside()
     if (!body && !contract && code ~ /(^|[^A-Za-z0-9_])usize([^A-Za-z0-9_]|$)/) declarations = declarations code "\n"
     if (name == "") {
-        if (computes(code)) told(FILENAME ":" FNR, "it computes outside of functions and constants: " code)
+        if (computes(unbound(code))) told(FILENAME ":" FNR, "it computes outside of functions and constants: " code)
         next
     }
     text = text code "\n"
-    if (!contract && computes(code)) found[++count] = code
-    if (is_function ? $0 == indent "}" || code ~ /^(pub )?fn .*\{.*\}$/ : code ~ /;$/) {
+    if (!contract && computes(body || !is_function ? code : unbound(code))) found[++count] = code
+    if (is_function ? $0 == indent "}" || code ~ /^(pub(\([^()]*\))? )?fn .*\{.*\}$/ || !body && code ~ /;$/ : code ~ /;$/) {
         if (count) ended(name, number_of(text))
         name = ""
     } else if (code ~ /\{$/) body = 1
@@ -75,9 +81,9 @@ FNR == 1 {
 function outside(    part) {
     body = count = 0
     text = ""
-    if (code ~ /^impl /) { split(code, part, " "); type = part[2] "::" }
+    if (code ~ /^(pub(\([^()]*\))? )?(impl|trait)[ <]/) type = type_of(code) "::"
     if ($0 ~ /^}/) type = ""
-    if (!match(code, /^(pub )?(fn|const) [A-Za-z0-9_]+/)) return
+    if (!match(code, /^(pub(\([^()]*\))? )?(fn|const) [A-Za-z0-9_]+/)) return
     name = substr(code, 1, RLENGTH)
     is_function = name ~ /fn /
     sub(/.* /, "", name)
@@ -86,9 +92,32 @@ function outside(    part) {
     indent = substr($0, 1, RLENGTH)
 }
 
+# Of `impl A<B> for C<D> {` this is C.A, of `impl C<D> {` and `trait C<D>: E {` it is C.
+function type_of(s,    part) {
+    while (gsub(/<[^<>]*>/, "", s)) ;
+    gsub(/[{:]/, " ", s)
+    sub(/^.*(impl|trait) +/, "", s)
+    split(s, part, " ")
+    return part[2] == "for" ? part[3] "." part[1] : part[1]
+}
+# Of a line with types, whose `+` and `>>` are no computation: without these up to where a body begins.
+function unbound(s,    head) {
+    match(s, /^[^{]*/)
+    head = substr(s, 1, RLENGTH)
+    s = substr(s, RLENGTH + 1)
+    gsub(/ \+ ['A-Z]/, " ", head)
+    gsub(/>>/, "> >", head)
+    return head s
+}
+# A quote, but for a lifetime's.
+function has_quote(s) { gsub(/[&<(, ]'[a-z_]+/, " ", s); return s ~ /["']/ }
+
 function computes(s) {
     if (s ~ /<<|>>/) return 1
     gsub(/->|=>|!=|<=|>=|==/, " ", s)
+    gsub(/(matches|unreachable)!/, "", s)
+    if (s ~ /[.:](sum|product|pow|abs_diff|div_ceil|(rem|div)_euclid|(count|leading)_zeros|rotate_(left|right)|reverse_bits)[(:)]/) return 1
+    if (s ~ /(wrapping|checked|saturating)_(add|sub|mul|div|rem|neg|pow|shl|shr)|try_from|try_into|[.]trailing_zeros/) return 1
     return s ~ /[+*\/%!-]/ || s ~ /(^|[^A-Za-z0-9_])as([^A-Za-z0-9_]|$)/
 }
 
