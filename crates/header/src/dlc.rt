@@ -13,6 +13,7 @@ fn count(fdf: bool) -> usize
 }
 
 // In a frame to send.
+#[tactic(auto, unfolding(crate::specs::Dlc::length_of))]
 pub fn len_for_dlc(dlc: usize, fdf: bool) -> Option<usize>
     ensures { result ≡ length_of fdf dlc }
 {
@@ -55,6 +56,7 @@ fn fd_dlc(len: usize) -> Option<usize>
     }
 }
 
+#[tactic(auto, using(crate::proofs::Search::early, crate::proofs::Search::classic))]
 pub fn dlc_for_len(len: usize, fdf: bool) -> Option<usize>
     ensures { result ≡ dlc_of fdf len }
 {

@@ -35,6 +35,7 @@ pub fn eid_of(extended: bool, id: u32) -> u32
     if extended { id % 0x4_0000 } else { 0 }
 }
 
+#[tactic(auto, unfolding(crate::specs::Header::word0))]
 pub fn first_word(h: Header) -> u32
     requires { h.id ≤ top_id h.extended }
     ensures { result ≡ word0 h }
@@ -57,6 +58,7 @@ fn kind_word(h: Header, dlc: u32) -> u32
 }
 
 // Of an object to send.
+#[tactic(auto, unfolding(crate::specs::Header::word1))]
 pub fn second_word(h: Header, seq: u32, dlc: u32) -> u32
     requires { Fits DLC dlc × Fits SEQ seq }
     ensures { result ≡ word1 h seq dlc }
@@ -65,6 +67,7 @@ pub fn second_word(h: Header, seq: u32, dlc: u32) -> u32
 }
 
 // Of an object received: FILHIT has the number of the filter that took it.
+#[tactic(auto, unfolding(crate::specs::Header::received1))]
 pub fn received_word(h: Header, dlc: u32, hit: u32) -> u32
     requires { Fits DLC dlc × Fits FILHIT hit }
     ensures { result ≡ received1 h dlc hit }
@@ -84,6 +87,7 @@ fn identifier(extended: bool, w: u32) -> u32
 }
 
 // The header that two words hold: reserved bits, and EID in a standard frame, are ignored.
+#[tactic(auto, unfolding(crate::specs::Header::header_of))]
 pub fn header_of(a: u32, b: u32) -> Header
     ensures { result ≡ header_of a b }
 {

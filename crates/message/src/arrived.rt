@@ -28,6 +28,7 @@ pub fn check_arrival(h: Header, dlc: u32, n: usize) -> Result<(), Refusal>
 }
 
 // The object of a frame that a filter took, into lent bytes; its length. What a frame must be like `check_arrival` says before.
+#[tactic(auto, unfolding(crate::specs::Message::arriving))]
 pub fn arrive(
     header: Header,
     dlc: u32,

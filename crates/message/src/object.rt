@@ -5,6 +5,7 @@ ghost use Rattle.message.specs.Object.{stamp_bytes, object_bytes};
 ghost use Rattle.message.specs.Structs.{object_in};
 
 // No object.
+#[tactic(auto, unfolding(parts::specs::Parts::zeroed))]
 pub fn clear(body: &mut [u8; 76])
     ensures { body.new ≡ zeroed 76 [] }
 {
@@ -28,6 +29,7 @@ fn put_stamp(stamp: Option<u32>, body: &mut [u8; 76]) -> usize
 }
 
 // The object's bytes, and its length. The zeros behind the payload are there already.
+#[tactic(auto, using(crate::proofs::Round::object_length, crate::proofs::Objects::laid))]
 pub fn put_object(a: u32, b: u32, stamp: Option<u32>, p: &[u8], body: &mut [u8; 76]) -> usize
     requires { length p.now ≤ 64 }
     ensures { record { bytes = body.new; len = result } ≡ object_in (object_bytes a b stamp p.now) }

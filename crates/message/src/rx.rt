@@ -94,6 +94,7 @@ fn frame_in(sending: bool, stamped: bool, start: usize, n: usize, b: &[u8]) -> F
     }
 }
 
+#[tactic(auto, unfolding(crate::specs::Message::length_in))]
 fn length_in(sending: bool, w: u32) -> Option<usize>
     ensures { result ≡ length_in sending (flag FDF w) (read DLC w) }
 {

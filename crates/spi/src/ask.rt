@@ -45,6 +45,7 @@ pub struct Exchange {
 }
 
 // A command alone in the head.
+#[tactic(auto, unfolding(parts::specs::Parts::zeroed, crate::specs::Instruction::command_of, words::specs::Words::be_bytes))]
 fn command_head(op: OpCode, address: u16) -> [u8; 6]
     ensures { result ≡ zeroed 6 (command_of op address) }
 {
@@ -53,6 +54,7 @@ fn command_head(op: OpCode, address: u16) -> [u8; 6]
 }
 
 // A command and the number of data bytes in the head.
+#[tactic(auto, unfolding(parts::specs::Parts::zeroed, crate::specs::Instruction::command_of, words::specs::Words::be_bytes))]
 fn checked_head(address: u16) -> [u8; 6]
     ensures { result ≡ zeroed 6 (head_of (Ask.Checked address)) }
 {
@@ -60,6 +62,7 @@ fn checked_head(address: u16) -> [u8; 6]
     [c[0], c[1], c[2], 0, 0, 0]
 }
 
+#[tactic(auto, unfolding(crate::specs::Ask::exchange_of, parts::specs::Parts::zeroed))]
 fn idle() -> Exchange
     ensures { result ≡ exchange_of Ask.Wait }
 {

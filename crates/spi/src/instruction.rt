@@ -27,6 +27,7 @@ fn code(op: OpCode) -> u16
 }
 
 // The address keeps its 12 low bits: no call has more.
+#[tactic(auto, unfolding(crate::specs::Instruction::command_of))]
 pub fn command(op: OpCode, address: u16) -> [u8; 2]
     ensures { result ≡ command_of op address }
 {
@@ -34,6 +35,7 @@ pub fn command(op: OpCode, address: u16) -> [u8; 2]
 }
 
 // What writes a word to a register.
+#[tactic(auto, unfolding(crate::specs::Instruction::command_of, words::specs::Words::be_bytes, words::specs::Words::le_bytes))]
 pub fn write_word(address: u16, word: u32) -> [u8; 6]
     ensures { result ≡ command_of Write address ++ le_bytes word }
 {
@@ -43,6 +45,7 @@ pub fn write_word(address: u16, word: u32) -> [u8; 6]
 }
 
 // What asks for a word and its CRC: the number of data bytes follows the command.
+#[tactic(auto, unfolding(crate::specs::Instruction::command_of, words::specs::Words::be_bytes))]
 pub fn checked_read(address: u16) -> [u8; 3]
     ensures { result ≡ command_of ReadCrc address ++ (4 ∷ []) }
 {

@@ -11,6 +11,7 @@ const RAM_START: usize = 0x400;
 const RAM_END: usize = 0xC00;
 
 // An address or a length above the RAM's end is told first, so the sum cannot wrap, of however many bits a usize is.
+#[tactic(auto, unfolding(crate::specs::Ram::in_range))]
 pub fn in_range(address: u32, n: usize) -> bool
     ensures { result ≡ in_range address n }
 {
@@ -27,6 +28,7 @@ pub fn in_range(address: u32, n: usize) -> bool
     a + n <= RAM_END
 }
 
+#[tactic(auto, unfolding(crate::specs::Ram::access_of))]
 fn access(address: u32, n: usize, bad: Refusal) -> Result<(), Refusal>
     ensures { result ≡ access_of address n bad }
 {
