@@ -1,7 +1,7 @@
 -- The push call in the code's numbers: a stage, and beside it what was read.
 -- Assumes nothing.
 use Rattle.spi.specs.declared.refusal.Refusal.{Refusal}
-use Rattle.std.specs.Prelude.{ℕ, ◌≡◌, List, Result}
+use Rattle.std.specs.Prelude.{ℕ, ◌≡◌, List, Result, Ok, Err}
 use Rattle.message.specs.Structs.{encoded_in}
 use Rattle.spi.specs.declared.ask.Answer.{Answer}
 use Rattle.tx_fifo.specs.Push.{Push}
@@ -24,10 +24,6 @@ stage_at PushStage.BareControl c = PushAt.BareControl
 stage_at PushStage.Done c = PushAt.Done
 stage_at PushStage.Refused c = PushAt.Refused c.why
 
--- where it stands at a stage with this RAM address
-abbrev pub ram_at : PushStage → PushNumbers → ℕ → PushAt
-ram_at stage c m = stage_at stage (record { stage = stage; fifo = c.fifo; size = c.size; len = c.len; w = c.w; m = m; why = c.why })
-
 abbrev pub push_at : PushNumbers → PushAt
 push_at c = stage_at c.stage c
 
@@ -43,9 +39,15 @@ push_of c body = standing c (push_at c) body
 abbrev pub PushBegins : (fifo size : ℕ) → PushStage → Result ℕ Refusal → PushNumbers → Type 0
 PushBegins fifo size first e r = (body : List ℕ) → push_of r body ≡ begun fifo size (stage_at first r) (encoded_in e body)
 
--- r is the call c at another place, whatever its body
-abbrev pub PushMoves : PushNumbers → PushAt → PushNumbers → Type 0
-PushMoves c at r = (body : List ℕ) → push_of r body ≡ standing c at body
+-- r is a stage, where the call comes to `to`, and otherwise what it is refused for
+abbrev pub Passes : Result PushStage Refusal → PushStage → (at to : PushAt) → Type 0
+Passes (Ok s) stage at to = (s ≡ stage) × (at ≡ to)
+Passes (Err why) stage at to = at ≡ PushAt.Refused why
+
+-- the numbers that a call goes on with, or c refused
+abbrev pub settled : PushNumbers → Result PushNumbers Refusal → PushNumbers
+settled c (Ok r) = r
+settled c (Err why) = record c { stage = PushStage.Refused; why = why }
 
 -- r is the call c after an answer, whatever its body
 abbrev pub PushSteps : PushNumbers → Answer → List ℕ → PushNumbers → Type 0

@@ -1,13 +1,13 @@
 // The push calls: control, status and user address are read, the object is written to RAM, and control is written back as first
 // read with UINC. To the transmit queue, which is FIFO 0, CiCON is read before them. An unchecked push to it reads the user address
 // alone, and control behind the RAM write.
-ghost use Rattle.std.specs.Prelude.{◌≡◌, []};
+ghost use Rattle.std.specs.Prelude.{◌≡◌, ℕ, []};
 ghost use Rattle.message.specs.Structs.{encoded_as, encoded_in};
 ghost use Rattle.spi.specs.declared.ask.Ask.{Ask};
-ghost use Rattle.spi.specs.Talk.{on_word};
+ghost use Rattle.spi.specs.Talk.{on_word, on_done};
 ghost use Rattle.tx_fifo.specs.PushAt.{PushAt};
-ghost use Rattle.tx_fifo.specs.Step.{encoding_for, start_of, queue_start_at, queue_start, queue_unchecked_start, after_enabled, sends, after_control, after_status, after_address, ask_of, outcome_of, is_done};
-ghost use Rattle.tx_fifo.specs.Numbers.{stage_at, ram_at, push_of, PushBegins, PushMoves, PushSteps};
+ghost use Rattle.tx_fifo.specs.Step.{encoding_for, start_of, queue_start_at, queue_start, queue_unchecked_start, after_enabled, after_control, after_status, after_address, ask_of, outcome_of, is_done};
+ghost use Rattle.tx_fifo.specs.Numbers.{stage_at, push_of, settled, Passes, PushBegins, PushSteps};
 
 use call::Outcome;
 use configuration::CanControl;
@@ -48,6 +48,7 @@ pub struct PushNumbers {
 }
 
 // The object into the body. 20 comes before what the message is refused for.
+#[tactic(auto, unfolding(crate::specs::Step::encoding_for))]
 fn encoded_for(
     fifo: u8,
     header: Header,
@@ -74,16 +75,17 @@ fn begun(fifo: u8, size: usize, first: PushStage, e: Result<usize, Refusal>) -> 
         Err(r) => (PushStage::Refused, 0, r),
     };
     PushNumbers {
-        stage: stage,
-        fifo: fifo,
-        size: size,
-        len: len,
+        stage,
+        fifo,
+        size,
+        len,
         w: 0,
         m: 0,
-        why: why,
+        why,
     }
 }
 
+#[tactic(auto, unfolding(crate::specs::Step::start_of))]
 pub fn push_start(
     fifo: u8,
     header: Header,
@@ -99,6 +101,7 @@ pub fn push_start(
 }
 
 // To the queue; its number is made here alone.
+#[tactic(auto, unfolding(crate::specs::Step::queue_start_at))]
 fn queue_begun(
     first: PushStage,
     header: Header,
@@ -136,189 +139,122 @@ pub fn queue_unchecked_start(
     queue_begun(PushStage::BareAddress, header, seq, payload, body)
 }
 
-// The call at another stage.
-fn moved(c: PushNumbers, stage: PushStage, w: u32, m: u16) -> PushNumbers
-    ensures { result ≡ record { stage = stage; fifo = c.fifo; size = c.size; len = c.len; w = w; m = m; why = c.why } }
-{
-    let why = c.why;
-    PushNumbers {
-        stage: stage,
-        fifo: c.fifo,
-        size: c.size,
-        len: c.len,
-        w: w,
-        m: m,
-        why: why,
-    }
-}
-
-fn refused(c: PushNumbers, why: Refusal) -> PushNumbers
-    ensures { PushMoves c (PushAt.Refused why) result }
-{
-    PushNumbers {
-        stage: PushStage::Refused,
-        fifo: c.fifo,
-        size: c.size,
-        len: c.len,
-        w: c.w,
-        m: c.m,
-        why: why,
-    }
-}
-
 #[tactic(auto, unfolding(crate::specs::Step::after_enabled))]
-fn on_enabled(c: PushNumbers, reply: Result<u32, Refusal>) -> PushNumbers
-    ensures { PushMoves c (on_word PushAt.Refused reply after_enabled) result }
+fn after_enabled(w: u32) -> Result<PushStage, Refusal>
+    ensures { Passes result PushStage.Control (after_enabled w) PushAt.Control }
 {
-    match reply {
-        Ok(w) => {
-            if CanControl(w).txqen() {
-                moved(c, PushStage::Control, 0, 0)
-            } else {
-                refused(c, Refusal::TxQueueDisabled)
-            }
-        }
-        Err(r) => refused(c, r),
-    }
-}
-
-// The queue always sends.
-fn sends(fifo: u8, w: u32) -> bool
-    ensures { result ≡ sends fifo w }
-{
-    if fifo == 0 {
-        true
+    if CanControl(w).txqen() {
+        Ok(PushStage::Control)
     } else {
-        FifoControl(w).txen()
+        Err(Refusal::TxQueueDisabled)
     }
 }
 
+// The queue, FIFO 0, always sends.
 #[tactic(auto, unfolding(crate::specs::Step::after_control))]
-fn on_control(c: PushNumbers, reply: Result<u32, Refusal>) -> PushNumbers
-    ensures { PushMoves c (on_word PushAt.Refused reply (after_control c.fifo c.size)) result }
+fn after_control(fifo: u8, size: usize, w: u32) -> Result<PushStage, Refusal>
+    ensures { Passes result PushStage.Status (after_control fifo size w) (PushAt.Status w) }
 {
-    match reply {
-        Ok(w) => {
-            if sends(c.fifo, w) {
-                if FifoControl(w).payload_size() < c.size {
-                    refused(c, Refusal::FifoTooSmall)
-                } else {
-                    moved(c, PushStage::Status, w, 0)
-                }
-            } else {
-                refused(c, Refusal::FifoNotTx)
-            }
-        }
-        Err(r) => refused(c, r),
+    if !(fifo == 0 || FifoControl(w).txen()) {
+        return Err(Refusal::FifoNotTx);
     }
+    if FifoControl(w).payload_size() < size {
+        return Err(Refusal::FifoTooSmall);
+    }
+    Ok(PushStage::Status)
 }
 
 #[tactic(auto, unfolding(crate::specs::Step::after_status))]
-fn on_status(c: PushNumbers, reply: Result<u32, Refusal>) -> PushNumbers
-    ensures { PushMoves c (on_word PushAt.Refused reply (after_status c.w)) result }
+fn after_status(v: u32) -> Result<PushStage, Refusal>
+    ensures { (w : ℕ) → Passes result PushStage.Address (after_status w v) (PushAt.Address w) }
 {
-    match reply {
-        Ok(v) => {
-            if FifoStatus(v).tfnrfnif() {
-                moved(c, PushStage::Address, c.w, 0)
-            } else {
-                refused(c, Refusal::FifoFull)
-            }
-        }
-        Err(r) => refused(c, r),
+    if FifoStatus(v).tfnrfnif() {
+        Ok(PushStage::Address)
+    } else {
+        Err(Refusal::FifoFull)
     }
 }
 
-// Up to 0xFBFF the sum fits an address of 16 bits. `stage` is that of the RAM write.
-fn after_address(c: PushNumbers, stage: PushStage, u: u32) -> PushNumbers
-    ensures { PushMoves c (after_address c.len (ram_at stage c) u) result }
+// The RAM address for the user address u. Up to 0xFBFF the sum fits an address of 16 bits.
+#[tactic(auto, unfolding(crate::specs::Step::after_address))]
+fn ram_address(len: usize, u: u32) -> Result<u16, Refusal>
+    ensures { (to : ℕ → PushAt) → on_word PushAt.Refused result to ≡ after_address len to u }
 {
     if 0xFBFF < u {
-        return refused(c, Refusal::BadUserAddress);
+        return Err(Refusal::BadUserAddress);
     }
     let a = u + 0x400;
-    if in_range(a, c.len) {
-        moved(c, stage, c.w, a as u16)
-    } else {
-        refused(c, Refusal::InvalidRamAddress(a))
+    if !in_range(a, len) {
+        return Err(Refusal::InvalidRamAddress(a));
     }
+    Ok(a as u16)
 }
 
-fn on_address(c: PushNumbers, stage: PushStage, reply: Result<u32, Refusal>) -> PushNumbers
-    ensures { PushMoves c (on_word PushAt.Refused reply (after_address c.len (ram_at stage c))) result }
-{
-    match reply {
-        Ok(u) => after_address(c, stage, u),
-        Err(r) => refused(c, r),
-    }
-}
-
-// Control of an unchecked push: nothing is tested.
-fn on_bare_control(c: PushNumbers, reply: Result<u32, Refusal>) -> PushNumbers
-    ensures { PushMoves c (on_word PushAt.Refused reply PushAt.Commit) result }
-{
-    match reply {
-        Ok(w) => moved(c, PushStage::Commit, w, 0),
-        Err(r) => refused(c, r),
-    }
-}
-
+// The call after an answer, or what it is refused for.
 #[tactic(auto, unfolding(crate::specs::Step::step_of))]
+fn advanced(c: PushNumbers, answer: Answer, rx: &[u8]) -> Result<PushNumbers, Refusal>
+    ensures { PushSteps c answer rx.now (settled c result) }
+{
+    let word = word_reply(Refusal::SpiRead, answer, rx);
+    let in_ram = done_reply(Refusal::SpiWrite, answer, rx.len(), 0);
+    let written = done_reply(Refusal::SpiRead, answer, rx.len(), 0);
+    let mut next = c;
+    next.stage = match c.stage {
+        PushStage::Enabled => after_enabled(word?)?,
+        PushStage::Control => {
+            next.w = word?;
+            after_control(c.fifo, c.size, next.w)?
+        }
+        PushStage::Status => after_status(word?)?,
+        PushStage::Address => {
+            next.m = ram_address(c.len, word?)?;
+            PushStage::Write
+        }
+        PushStage::Write => in_ram.map(|_| PushStage::Commit)?,
+        PushStage::Commit => written.map(|_| PushStage::Done)?,
+        PushStage::BareAddress => {
+            next.m = ram_address(c.len, word?)?;
+            PushStage::BareWrite
+        }
+        PushStage::BareWrite => in_ram.map(|_| PushStage::BareControl)?,
+        PushStage::BareControl => {
+            next.w = word?;
+            PushStage::Commit
+        }
+        PushStage::Done | PushStage::Refused => return Err(Refusal::WrongAnswer),
+    };
+    Ok(next)
+}
+
 pub fn push_step(c: PushNumbers, answer: Answer, rx: &[u8]) -> PushNumbers
     ensures { PushSteps c answer rx.now result }
 {
-    let stage = c.stage;
-    match stage {
-        PushStage::Enabled => on_enabled(c, word_reply(Refusal::SpiRead, answer, rx)),
-        PushStage::Control => on_control(c, word_reply(Refusal::SpiRead, answer, rx)),
-        PushStage::Status => on_status(c, word_reply(Refusal::SpiRead, answer, rx)),
-        PushStage::Address => on_address(
-            c,
-            PushStage::Write,
-            word_reply(Refusal::SpiRead, answer, rx),
-        ),
-        PushStage::Write => match done_reply(Refusal::SpiWrite, answer, rx.len(), 0) {
-            Ok(()) => moved(c, PushStage::Commit, c.w, 0),
-            Err(r) => refused(c, r),
+    match advanced(c, answer, rx) {
+        Ok(next) => next,
+        Err(why) => PushNumbers {
+            stage: PushStage::Refused,
+            why,
+            ..c
         },
-        PushStage::Commit => match done_reply(Refusal::SpiRead, answer, rx.len(), 0) {
-            Ok(()) => moved(c, PushStage::Done, c.w, 0),
-            Err(r) => refused(c, r),
-        },
-        PushStage::BareAddress => on_address(
-            c,
-            PushStage::BareWrite,
-            word_reply(Refusal::SpiRead, answer, rx),
-        ),
-        PushStage::BareWrite => match done_reply(Refusal::SpiWrite, answer, rx.len(), 0) {
-            Ok(()) => moved(c, PushStage::BareControl, 0, 0),
-            Err(r) => refused(c, r),
-        },
-        PushStage::BareControl => on_bare_control(c, word_reply(Refusal::SpiRead, answer, rx)),
-        PushStage::Done => refused(c, Refusal::WrongAnswer),
-        PushStage::Refused => refused(c, Refusal::WrongAnswer),
     }
 }
 
 fn read_word(address: u16) -> Ask
     ensures { result ≡ Ask.Read address 4 }
 {
-    Ask::Read {
-        address: address,
-        count: 4,
-    }
+    Ask::Read { address, count: 4 }
 }
 
+#[tactic(auto, unfolding(crate::specs::Step::ask_of))]
 pub fn push_ask(c: PushNumbers) -> Ask
     ensures { result ≡ ask_of (push_of c []) }
 {
-    let stage = c.stage;
-    match stage {
+    match c.stage {
         PushStage::Enabled => read_word(CanControl::address()),
-        PushStage::Control => read_word(FifoControl::address(c.fifo)),
+        PushStage::Control | PushStage::BareControl => read_word(FifoControl::address(c.fifo)),
         PushStage::Status => read_word(FifoStatus::address(c.fifo)),
-        PushStage::Address => read_word(UserAddress::address(c.fifo)),
-        PushStage::Write => Ask::Body {
+        PushStage::Address | PushStage::BareAddress => read_word(UserAddress::address(c.fifo)),
+        PushStage::Write | PushStage::BareWrite => Ask::Body {
             address: c.m,
             count: c.len,
         },
@@ -326,52 +262,23 @@ pub fn push_ask(c: PushNumbers) -> Ask
             address: FifoControl::address(c.fifo),
             word: FifoControl(c.w).with_uinc(true).0,
         },
-        PushStage::BareAddress => read_word(UserAddress::address(c.fifo)),
-        PushStage::BareWrite => Ask::Body {
-            address: c.m,
-            count: c.len,
-        },
-        PushStage::BareControl => read_word(FifoControl::address(c.fifo)),
-        PushStage::Done => Ask::Nothing,
-        PushStage::Refused => Ask::Nothing,
+        PushStage::Done | PushStage::Refused => Ask::Nothing,
     }
 }
 
+#[tactic(auto, unfolding(crate::specs::Step::outcome_of))]
 pub fn push_outcome(c: PushNumbers) -> Outcome
     ensures { result ≡ outcome_of (push_of c []) }
 {
-    let stage = c.stage;
-    let why = c.why;
-    match stage {
-        PushStage::Enabled => Outcome::Running,
-        PushStage::Control => Outcome::Running,
-        PushStage::Status => Outcome::Running,
-        PushStage::Address => Outcome::Running,
-        PushStage::Write => Outcome::Running,
-        PushStage::Commit => Outcome::Running,
-        PushStage::BareAddress => Outcome::Running,
-        PushStage::BareWrite => Outcome::Running,
-        PushStage::BareControl => Outcome::Running,
+    match c.stage {
         PushStage::Done => Outcome::Done,
-        PushStage::Refused => Outcome::Refused(why),
+        PushStage::Refused => Outcome::Refused(c.why),
+        _ => Outcome::Running,
     }
 }
 
 pub fn push_done(c: PushNumbers) -> bool
     ensures { result ≡ is_done (push_of c []) }
 {
-    let stage = c.stage;
-    match stage {
-        PushStage::Enabled => false,
-        PushStage::Control => false,
-        PushStage::Status => false,
-        PushStage::Address => false,
-        PushStage::Write => false,
-        PushStage::Commit => false,
-        PushStage::BareAddress => false,
-        PushStage::BareWrite => false,
-        PushStage::BareControl => false,
-        PushStage::Done => true,
-        PushStage::Refused => false,
-    }
+    matches!(c.stage, PushStage::Done)
 }
