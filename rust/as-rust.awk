@@ -701,7 +701,11 @@ function one_pattern() {
 }
 # Of the parts of a tuple, a variant or a slice; `..` stands for any.
 function patterns(end) {
-    for (p++; !is(end); comma(end)) { if (is("..")) p++; else pattern() }
+    for (p++; !is(end); comma(end)) {
+        if (end == "]" && is_small() && token[p + 1] == "@" && token[p + 2] == "..") p += 3
+        else if (is("..")) p++
+        else pattern()
+    }
     p++
 }
 function literal() {
