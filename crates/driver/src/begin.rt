@@ -22,6 +22,7 @@ use fetch::FetchNumbers;
 use header::Header;
 use ram::RamNumbers;
 use register::RegisterNumbers;
+use spi::Refusal;
 use tx_fifo::PushNumbers;
 use watch::{Begun, Scrubber, Watch};
 
@@ -304,11 +305,11 @@ pub fn get(fifo: u32, room: usize) -> Call
     of_fetch(p, body)
 }
 
-fn scrub_from(b: Begun, rewrite: bool) -> Call
-    ensures { call_of result ≡ of_scrub (begins b rewrite) }
+fn scrub_from(place: usize, b: Result<Begun, Refusal>, rewrite: bool) -> Call
+    ensures { call_of result ≡ of_scrub (begins place b rewrite) }
 {
     Call {
-        numbers: with_scrub(idle(), scrub::scrub_begin(b, rewrite)),
+        numbers: with_scrub(idle(), scrub::scrub_begin(place, b, rewrite)),
         body: [0u8; 76],
     }
 }
@@ -318,6 +319,5 @@ fn scrub_from(b: Begun, rewrite: bool) -> Call
 pub fn scrub(s: Scrubber, list: &[Watch], rewrite: bool) -> Call
     ensures { call_of result ≡ started (Scrub s.place list.now rewrite) }
 {
-    let b = watch::scrub_start(s, list);
-    scrub_from(b, rewrite)
+    scrub_from(s.place, watch::scrub_start(s, list), rewrite)
 }

@@ -7,6 +7,7 @@ use mathlib.Core.Bool.{Bool, true, false, true≢false}
 use mathlib.Core.List.{List, [], ◌∷◌}
 use lib.Dec.{ltb}
 use lib.ListN.{length}
+use Rattle.std.specs.Prelude.{Result, Ok, Err}
 use Rattle.laws.proofs.Choice.{by_if}
 use Rattle.spi.specs.declared.refusal.Refusal.{Refusal}
 use Rattle.spi.specs.declared.ask.Ask.{Ask}
@@ -27,7 +28,7 @@ use Rattle.tx_fifo.specs.Step as push
 use Rattle.transmit.specs.Transmit.{transmit_outcome}
 use Rattle.fetch.specs.FetchAt.{FetchAt}
 use Rattle.rx_fifo.specs.Outcome as found
-use Rattle.watch.specs.declared.Due.{Due}
+use Rattle.watch.specs.declared.Begun.{Begun}
 use Rattle.watch.specs.Watch.{start_of}
 use Rattle.scrub.specs.Scrub.{Scrub, ScrubAt}
 use Rattle.scrub.specs.Step as scrub
@@ -239,17 +240,18 @@ addressed_none : (a : ℕ) (r : RegisterCall) → seen_in r ≡ 0 → seen_in (r
 unfolding register.addressed
 addressed_none a r e = by_if (λ x. seen_in x ≡ 0) (ltb a (2 ^ 12)) (λ t. e) (λ t. refl)
 
-due_none : (d : Due) → count_in (scrub.due_at d) ≡ 0
-due_none Due.Visit = refl
-due_none (Due.Refused r) = refl
+begun_none : (p : ℕ) (b : Result Begun Refusal) (rewrite : Bool) → count_in (scrub.begins p b rewrite).at ≡ 0
+unfolding scrub.begins
+begun_none p (Ok b) rewrite = refl
+begun_none p (Err r) rewrite = refl
 
 look_none : (x : Look) → None (looks x).at
-unfolding of_register of_ram of_scrub scrub.begins
+unfolding of_register of_ram of_scrub
 look_none (Look.Register a) = addressed_none a (RegisterCall.Read a) refl
 look_none (Look.Checked a) = addressed_none a (RegisterCall.Checked a 0) refl
 look_none Look.OpMode = refl
 look_none (Look.Ram a place count buf) = tt
-look_none (Look.Scrub place list rewrite) = due_none (start_of place list).due
+look_none (Look.Scrub place list rewrite) = begun_none place (start_of place list) rewrite
 
 start_none : (k : Command) → None (started k).at
 unfolding of_plan of_push of_transmit of_fetch

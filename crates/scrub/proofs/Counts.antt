@@ -6,6 +6,7 @@ use mathlib.Core.List.{List, [], ◌∷◌, ◌++◌, append_assoc, append-nil}
 use lib.Dec.{ltb}
 use lib.ListN.{length}
 use borrow.Author.Tests.{lt-ltb}
+use Rattle.std.specs.Prelude.{Bool, Result, Ok, Err}
 use Rattle.laws.proofs.Choice.{by_if}
 use Rattle.place.proofs.Laws.{short}
 use Rattle.spi.specs.declared.refusal.Refusal.{Refusal}
@@ -21,11 +22,11 @@ use Rattle.register.specs.RegisterCall.{RegisterCall}
 use Rattle.register.specs.Step as register
 use Rattle.register.specs.Laws.{heard, checked_after}
 use Rattle.watch.specs.declared.Watch.{Watch}
-use Rattle.watch.specs.declared.Due.{Due}
+use Rattle.watch.specs.declared.Begun.{Begun}
 use Rattle.watch.specs.Watch.{start_of}
 use Rattle.watch.proofs.Laws as watch
 use Rattle.scrub.specs.Scrub.{Scrub, ScrubAt}
-use Rattle.scrub.specs.Step.{agrees, begins, due_at, scrub_start, to, reports, differs, seen, unread, unwritten, step_at, step_of, outcome_at, outcome_of}
+use Rattle.scrub.specs.Step.{agrees, entry_of, begins, to, reports, differs, seen, unread, unwritten, step_at, step_of, outcome_at, outcome_of}
 use Rattle.scrub.specs.Laws.{Tells, TellsAsRead}
 use Rattle.scrub.proofs.Visits.{no, Late, late, late_told}
 
@@ -141,15 +142,14 @@ module _ (w : Watch) (l : w.address < 2 ^ 12) where
       let g : Standing (run step_of s xs) xs = goes_on_lem s [] xs (record { entry = is; at = subst (λ (a : ScrubAt). Stands a []) (sym e) starts }) in
       told (run step_of s xs).at xs r h g.at
 
-pub tells_as_read_lem : TellsAsRead
+-- as it was begun
+tells_begun : (p : ℕ) (ws : List Watch) (rewrite : Bool) (xs : List (Answer × List ℕ)) (r : Report) (b : Result Begun Refusal) → start_of p ws ≡ b
+    → outcome_of (run step_of (begins p b rewrite) xs) ≡ Outcome.Scrubbed r → Tells r xs
 unfolding begins
-tells_as_read_lem p ws rewrite xs r h = go (start_of p ws).due refl
-  where
-    s : Scrub
-    s = scrub_start p ws rewrite
+tells_begun p ws rewrite xs r (Ok b) e h = tells_so (entry_of b) (short _ ((watch.laws).due_carried p ws b e)) (begins p (Ok b) rewrite) xs r refl refl h
+tells_begun p ws rewrite xs r (Err o) e h =
+    let l : Late p (run step_of (begins p (Err o) rewrite) xs) = late p (begins p (Err o) rewrite) (record { place = refl; why = o; at = refl }) xs in
+    no (late_told (run step_of (begins p (Err o) rewrite) xs) r l.why l.at h)
 
-    go : (d : Due) → (start_of p ws).due ≡ d → Tells r xs
-    go Due.Visit e = tells_so s.entry (short _ ((watch.laws).due_carried p ws e)) s xs r refl (ap due_at e) h
-    go (Due.Refused o) e =
-        let l : Late s.place (run step_of s xs) = late s.place s (record { place = refl; why = o; at = ap due_at e }) xs in
-        no (late_told (run step_of s xs) r l.why l.at h)
+pub tells_as_read_lem : TellsAsRead
+tells_as_read_lem p ws rewrite xs r h = tells_begun p ws rewrite xs r (start_of p ws) refl h

@@ -8,7 +8,7 @@ use native.Mathlib.Omega.{arith}
 use lib.ListN.{length}
 use lib.Dec.{eqb}
 use borrow.Author.Tests.{le-ltb}
-use Rattle.std.specs.Prelude.{if◌then◌else◌}
+use Rattle.std.specs.Prelude.{if◌then◌else◌, Result}
 use Rattle.spi.specs.declared.refusal.Refusal.{Refusal}
 use Rattle.spi.specs.declared.ask.Ask.{Ask}
 use Rattle.spi.specs.declared.ask.Answer.{Answer}
@@ -99,9 +99,9 @@ outcome_talk s = (shown_at_lem s.at s).1
 pub scrub_start_talk : (p : ℕ) (ws : List Watch) (rewrite : Bool) → talk_of (scrub_start p ws rewrite) ≡ scrub_call p ws rewrite
 unfolding scrub_call start_of begins
 scrub_start_talk p ws rewrite =
-    if_ap (λ (b : Begun). talk_of (begins b rewrite)) (eqb (length ws) 0) _ _
+    if_ap (λ (b : Result Begun Refusal). talk_of (begins p b rewrite)) (eqb (length ws) 0) _ _
     ∙ ap (λ (t : Talk Outcome). if eqb (length ws) 0 then refused Refusal.EmptyList else t)
-    (if_ap (λ (b : Begun). talk_of (begins b rewrite)) (not (all_carried ws)) _ _)
+    (if_ap (λ (b : Result Begun Refusal). talk_of (begins p b rewrite)) (not (all_carried ws)) _ _)
 
 -- ---- how many exchanges
 

@@ -10,6 +10,7 @@ use lib.ListN.{length, get_or, take, drop, length-drop}
 use lib.Dec.{eqb, ltb}
 use lib.Seq.{drop-cons, take_all}
 use borrow.Author.Tests.{lt-ltb, le-ltb, ltb-true}
+use Rattle.std.specs.Prelude.{Result}
 use Rattle.laws.proofs.Choice.{by_if}
 use Rattle.spi.specs.declared.refusal.Refusal.{Refusal}
 use Rattle.spi.specs.declared.ask.Answer.{Answer}
@@ -105,9 +106,9 @@ module _ (p : ℕ) (ws : List Watch) (rewrite : Bool) where
   by_start : (Q : Scrub → Type 0) → ((s : Scrub) → Late p s → Q s) → ((s : Scrub) → Going p q (entry_in p ws) s → s.at ≡ ScrubAt.Visit 0 → Q s) → Q (scrub_start p ws rewrite)
   unfolding start_of begins
   by_start Q f g =
-      by_if (λ (b : Begun). Q (begins b rewrite)) (eqb (length ws) 0) (λ e. f _ (record { place = refl; why = Refusal.EmptyList; at = refl }))
+      by_if (λ (b : Result Begun Refusal). Q (begins p b rewrite)) (eqb (length ws) 0) (λ e. f _ (record { place = refl; why = Refusal.EmptyList; at = refl }))
       (λ e.
-      by_if (λ (b : Begun). Q (begins b rewrite)) (not (all_carried ws)) (λ h. f _ (record { place = refl; why = Refusal.NotCarried; at = refl }))
+      by_if (λ (b : Result Begun Refusal). Q (begins p b rewrite)) (not (all_carried ws)) (λ h. f _ (record { place = refl; why = Refusal.NotCarried; at = refl }))
       (λ h. g _ (record { behind = refl; entry = refl; waits = λ e. refl; tells = λ r e. no cc }) refl))
 
   -- after any answers

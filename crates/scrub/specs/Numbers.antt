@@ -31,10 +31,10 @@ scrub_of c = record { place = c.place; next = c.next; entry = entry_held c; rewr
 
 -- ---- numbers after an answer
 
--- at another stage, the scrubber where it was
-abbrev pub standing : ScrubNumbers → ScrubStage → (first count w : ℕ) → Refusal → ScrubNumbers
-standing c stage first count w why = record { stage = stage; rewrite = c.rewrite; first = first; count = count; m = c.m; w = w; a = c.a; b = c.b; t = 0; place = c.place; next = c.next; why = why }
+-- at another stage, with so many mismatches, the scrubber where it was
+abbrev pub standing : ScrubNumbers → ScrubStage → (count : ℕ) → ScrubNumbers
+standing c stage count = record c { stage = stage; count = count }
 
 -- at its end, the scrubber moved on
-abbrev pub telling : ScrubNumbers → ScrubStage → (first w t : ℕ) → Refusal → ScrubNumbers
-telling c stage first w t why = record { stage = stage; rewrite = c.rewrite; first = first; count = c.count; m = c.m; w = w; a = c.a; b = c.b; t = t; place = c.next; next = c.next; why = why }
+abbrev pub telling : ScrubNumbers → ScrubStage → Refusal → ScrubNumbers
+telling c stage why = record c { stage = stage; place = c.next; why = why }

@@ -1,6 +1,6 @@
 -- Document 02, requests 4 and 5: a scrub step, exchange by exchange: where it starts, what it asks, where an answer takes it.
 -- Assumes nothing.
-use Rattle.std.specs.Prelude.{ℕ, ◌-◌, ◌^◌, Bool, List, eqb, length, if◌then◌else◌}
+use Rattle.std.specs.Prelude.{ℕ, ◌-◌, ◌^◌, Bool, List, eqb, length, if◌then◌else◌, Result, Ok, Err}
 use Rattle.std.specs.Int.Bits.{bit_and, bit_or}
 use Rattle.spi.specs.declared.refusal.Refusal.{Refusal}
 use Rattle.spi.specs.declared.ask.Ask.{Ask}
@@ -12,9 +12,8 @@ use Rattle.call.specs.declared.Report.{Report}
 use Rattle.call.specs.declared.Outcome.{Outcome}
 use Rattle.register.specs.Step.{again}
 use Rattle.watch.specs.declared.Watch.{Watch}
-use Rattle.watch.specs.declared.Due.{Due}
 use Rattle.watch.specs.declared.Begun.{Begun}
-use Rattle.watch.specs.Watch.{start_of}
+use Rattle.watch.specs.Watch.{blank, start_of}
 use Rattle.scrub.specs.Scrub.{Scrub, ScrubAt}
 
 -- ---- words
@@ -29,22 +28,22 @@ rewritten read wanted care = bit_or (bit_and read (2 ^ 32 - 1 - care)) (bit_and 
 
 -- ---- starts
 
--- a visit is a checked read, of which none has mismatched yet
-abbrev pub due_at : Due → ScrubAt
-due_at Due.Visit = ScrubAt.Visit 0
-due_at (Due.Refused r) = ScrubAt.Refused r
-
 -- the entry that a step begins with
 abbrev pub entry_of : Begun → Watch
 entry_of b = record { address = b.address; wanted = b.wanted; care = b.care }
 
--- the step that the list began, told to rewrite or not
-unfoldable pub begins : Begun → (rewrite : Bool) → Scrub
-begins b rewrite = record { place = b.place; next = b.next; entry = entry_of b; rewrite = rewrite; at = due_at b.due }
+-- refused before any exchange: the place stays
+abbrev pub turned_down : (place : ℕ) → (rewrite : Bool) → Refusal → Scrub
+turned_down p rewrite why = record { place = p; next = p; entry = blank; rewrite = rewrite; at = ScrubAt.Refused why }
+
+-- the step from a place on that the list began, told to rewrite or not: a visit is a checked read, of which none has mismatched yet
+unfoldable pub begins : (place : ℕ) → Result Begun Refusal → (rewrite : Bool) → Scrub
+begins p (Ok b) rewrite = record { place = p; next = b.next; entry = entry_of b; rewrite = rewrite; at = ScrubAt.Visit 0 }
+begins p (Err why) rewrite = turned_down p rewrite why
 
 -- a step over a list, from a place on
 abbrev pub scrub_start : (place : ℕ) → List Watch → (rewrite : Bool) → Scrub
-scrub_start p ws rewrite = begins (start_of p ws) rewrite
+scrub_start p ws rewrite = begins p (start_of p ws) rewrite
 
 -- ---- steps
 

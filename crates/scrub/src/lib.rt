@@ -14,7 +14,7 @@ ghost use Rattle.scrub.specs.Step.{agrees, rewritten, begins, to, reports, diffe
 
 use call::{Outcome, Report, Rewrite};
 use spi::{Answer, Ask, CheckedWord, Refusal};
-use watch::{Begun, Due};
+use watch::Begun;
 
 #[derive(Clone, Copy)]
 pub enum ScrubStage {
@@ -48,100 +48,49 @@ pub struct ScrubNumbers {
     pub why: Refusal,
 }
 
+#[tactic(auto, unfolding(crate::specs::Step::agrees))]
 fn is_agreed(read: u32, wanted: u32, care: u32) -> bool
     ensures { result ≡ agrees read wanted care }
 {
     read & care == wanted & care
 }
 
+#[tactic(auto, unfolding(crate::specs::Step::rewritten))]
 fn word_back(read: u32, wanted: u32, care: u32) -> u32
     ensures { result ≡ rewritten read wanted care }
 {
     read & !care | wanted & care
 }
 
-// The step at another stage; the scrubber stays.
-fn stands(
-    c: ScrubNumbers,
-    stage: ScrubStage,
-    first: u8,
-    count: u8,
-    w: u32,
-    why: Refusal,
-) -> ScrubNumbers
-    ensures { result ≡ standing c stage first count w why }
+// A step from the place on, as the list began it, or why it did not: no exchange has mismatched yet.
+#[tactic(auto, unfolding(crate::specs::Step::begins))]
+pub fn scrub_begin(place: usize, b: Result<Begun, Refusal>, rewrite: bool) -> ScrubNumbers
+    ensures { scrub_of result ≡ begins place b rewrite }
 {
-    ScrubNumbers {
-        stage: stage,
-        rewrite: c.rewrite,
-        first: first,
-        count: count,
-        m: c.m,
-        w: w,
-        a: c.a,
-        b: c.b,
-        t: 0,
-        place: c.place,
-        next: c.next,
-        why: why,
-    }
-}
-
-// The step reports; the scrubber moves on.
-fn tells(
-    c: ScrubNumbers,
-    stage: ScrubStage,
-    first: u8,
-    w: u32,
-    t: u32,
-    why: Refusal,
-) -> ScrubNumbers
-    ensures { result ≡ telling c stage first w t why }
-{
-    ScrubNumbers {
-        stage: stage,
-        rewrite: c.rewrite,
-        first: first,
-        count: c.count,
-        m: c.m,
-        w: w,
-        a: c.a,
-        b: c.b,
-        t: t,
-        place: c.next,
-        next: c.next,
-        why: why,
-    }
-}
-
-fn begun(b: Begun, rewrite: bool, stage: ScrubStage, why: Refusal) -> ScrubNumbers
-    ensures { result ≡ record { stage = stage; rewrite = rewrite; first = 0; count = 0; m = b.address; w = 0; a = b.wanted; b = b.care; t = 0; place = b.place; next = b.next; why = why } }
-{
-    ScrubNumbers {
-        stage: stage,
-        rewrite: rewrite,
+    let stays = ScrubNumbers {
+        stage: ScrubStage::Refused,
+        rewrite,
         first: 0,
         count: 0,
-        m: b.address,
+        m: 0,
         w: 0,
-        a: b.wanted,
-        b: b.care,
+        a: 0,
+        b: 0,
         t: 0,
-        place: b.place,
-        next: b.next,
-        why: why,
-    }
-}
-
-// A step, as the list began it: no exchange has mismatched yet.
-#[tactic(auto, unfolding(crate::specs::Step::begins))]
-pub fn scrub_begin(b: Begun, rewrite: bool) -> ScrubNumbers
-    ensures { scrub_of result ≡ begins b rewrite }
-{
-    let due = b.due;
-    match due {
-        Due::Visit => begun(b, rewrite, ScrubStage::Visit, Refusal::WrongAnswer),
-        Due::Refused(why) => begun(b, rewrite, ScrubStage::Refused, why),
+        place,
+        next: place,
+        why: Refusal::WrongAnswer,
+    };
+    match b {
+        Ok(b) => ScrubNumbers {
+            stage: ScrubStage::Visit,
+            m: b.address,
+            a: b.wanted,
+            b: b.care,
+            next: b.next,
+            ..stays
+        },
+        Err(why) => ScrubNumbers { why, ..stays },
     }
 }
 
@@ -149,8 +98,7 @@ pub fn scrub_begin(b: Begun, rewrite: bool) -> ScrubNumbers
 pub fn scrub_ask(c: ScrubNumbers) -> Ask
     ensures { result ≡ ask_of (scrub_of c) }
 {
-    let stage = c.stage;
-    match stage {
+    match c.stage {
         ScrubStage::Visit => Ask::Checked { address: c.m },
         ScrubStage::Write => Ask::Word {
             address: c.m,
@@ -161,27 +109,51 @@ pub fn scrub_ask(c: ScrubNumbers) -> Ask
     }
 }
 
+// The step reports, or is over without its word; the scrubber moves on.
+fn tells(c: ScrubNumbers, stage: ScrubStage, why: Refusal) -> ScrubNumbers
+    ensures { result ≡ telling c stage why }
+{
+    ScrubNumbers {
+        stage,
+        place: c.next,
+        why,
+        ..c
+    }
+}
+
 // A mismatch: another try at the stage, or the end without the word. Three tries: two mismatches are followed by another.
 fn mismatched(c: ScrubNumbers, stage: ScrubStage, lost: ScrubStage) -> ScrubNumbers
-    ensures { result ≡ again c.count (λ why. telling c lost c.first c.w 0 why) (λ k. standing c stage c.first k c.w Refusal.WrongAnswer) }
+    ensures { result ≡ again c.count (telling c lost) (standing c stage) }
 {
     if c.count < 2 {
-        stands(c, stage, c.first, c.count + 1, c.w, Refusal::WrongAnswer)
+        ScrubNumbers {
+            stage,
+            count: c.count + 1,
+            ..c
+        }
     } else {
-        tells(c, lost, c.first, c.w, 0, Refusal::CrcMismatch)
+        tells(c, lost, Refusal::CrcMismatch)
     }
 }
 
 fn when_seen(c: ScrubNumbers, w: u32) -> ScrubNumbers
     ensures { scrub_of result ≡ seen (scrub_of c) w c.count }
 {
+    let read = ScrubNumbers {
+        first: c.count,
+        w,
+        ..c
+    };
     if is_agreed(w, c.a, c.b) {
-        return tells(c, ScrubStage::Agree, c.count, w, 0, Refusal::WrongAnswer);
+        return tells(read, ScrubStage::Agree, c.why);
     }
     if c.rewrite {
-        return stands(c, ScrubStage::Write, c.count, 0, w, Refusal::WrongAnswer);
+        return ScrubNumbers {
+            stage: ScrubStage::Write,
+            ..read
+        };
     }
-    tells(c, ScrubStage::Differ, c.count, w, 0, Refusal::WrongAnswer)
+    tells(read, ScrubStage::Differ, c.why)
 }
 
 fn when_visited(c: ScrubNumbers, reply: CheckedWord) -> ScrubNumbers
@@ -190,7 +162,7 @@ fn when_visited(c: ScrubNumbers, reply: CheckedWord) -> ScrubNumbers
     match reply {
         CheckedWord::Word(w) => when_seen(c, w),
         CheckedWord::Mismatch => mismatched(c, ScrubStage::Visit, ScrubStage::Unread),
-        CheckedWord::Bad(r) => tells(c, ScrubStage::Unread, c.first, c.w, 0, r),
+        CheckedWord::Bad(r) => tells(c, ScrubStage::Unread, r),
     }
 }
 
@@ -198,8 +170,12 @@ fn when_written(c: ScrubNumbers, reply: Result<(), Refusal>) -> ScrubNumbers
     ensures { scrub_of result ≡ on_done (unwritten (scrub_of c) c.w c.first) reply (to (scrub_of c) (ScrubAt.Back c.w c.first 0)) }
 {
     match reply {
-        Ok(()) => stands(c, ScrubStage::Back, c.first, 0, c.w, Refusal::WrongAnswer),
-        Err(r) => tells(c, ScrubStage::Unwritten, c.first, c.w, 0, r),
+        Ok(()) => ScrubNumbers {
+            stage: ScrubStage::Back,
+            count: 0,
+            ..c
+        },
+        Err(r) => tells(c, ScrubStage::Unwritten, r),
     }
 }
 
@@ -207,16 +183,12 @@ fn when_back(c: ScrubNumbers, reply: CheckedWord) -> ScrubNumbers
     ensures { scrub_of result ≡ on_checked (unwritten (scrub_of c) c.w c.first) reply (again c.count (unwritten (scrub_of c) c.w c.first) (λ k. to (scrub_of c) (ScrubAt.Back c.w c.first k))) (λ w. reports (scrub_of c) (differs (scrub_of c).entry c.w c.first (Rewrite.Back w c.count))) }
 {
     match reply {
-        CheckedWord::Word(w) => tells(
-            c,
-            ScrubStage::Rewritten,
-            c.first,
-            c.w,
-            w,
-            Refusal::WrongAnswer,
-        ),
+        CheckedWord::Word(t) => ScrubNumbers {
+            t,
+            ..tells(c, ScrubStage::Rewritten, c.why)
+        },
         CheckedWord::Mismatch => mismatched(c, ScrubStage::Back, ScrubStage::Unwritten),
-        CheckedWord::Bad(r) => tells(c, ScrubStage::Unwritten, c.first, c.w, 0, r),
+        CheckedWord::Bad(r) => tells(c, ScrubStage::Unwritten, r),
     }
 }
 
@@ -225,15 +197,18 @@ fn when_back(c: ScrubNumbers, reply: CheckedWord) -> ScrubNumbers
 pub fn scrub_step(c: ScrubNumbers, answer: Answer, rx: &[u8]) -> ScrubNumbers
     ensures { scrub_of result ≡ step_of (scrub_of c) answer rx.now }
 {
-    let stage = c.stage;
-    match stage {
+    match c.stage {
         ScrubStage::Visit => when_visited(c, spi::crc_reply(Refusal::SpiRead, c.m, answer, rx)),
         ScrubStage::Write => when_written(
             c,
             spi::done_reply(Refusal::SpiRead, answer, rx.len(), 0),
         ),
         ScrubStage::Back => when_back(c, spi::crc_reply(Refusal::SpiRead, c.m, answer, rx)),
-        _ => stands(c, ScrubStage::Refused, 0, 0, 0, Refusal::WrongAnswer),
+        _ => ScrubNumbers {
+            stage: ScrubStage::Refused,
+            why: Refusal::WrongAnswer,
+            ..c
+        },
     }
 }
 
@@ -245,7 +220,7 @@ fn differing(c: ScrubNumbers, rewrite: Rewrite) -> Outcome
         read: c.w,
         wanted: c.a,
         mismatches: c.first,
-        rewrite: rewrite,
+        rewrite,
     })
 }
 
@@ -254,7 +229,6 @@ pub fn scrub_outcome(c: ScrubNumbers) -> Outcome
     ensures { result ≡ outcome_of (scrub_of c) }
 {
     let stage = c.stage;
-    let why = c.why;
     match stage {
         ScrubStage::Agree => Outcome::Scrubbed(Report::Agree {
             address: c.m,
@@ -262,12 +236,12 @@ pub fn scrub_outcome(c: ScrubNumbers) -> Outcome
         }),
         ScrubStage::Differ => differing(c, Rewrite::None),
         ScrubStage::Rewritten => differing(c, Rewrite::Back(c.t, c.count)),
-        ScrubStage::Unwritten => differing(c, Rewrite::Unread(why)),
+        ScrubStage::Unwritten => differing(c, Rewrite::Unread(c.why)),
         ScrubStage::Unread => Outcome::Scrubbed(Report::Unread {
             address: c.m,
-            why: why,
+            why: c.why,
         }),
-        ScrubStage::Refused => Outcome::Refused(why),
+        ScrubStage::Refused => Outcome::Refused(c.why),
         _ => Outcome::Running,
     }
 }

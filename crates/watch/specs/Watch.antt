@@ -1,16 +1,15 @@
 -- Document 02, request 4: the list of watch entries, and where a scrub step begins in it.
 -- Assumes nothing.
-use Rattle.std.specs.Prelude.{ℕ, ◌+◌, Bool, not, List, length, get_or, ltb, eqb, if◌then◌else◌}
-use Rattle.laws.specs.All.{all}
+use Rattle.std.specs.Prelude.{ℕ, ◌+◌, Bool, not, List, length, get_or, ltb, eqb, if◌then◌else◌, Result, Ok, Err}
+use Rattle.std.specs.List.{list_all}
 use Rattle.spi.specs.declared.refusal.Refusal.{Refusal}
 use Rattle.place.specs.Place.{is_carried}
 use Rattle.watch.specs.declared.Watch.{Watch}
-use Rattle.watch.specs.declared.Due.{Due}
 use Rattle.watch.specs.declared.Begun.{Begun}
 
 -- every entry's address is that of a register that is carried
 abbrev pub all_carried : List Watch → Bool
-all_carried ws = all (λ w. is_carried w.address) ws
+all_carried ws = list_all (λ w. is_carried w.address) ws
 
 -- a place beyond the end of a list of n starts again at the first entry
 abbrev pub place_in : (place n : ℕ) → ℕ
@@ -24,17 +23,13 @@ blank = record { address = 0; wanted = 0; care = 0 }
 abbrev pub entry_in : ℕ → List Watch → Watch
 entry_in p ws = get_or ws (place_in p (length ws)) blank
 
--- refused before any exchange: the place stays
-abbrev pub turned_down : ℕ → Refusal → Begun
-turned_down p why = record { place = p; next = p; address = 0; wanted = 0; care = 0; due = Due.Refused why }
-
 -- a visit of entry w, behind which lies the place q
-abbrev pub visiting : (p q : ℕ) → Watch → Begun
-visiting p q w = record { place = p; next = q; address = w.address; wanted = w.wanted; care = w.care; due = Due.Visit }
+abbrev pub visiting : (q : ℕ) → Watch → Begun
+visiting q w = record { next = q; address = w.address; wanted = w.wanted; care = w.care }
 
--- 32 for an empty list, then 33 where any entry's address is no register's
-unfoldable pub start_of : ℕ → List Watch → Begun
+-- refused before any exchange, 32 for an empty list, then 33 where any entry's address is no register's; or the visit that is due
+unfoldable pub start_of : ℕ → List Watch → Result Begun Refusal
 start_of p ws =
-    if eqb (length ws) 0 then turned_down p Refusal.EmptyList
-    else if not (all_carried ws) then turned_down p Refusal.NotCarried
-    else visiting p (place_in p (length ws) + 1) (entry_in p ws)
+    if eqb (length ws) 0 then Err Refusal.EmptyList
+    else if not (all_carried ws) then Err Refusal.NotCarried
+    else Ok (visiting (place_in p (length ws) + 1) (entry_in p ws))
