@@ -833,12 +833,14 @@ function path(bare,    w, begins, long) {
         take("}")
     }
 }
-# What the fields that are not named are taken from: a place, that is read or not.
+# What the fields that are not named are taken from: a place or a constant, that is read or not.
 function base() {
     p++
     if (is("*")) p++
-    if (is("self")) p++; else small()
-    for (; is(".");) { p++; small() }
+    if (is("self") || is("Self")) p++
+    else if (is_small() && token[p + 1] == "::") from(small())
+    else any_name()
+    for (; is(".") || is("::");) { p++; any_name() }
 }
 # <T as Trait>
 function qualified() { take("<"); type(); take("as"); bound(); greater(); if (!is("::")) wanted("::") }
