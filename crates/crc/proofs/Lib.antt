@@ -1,4 +1,3 @@
-mod Steps
 mod Xor
 mod Table
 mod Linear

@@ -1,6 +1,6 @@
 -- CRC-16/CMS: width 16, polynomial 0x8005, start 0xFFFF, no reflection (the high bit comes first), no final xor.
 -- Assumes nothing.
-use Rattle.std.specs.Prelude.{ℕ, zero, suc, ◌*◌, ◌/◌, ◌%◌, ◌^◌, List, [], ◌∷◌}
+use Rattle.std.specs.Prelude.{ℕ, zero, suc, ◌*◌, ◌/◌, ◌%◌, ◌^◌, List, fold}
 use Rattle.std.specs.Int.Bits.{bit_xor}
 
 -- x^16 + x^15 + x^2 + 1, without its top term
@@ -26,8 +26,7 @@ crc_byte c b = shifts 8 (bit_xor c (b * 2 ^ 8))
 
 -- the register after bytes, c before them
 unfoldable pub crc_from : ℕ → List ℕ → ℕ
-crc_from c [] = c
-crc_from c (b ∷ bs) = crc_from (crc_byte c b) bs
+crc_from c bs = fold crc_byte c bs
 
 -- the CRC of bytes
 unfoldable pub crc_of : List ℕ → ℕ

@@ -32,19 +32,15 @@ fn byte(c: u16, b: u8) -> u16
 }
 
 // The register after the bytes of `s`, which it met with `c` in it: the bytes of one CRC may be given in parts.
+#[tactic(auto, unfolding(crate::specs::Crc::crc_from))]
 pub fn update(c: u16, s: &[u8]) -> u16
     ensures { result ≡ crc_from c s.now }
 {
-    let mut x = c;
-    let mut i = 0;
-    while i < s.len() {
-        x = byte(x, s[i]);
-        i += 1;
-    }
-    x
+    s.iter().fold(c, |x, b| byte(x, *b))
 }
 
 // The CRC of the bytes of `s`.
+#[tactic(auto, unfolding(crate::specs::Crc::crc_of))]
 pub fn checksum(s: &[u8]) -> u16
     ensures { result ≡ crc_of s.now }
 {
