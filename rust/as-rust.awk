@@ -68,7 +68,7 @@ function core_names() {
     set_of(core_method, "then then_some")
     # of Option and Result
     set_of(core_method, "is_some is_none is_some_and is_ok is_err is_ok_and is_err_and ok err ok_or ok_or_else map map_err map_or")
-    set_of(core_method, "map_or_else and_then or_else unwrap unwrap_or unwrap_or_else unwrap_or_default copied filter take replace as_ref as_mut xor")
+    set_of(core_method, "map_or_else and_then or_else unwrap unwrap_or unwrap_or_else unwrap_or_default copied filter take replace as_ref as_mut")
     # of iterators and ranges
     set_of(core_method, "into_iter enumerate zip rev skip step_by chain take_while skip_while map_while filter_map any all position find")
     set_of(core_method, "find_map")
@@ -833,14 +833,13 @@ function path(bare,    w, begins, long) {
         take("}")
     }
 }
-# What the fields that are not named are taken from: a place or a constant, that is read or not.
-function base() {
-    p++
-    if (is("*")) p++
-    if (is("self") || is("Self")) p++
-    else if (is_small() && token[p + 1] == "::") from(small())
-    else any_name()
-    for (; is(".") || is("::");) { p++; any_name() }
+# What the fields that are not named are taken from. Where all are named Rattle does not look at it: it has no index, which would be tested
+# in Rust, and changes nothing.
+function base(    start) {
+    start = ++p
+    expression(0)
+    for (; start < p; start++)
+        if (kind[start] != "B" && (token[start] == "[" || token[start] == "mut")) wanted("a base without an index or &mut")
 }
 # <T as Trait>
 function qualified() { take("<"); type(); take("as"); bound(); greater(); if (!is("::")) wanted("::") }
