@@ -2,28 +2,15 @@
 // call is then over.
 ghost use Rattle.std.specs.Prelude.{◌≡◌};
 ghost use Rattle.driver.specs.Calls.{Modify, Verify, SetOpMode, Osc, Io, BitTiming, Fifo, Queue, Filter, FilterOff, Configure, Reset, OpMode, VerifyLong, Read, Checked, Write, ReadRam, WriteRam, Planned, Push, Transmit, Request, QueuePush, QueueUnchecked, QueueRequest, HasNext, Peek, Get, Scrub, fifo_number, started};
-ghost use Rattle.register.specs.Numbers.{register_of};
-ghost use Rattle.ram.specs.Numbers.{ram_of};
-ghost use Rattle.configure.specs.Numbers.{plan_in};
-ghost use Rattle.tx_fifo.specs.Numbers.{push_of};
-ghost use Rattle.rx_fifo.specs.Numbers.{fetch_of};
 ghost use Rattle.scrub.specs.Step.{begins};
-ghost use Rattle.driver.specs.Start.{of_register, of_ram, of_plan, of_push, of_fetch, of_scrub};
-ghost use Rattle.driver.specs.Numbers.{call_of};
+ghost use Rattle.driver.specs.Start.{of_scrub};
+ghost use Rattle.driver.specs.Numbers.{call_of, model_in};
 
-use crate::Call;
-use crate::parts_of::{
-    idle, with_fetch, with_plan, with_push, with_ram, with_register, with_scrub, with_transmit,
-};
+use crate::{Call, Family, Numbers};
 use areas::{FifoConfiguration, FilterConfiguration, TxQueueConfiguration};
 use changes::{BitTimeConfiguration, IoConfiguration, OscillatorConfiguration, Settings};
-use configure::PlanNumbers;
-use fetch::FetchNumbers;
 use header::Header;
-use ram::RamNumbers;
-use register::RegisterNumbers;
 use spi::Refusal;
-use tx_fifo::PushNumbers;
 use watch::{Begun, Scrubber, Watch};
 
 fn fifo_number(n: u32) -> u8
@@ -32,146 +19,111 @@ fn fifo_number(n: u32) -> u8
     if n < 256 { n as u8 } else { 0 }
 }
 
-fn of_register(p: RegisterNumbers) -> Call
-    ensures { call_of result ≡ of_register (register_of p) }
+#[tactic(auto, unfolding(crate::specs::Numbers::call_of, crate::specs::Numbers::model_of))]
+fn begun(family: Family, body: [u8; 76]) -> Call
+    ensures { call_of result ≡ model_in family body }
 {
-    Call {
-        numbers: with_register(idle(), p),
-        body: [0u8; 76],
-    }
-}
-
-fn of_ram(p: RamNumbers) -> Call
-    ensures { call_of result ≡ of_ram (ram_of p) }
-{
-    Call {
-        numbers: with_ram(idle(), p),
-        body: [0u8; 76],
-    }
-}
-
-fn of_plan(p: PlanNumbers, body: [u8; 76]) -> Call
-    ensures { call_of result ≡ of_plan (plan_in p body) }
-{
-    Call {
-        numbers: with_plan(idle(), p),
-        body: body,
-    }
-}
-
-fn of_push(p: PushNumbers, body: [u8; 76]) -> Call
-    ensures { call_of result ≡ of_push (push_of p body) }
-{
-    Call {
-        numbers: with_push(idle(), p),
-        body: body,
-    }
-}
-
-fn of_fetch(p: FetchNumbers, body: [u8; 76]) -> Call
-    ensures { call_of result ≡ of_fetch (fetch_of p body) }
-{
-    Call {
-        numbers: with_fetch(idle(), p),
-        body: body,
-    }
+    let numbers = Numbers { family };
+    Call { numbers, body }
 }
 
 // The chip is reset.
 pub fn reset() -> Call
     ensures { call_of result ≡ started Reset }
 {
-    of_register(register::reset_start())
+    begun(Family::Register(register::reset_start()), [0u8; 76])
 }
 
 // The word of a register.
 pub fn read_register(address: u32) -> Call
     ensures { call_of result ≡ started (Read address) }
 {
-    of_register(register::read_start(address))
+    begun(Family::Register(register::read_start(address)), [0u8; 76])
 }
 
 pub fn write_register(address: u32, word: u32) -> Call
     ensures { call_of result ≡ started (Write address word) }
 {
-    of_register(register::write_start(address, word))
+    begun(
+        Family::Register(register::write_start(address, word)),
+        [0u8; 76],
+    )
 }
 
 // The word of a register, in at most three checked reads, and how many of them mismatched before it.
 pub fn checked_read(address: u32) -> Call
     ensures { call_of result ≡ started (Checked address) }
 {
-    of_register(register::checked_start(address))
+    begun(
+        Family::Register(register::checked_start(address)),
+        [0u8; 76],
+    )
 }
 
 // The mode that CiCON shows.
 pub fn get_op_mode() -> Call
     ensures { call_of result ≡ started OpMode }
 {
-    of_register(register::get_op_mode_start())
+    begun(Family::Register(register::get_op_mode_start()), [0u8; 76])
 }
 
 // `room` is the length of the buffer that will be lent to `finish`; `count` bytes go to its part from `place` on.
 pub fn read_ram(address: u32, room: usize, place: usize, count: usize) -> Call
     ensures { call_of result ≡ started (ReadRam address room place count) }
 {
-    of_ram(ram::read_ram_start(address, room, place, count))
+    begun(
+        Family::Ram(ram::read_ram_start(address, room, place, count)),
+        [0u8; 76],
+    )
 }
 
 // `count` is how many bytes will be lent to `next`.
 pub fn write_ram(address: u32, count: usize) -> Call
     ensures { call_of result ≡ started (WriteRam address count) }
 {
-    of_ram(ram::write_ram_start(address, count))
+    begun(Family::Ram(ram::write_ram_start(address, count)), [0u8; 76])
 }
 
 // The long echo test: 32 words through RAM at once.
 pub fn verify_long() -> Call
     ensures { call_of result ≡ started VerifyLong }
 {
-    of_ram(ram::verify_long_start())
+    begun(Family::Ram(ram::verify_long_start()), [0u8; 76])
 }
 
 // The word read, without the bits of `clear`, with those of `set`, is written back.
 pub fn modify_register(address: u32, clear: u32, set: u32) -> Call
     ensures { call_of result ≡ started (Planned (Modify address clear set)) }
 {
-    let body = [0u8; 76];
-    let p = configure::modify(address, clear, set);
-    of_plan(p, body)
+    begun(
+        Family::Plan(configure::modify(address, clear, set)),
+        [0u8; 76],
+    )
 }
 
 // The short echo test: each bit by itself through the RAM's first word.
 pub fn verify() -> Call
     ensures { call_of result ≡ started (Planned Verify) }
 {
-    let body = [0u8; 76];
-    let p = configure::verify();
-    of_plan(p, body)
+    begun(Family::Plan(configure::verify()), [0u8; 76])
 }
 
 pub fn set_op_mode(mode: u32) -> Call
     ensures { call_of result ≡ started (Planned (SetOpMode mode)) }
 {
-    let body = [0u8; 76];
-    let p = configure::set_op_mode(mode);
-    of_plan(p, body)
+    begun(Family::Plan(configure::set_op_mode(mode)), [0u8; 76])
 }
 
 pub fn configure_osc(c: OscillatorConfiguration) -> Call
     ensures { call_of result ≡ started (Planned (Osc c)) }
 {
-    let body = [0u8; 76];
-    let p = configure::configure_osc(c);
-    of_plan(p, body)
+    begun(Family::Plan(configure::configure_osc(c)), [0u8; 76])
 }
 
 pub fn configure_io(c: IoConfiguration) -> Call
     ensures { call_of result ≡ started (Planned (Io c)) }
 {
-    let body = [0u8; 76];
-    let p = configure::configure_io(c);
-    of_plan(p, body)
+    begun(Family::Plan(configure::configure_io(c)), [0u8; 76])
 }
 
 pub fn configure_bit_timing(c: BitTimeConfiguration) -> Call
@@ -179,15 +131,13 @@ pub fn configure_bit_timing(c: BitTimeConfiguration) -> Call
 {
     let mut body = [0u8; 76];
     let p = configure::configure_bit_timing(c, &mut body);
-    of_plan(p, body)
+    begun(Family::Plan(p), body)
 }
 
 pub fn configure_fifo(fifo: u32, c: FifoConfiguration) -> Call
     ensures { call_of result ≡ started (Planned (Fifo fifo c)) }
 {
-    let body = [0u8; 76];
-    let p = configure::configure_fifo(fifo, c);
-    of_plan(p, body)
+    begun(Family::Plan(configure::configure_fifo(fifo, c)), [0u8; 76])
 }
 
 // The transmit queue off, or on.
@@ -196,7 +146,7 @@ pub fn configure_tx_queue(c: Option<TxQueueConfiguration>) -> Call
 {
     let mut body = [0u8; 76];
     let p = configure::configure_tx_queue(c, &mut body);
-    of_plan(p, body)
+    begun(Family::Plan(p), body)
 }
 
 pub fn configure_filter(filter: u32, c: FilterConfiguration) -> Call
@@ -204,15 +154,13 @@ pub fn configure_filter(filter: u32, c: FilterConfiguration) -> Call
 {
     let mut body = [0u8; 76];
     let p = configure::configure_filter(filter, c, &mut body);
-    of_plan(p, body)
+    begun(Family::Plan(p), body)
 }
 
 pub fn disable_filter(filter: u32) -> Call
     ensures { call_of result ≡ started (Planned (FilterOff filter)) }
 {
-    let body = [0u8; 76];
-    let p = configure::disable_filter(filter);
-    of_plan(p, body)
+    begun(Family::Plan(configure::disable_filter(filter)), [0u8; 76])
 }
 
 // All but FIFOs and filters.
@@ -221,15 +169,13 @@ pub fn configure(s: Settings) -> Call
 {
     let mut body = [0u8; 76];
     let p = configure::configure_all(s, &mut body);
-    of_plan(p, body)
+    begun(Family::Plan(p), body)
 }
 
 pub fn request(fifo: u32) -> Call
     ensures { call_of result ≡ started (Request fifo) }
 {
-    let body = [0u8; 76];
-    let p = configure::request(fifo);
-    of_plan(p, body)
+    begun(Family::Plan(configure::request(fifo)), [0u8; 76])
 }
 
 pub fn push(fifo: u32, header: Header, seq: u32, payload: &[u8]) -> Call
@@ -237,7 +183,7 @@ pub fn push(fifo: u32, header: Header, seq: u32, payload: &[u8]) -> Call
 {
     let mut body = [0u8; 76];
     let p = tx_fifo::push_start(fifo_number(fifo), header, seq, payload, &mut body);
-    of_push(p, body)
+    begun(Family::Push(p), body)
 }
 
 // A push to the transmit queue.
@@ -246,7 +192,7 @@ pub fn queue_push(header: Header, seq: u32, payload: &[u8]) -> Call
 {
     let mut body = [0u8; 76];
     let p = tx_fifo::queue_push_start(header, seq, payload, &mut body);
-    of_push(p, body)
+    begun(Family::Push(p), body)
 }
 
 // One that tests neither whether the queue is on nor its room: a message that it holds may be overwritten.
@@ -255,16 +201,14 @@ pub fn queue_push_unchecked(header: Header, seq: u32, payload: &[u8]) -> Call
 {
     let mut body = [0u8; 76];
     let p = tx_fifo::queue_unchecked_start(header, seq, payload, &mut body);
-    of_push(p, body)
+    begun(Family::Push(p), body)
 }
 
 // The queue is to send what it holds.
 pub fn queue_request() -> Call
     ensures { call_of result ≡ started QueueRequest }
 {
-    let body = [0u8; 76];
-    let p = configure::queue_request();
-    of_plan(p, body)
+    begun(Family::Plan(configure::queue_request()), [0u8; 76])
 }
 
 // A push, and where it is done a request.
@@ -273,10 +217,7 @@ pub fn transmit(fifo: u32, header: Header, seq: u32, payload: &[u8]) -> Call
 {
     let mut body = [0u8; 76];
     let p = transmit::transmit_start(fifo_number(fifo), header, seq, payload, &mut body);
-    Call {
-        numbers: with_transmit(idle(), p),
-        body: body,
-    }
+    begun(Family::Transmit(p), body)
 }
 
 pub fn has_next(fifo: u32) -> Call
@@ -284,7 +225,7 @@ pub fn has_next(fifo: u32) -> Call
 {
     let mut body = [0u8; 76];
     let p = rx_fifo::has_next_start(fifo_number(fifo), &mut body);
-    of_fetch(p, body)
+    begun(Family::Fetch(p), body)
 }
 
 // `room` is the length of the buffer that will be lent to `finish` for the payload: 64 or more.
@@ -293,7 +234,7 @@ pub fn peek(fifo: u32, room: usize) -> Call
 {
     let mut body = [0u8; 76];
     let p = rx_fifo::peek_start(fifo_number(fifo), room, &mut body);
-    of_fetch(p, body)
+    begun(Family::Fetch(p), body)
 }
 
 // As a peek, and the message is taken from the FIFO.
@@ -302,7 +243,7 @@ pub fn get(fifo: u32, room: usize) -> Call
 {
     let mut body = [0u8; 76];
     let p = rx_fifo::get_start(fifo_number(fifo), room, &mut body);
-    of_fetch(p, body)
+    begun(Family::Fetch(p), body)
 }
 
 fn scrub_from(place: usize, b: Result<Begun, Refusal>, rewrite: bool) -> Call

@@ -10,10 +10,7 @@ ghost use Rattle.plan.specs.Talk.{plan_left};
 ghost use Rattle.driver.specs.Demand1.{tries_left, register_left, ram_left, push_left, fetch_left, scrub_left, left};
 ghost use Rattle.driver.specs.Numbers.{model_of};
 
-use crate::parts_of::{
-    fetch_part, plan_part, push_part, ram_part, register_part, scrub_part, transmit_part,
-};
-use crate::{At, Numbers};
+use crate::{Family, Numbers};
 use fetch::{FetchNumbers, FetchStage};
 use fifo::is_fifo;
 use ram::{RamNumbers, RamStage};
@@ -32,33 +29,21 @@ fn tries_left(seen: u8) -> u32
 fn register_turns(c: RegisterNumbers) -> u32
     ensures { result ≡ register_left (register_of c) }
 {
-    let stage = c.stage;
-    match stage {
-        RegisterStage::Reset => 1,
-        RegisterStage::Read => 1,
-        RegisterStage::Write => 1,
+    match c.stage {
+        RegisterStage::Reset | RegisterStage::Read | RegisterStage::Write | RegisterStage::Mode =>
+            1,
         RegisterStage::Checked => tries_left(c.seen),
-        RegisterStage::Mode => 1,
-        RegisterStage::Done => 0,
-        RegisterStage::Word => 0,
-        RegisterStage::Matched => 0,
-        RegisterStage::OpMode => 0,
-        RegisterStage::Refused => 0,
+        _ => 0,
     }
 }
 
 fn ram_turns(c: RamNumbers) -> u32
     ensures { result ≡ ram_left (ram_of c) }
 {
-    let stage = c.stage;
-    match stage {
-        RamStage::Read => 1,
-        RamStage::Received => 0,
-        RamStage::Write => 1,
+    match c.stage {
         RamStage::EchoWrite => 2,
-        RamStage::EchoRead => 1,
-        RamStage::Done => 0,
-        RamStage::Refused => 0,
+        RamStage::Read | RamStage::Write | RamStage::EchoRead => 1,
+        RamStage::Received | RamStage::Done | RamStage::Refused => 0,
     }
 }
 
@@ -67,8 +52,7 @@ fn push_turns(c: PushNumbers, behind: u32) -> u32
     requires { behind < 1000 }
     ensures { result ≡ push_left (push_at c) behind }
 {
-    let stage = c.stage;
-    match stage {
+    match c.stage {
         PushStage::Enabled => 6 + behind,
         PushStage::Control => 5 + behind,
         PushStage::Status => 4 + behind,
@@ -90,9 +74,7 @@ fn stage_turns(p: PushNumbers, stage: RequestStage) -> u32
     match stage {
         RequestStage::Read => 2,
         RequestStage::Write => 1,
-        RequestStage::Done => 0,
-        RequestStage::Late => 0,
-        RequestStage::Refused => 0,
+        RequestStage::Done | RequestStage::Late | RequestStage::Refused => 0,
     }
 }
 
@@ -120,8 +102,7 @@ fn transmit_turns(c: TransmitNumbers) -> u32
 fn fetch_turns(c: FetchNumbers) -> u32
     ensures { result ≡ fetch_left (fetch_at c) }
 {
-    let stage = c.stage;
-    match stage {
+    match c.stage {
         FetchStage::Control => 9,
         FetchStage::Status => 8,
         FetchStage::Address => 7,
@@ -131,11 +112,7 @@ fn fetch_turns(c: FetchNumbers) -> u32
         FetchStage::Body => 3,
         FetchStage::Next => 2,
         FetchStage::Commit => 1,
-        FetchStage::Done => 0,
-        FetchStage::Empty => 0,
-        FetchStage::Yes => 0,
-        FetchStage::No => 0,
-        FetchStage::Refused => 0,
+        _ => 0,
     }
 }
 
@@ -149,17 +126,11 @@ fn behind_visit(rewrite: bool) -> u32
 fn scrub_turns(c: ScrubNumbers) -> u32
     ensures { result ≡ scrub_left (scrub_of c) }
 {
-    let stage = c.stage;
-    match stage {
+    match c.stage {
         ScrubStage::Visit => tries_left(c.count) + behind_visit(c.rewrite),
         ScrubStage::Write => 4,
         ScrubStage::Back => tries_left(c.count),
-        ScrubStage::Agree => 0,
-        ScrubStage::Differ => 0,
-        ScrubStage::Rewritten => 0,
-        ScrubStage::Unwritten => 0,
-        ScrubStage::Unread => 0,
-        ScrubStage::Refused => 0,
+        _ => 0,
     }
 }
 
@@ -167,14 +138,13 @@ fn scrub_turns(c: ScrubNumbers) -> u32
 pub fn turns_lent(c: Numbers, body: &[u8; 76]) -> u32
     ensures { result ≡ left (model_of c body.now) }
 {
-    let at = c.at;
-    match at {
-        At::Register(stage) => register_turns(register_part(c, stage)),
-        At::Ram(stage) => ram_turns(ram_part(c, stage)),
-        At::Plan(kind, stage) => configure::plan_turns(plan_part(c, kind, stage), body),
-        At::Push(stage) => push_turns(push_part(c, stage), 0),
-        At::Transmit(stage, request) => transmit_turns(transmit_part(c, stage, request)),
-        At::Fetch(want, stage) => fetch_turns(fetch_part(c, want, stage)),
-        At::Scrub(stage) => scrub_turns(scrub_part(c, stage)),
+    match c.family {
+        Family::Register(p) => register_turns(p),
+        Family::Ram(p) => ram_turns(p),
+        Family::Plan(p) => configure::plan_turns(p, body),
+        Family::Push(p) => push_turns(p, 0),
+        Family::Transmit(p) => transmit_turns(p),
+        Family::Fetch(p) => fetch_turns(p),
+        Family::Scrub(p) => scrub_turns(p),
     }
 }

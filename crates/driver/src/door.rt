@@ -7,7 +7,7 @@ ghost use Rattle.driver.specs.Finish.{finished_as, accepted_by, place_of};
 ghost use Rattle.driver.specs.Demand1.{left};
 ghost use Rattle.driver.specs.Numbers.{call_of};
 
-use crate::{At, Call, Numbers, lent, parts_of};
+use crate::{Call, Family, Numbers, lent};
 use call::Outcome;
 use send::Next;
 use spi::Answer;
@@ -46,18 +46,10 @@ pub fn finish(call: Call, rx: &[u8], buf: &mut [u8]) -> Outcome
 pub fn accepted(call: Call) -> bool
     ensures { result ≡ accepted_by (call_of call) }
 {
-    let c = call.numbers;
-    let at = c.at;
-    match at {
-        At::Register(_) => false,
-        At::Ram(_) => false,
-        At::Plan(_, _) => false,
-        At::Push(stage) => tx_fifo::push_done(parts_of::push_part(c, stage)),
-        At::Transmit(stage, request) => transmit::accepted(parts_of::transmit_part(
-            c, stage, request,
-        )),
-        At::Fetch(_, _) => false,
-        At::Scrub(_) => false,
+    match call.numbers.family {
+        Family::Push(p) => tx_fifo::push_done(p),
+        Family::Transmit(p) => transmit::accepted(p),
+        _ => false,
     }
 }
 
@@ -67,12 +59,11 @@ pub fn accepted(call: Call) -> bool
 pub fn scrubber(call: Call) -> Scrubber
     ensures { result.place ≡ place_of (call_of call) }
 {
-    let c = call.numbers;
-    let at = c.at;
-    match at {
-        At::Scrub(_) => Scrubber { place: c.size },
-        _ => Scrubber { place: 0 },
-    }
+    let place = match call.numbers.family {
+        Family::Scrub(p) => p.place,
+        _ => 0,
+    };
+    Scrubber { place }
 }
 
 // The most exchanges and waits that are left.

@@ -6,13 +6,9 @@ ghost use Rattle.driver.specs.Step.{ask_of, step_of, filled_by};
 ghost use Rattle.ram.specs.Echo.{echo_bytes};
 ghost use Rattle.driver.specs.Send.{body_of};
 ghost use Rattle.driver.specs.Finish.{finished_as};
-ghost use Rattle.driver.specs.Numbers.{model_of, is_own, is_echo, echoes};
+ghost use Rattle.driver.specs.Numbers.{model_of, is_own, is_echo};
 
-use crate::parts_of::{
-    fetch_part, plan_part, push_part, ram_part, register_part, scrub_part, transmit_part,
-    with_fetch, with_plan, with_push, with_ram, with_register, with_scrub, with_transmit,
-};
-use crate::{At, Numbers};
+use crate::{Family, Numbers};
 use call::Outcome;
 use ram::RamStage;
 use send::Next;
@@ -23,15 +19,14 @@ use spi::{Answer, Ask};
 fn ask(c: Numbers) -> Ask
     ensures { result ≡ ask_of (model_of c []) }
 {
-    let at = c.at;
-    match at {
-        At::Register(stage) => register::register_ask(register_part(c, stage)),
-        At::Ram(stage) => ram::ram_ask(ram_part(c, stage)),
-        At::Plan(kind, stage) => configure::plan_ask(plan_part(c, kind, stage)),
-        At::Push(stage) => tx_fifo::push_ask(push_part(c, stage)),
-        At::Transmit(stage, request) => transmit::transmit_ask(transmit_part(c, stage, request)),
-        At::Fetch(want, stage) => rx_fifo::fetch_ask(fetch_part(c, want, stage)),
-        At::Scrub(stage) => scrub::scrub_ask(scrub_part(c, stage)),
+    match c.family {
+        Family::Register(p) => register::register_ask(p),
+        Family::Ram(p) => ram::ram_ask(p),
+        Family::Plan(p) => configure::plan_ask(p),
+        Family::Push(p) => tx_fifo::push_ask(p),
+        Family::Transmit(p) => transmit::transmit_ask(p),
+        Family::Fetch(p) => rx_fifo::fetch_ask(p),
+        Family::Scrub(p) => scrub::scrub_ask(p),
     }
 }
 
@@ -42,48 +37,19 @@ fn next_echo(q: Ask, tx: &mut [u8]) -> Next
     send::put_next(q, &p, tx)
 }
 
-fn is_pattern(stage: RamStage) -> bool
-    ensures { result ≡ echoes stage }
-{
-    match stage {
-        RamStage::Read => false,
-        RamStage::Received => false,
-        RamStage::Write => false,
-        RamStage::EchoWrite => true,
-        RamStage::EchoRead => false,
-        RamStage::Done => false,
-        RamStage::Refused => false,
-    }
-}
-
 fn is_echo(c: Numbers) -> bool
-    ensures { result ≡ is_echo c.at }
+    ensures { result ≡ is_echo c.family }
 {
-    let at = c.at;
-    match at {
-        At::Register(_) => false,
-        At::Ram(stage) => is_pattern(stage),
-        At::Plan(_, _) => false,
-        At::Push(_) => false,
-        At::Transmit(_, _) => false,
-        At::Fetch(_, _) => false,
-        At::Scrub(_) => false,
+    match c.family {
+        Family::Ram(p) => matches!(p.stage, RamStage::EchoWrite),
+        _ => false,
     }
 }
 
 fn is_own(c: Numbers) -> bool
-    ensures { result ≡ is_own c.at }
+    ensures { result ≡ is_own c.family }
 {
-    let at = c.at;
-    match at {
-        At::Register(_) => false,
-        At::Ram(_) => false,
-        At::Plan(_, _) => false,
-        At::Push(_) => true,
-        At::Transmit(_, _) => true,
-        At::Fetch(_, _) => false,
-        At::Scrub(_) => false,
-    }
+    matches!(c.family, Family::Push(_) | Family::Transmit(_))
 }
 
 // What the call asks for now, its bytes put at the front of `tx`. `lent` is what a RAM write was started with.
@@ -93,58 +59,43 @@ pub fn next_lent(c: Numbers, body: &[u8; 76], lent: &[u8], tx: &mut [u8]) -> Nex
     let q = ask(c);
     if is_own(c) {
         send::put_next(q, body, tx)
+    } else if is_echo(c) {
+        next_echo(q, tx)
     } else {
-        if is_echo(c) {
-            next_echo(q, tx)
-        } else {
-            send::put_next(q, lent, tx)
-        }
+        send::put_next(q, lent, tx)
     }
 }
 
 // Where an answer takes the call. `rx` is what the exchange received.
+#[tactic(auto, unfolding(crate::specs::Step::step_of, crate::specs::Numbers::model_of, crate::specs::Start::of_register, crate::specs::Start::of_ram, crate::specs::Start::of_plan, crate::specs::Start::of_push, crate::specs::Start::of_transmit, crate::specs::Start::of_fetch, crate::specs::Start::of_scrub))]
 pub fn answer_lent(c: Numbers, answer: Answer, rx: &[u8], body: &mut [u8; 76]) -> Numbers
     ensures { model_of result body.new ≡ step_of (model_of c body.old) answer rx.now }
 {
-    let at = c.at;
-    match at {
-        At::Register(stage) => with_register(
-            c,
-            register::register_step(register_part(c, stage), answer, rx),
-        ),
-        At::Ram(stage) => with_ram(c, ram::ram_step(ram_part(c, stage), answer, rx)),
-        At::Plan(kind, stage) => with_plan(
-            c,
-            configure::plan_step(plan_part(c, kind, stage), answer, rx, body),
-        ),
-        At::Push(stage) => with_push(c, tx_fifo::push_step(push_part(c, stage), answer, rx)),
-        At::Transmit(stage, request) => with_transmit(
-            c,
-            transmit::transmit_step(transmit_part(c, stage, request), answer, rx),
-        ),
-        At::Fetch(want, stage) => with_fetch(
-            c,
-            rx_fifo::fetch_step(fetch_part(c, want, stage), answer, rx, body),
-        ),
-        At::Scrub(stage) => with_scrub(c, scrub::scrub_step(scrub_part(c, stage), answer, rx)),
-    }
+    let family = match c.family {
+        Family::Register(p) => Family::Register(register::register_step(p, answer, rx)),
+        Family::Ram(p) => Family::Ram(ram::ram_step(p, answer, rx)),
+        Family::Plan(p) => Family::Plan(configure::plan_step(p, answer, rx, body)),
+        Family::Push(p) => Family::Push(tx_fifo::push_step(p, answer, rx)),
+        Family::Transmit(p) => Family::Transmit(transmit::transmit_step(p, answer, rx)),
+        Family::Fetch(p) => Family::Fetch(rx_fifo::fetch_step(p, answer, rx, body)),
+        Family::Scrub(p) => Family::Scrub(scrub::scrub_step(p, answer, rx)),
+    };
+    Numbers { family }
 }
 
 // How the call ended. What it received goes to its part of `buf`: a payload to the front, a RAM read to the part that it was started
 // with. `rx` is what the last exchange received.
+#[tactic(auto, unfolding(crate::specs::Finish::finished_as, crate::specs::Step::outcome_of, crate::specs::Step::filled_by, crate::specs::Numbers::model_of, crate::specs::Start::of_register, crate::specs::Start::of_ram, crate::specs::Start::of_plan, crate::specs::Start::of_push, crate::specs::Start::of_transmit, crate::specs::Start::of_fetch, crate::specs::Start::of_scrub, configure::specs::Numbers::plan_in, tx_fifo::specs::Step::outcome_of, transmit::specs::Transmit::transmit_outcome))]
 pub fn finish_lent(c: Numbers, body: &[u8; 76], rx: &[u8], buf: &mut [u8]) -> Outcome
     ensures { (result ≡ finished_as (model_of c body.now) (length rx.now) (length buf.old)) × (buf.new ≡ filled_by (model_of c body.now) rx.now buf.old) }
 {
-    let at = c.at;
-    match at {
-        At::Register(stage) => register::register_outcome(register_part(c, stage)),
-        At::Ram(stage) => ram::ram_finish(ram_part(c, stage), rx, buf),
-        At::Plan(kind, stage) => configure::plan_outcome(plan_part(c, kind, stage)),
-        At::Push(stage) => tx_fifo::push_outcome(push_part(c, stage)),
-        At::Transmit(stage, request) => transmit::transmit_outcome(transmit_part(
-            c, stage, request,
-        )),
-        At::Fetch(want, stage) => rx_fifo::fetch_finish(fetch_part(c, want, stage), body, buf),
-        At::Scrub(stage) => scrub::scrub_outcome(scrub_part(c, stage)),
+    match c.family {
+        Family::Register(p) => register::register_outcome(p),
+        Family::Ram(p) => ram::ram_finish(p, rx, buf),
+        Family::Plan(p) => configure::plan_outcome(p),
+        Family::Push(p) => tx_fifo::push_outcome(p),
+        Family::Transmit(p) => transmit::transmit_outcome(p),
+        Family::Fetch(p) => rx_fifo::fetch_finish(p, body, buf),
+        Family::Scrub(p) => scrub::scrub_outcome(p),
     }
 }

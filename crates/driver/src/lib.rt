@@ -7,7 +7,6 @@ mod begin;
 mod count;
 mod door;
 mod lent;
-mod parts_of;
 
 pub use areas::{
     FifoConfiguration, FifoMode, FilterConfiguration, FilterMode, Identifier, RxFifo, TxFifo,
@@ -24,49 +23,37 @@ pub use changes::{
     BitTimeConfiguration, DataBitTime, IoConfiguration, NominalBitTime, OscillatorConfiguration,
     Settings,
 };
-use configure::{PlanKind, PlanStage};
+use configure::PlanNumbers;
 pub use door::{accepted, answer, body_of, finish, next, numbers_of, scrubber, turns};
-use fetch::{FetchStage, Want};
+use fetch::FetchNumbers;
 pub use header::Header;
 pub use lent::{answer_lent, finish_lent, next_lent};
 pub use numbers::number;
-use ram::RamStage;
-use register::RegisterStage;
-use scrub::ScrubStage;
+use ram::RamNumbers;
+use register::RegisterNumbers;
+use scrub::ScrubNumbers;
 pub use send::Next;
 pub use spi::{Answer, Refusal};
-use transmit::RequestStage;
-use tx_fifo::PushStage;
+use transmit::TransmitNumbers;
+use tx_fifo::PushNumbers;
 pub use watch::{Scrubber, Watch};
 
-// Where a call stands in its family.
+// The families of calls, each with its own numbers.
 #[derive(Clone, Copy)]
-enum At {
-    Register(RegisterStage),
-    Ram(RamStage),
-    Plan(PlanKind, PlanStage),
-    Push(PushStage),
-    Transmit(PushStage, RequestStage),
-    Fetch(Want, FetchStage),
-    Scrub(ScrubStage),
+enum Family {
+    Register(RegisterNumbers),
+    Ram(RamNumbers),
+    Plan(PlanNumbers),
+    Push(PushNumbers),
+    Transmit(TransmitNumbers),
+    Fetch(FetchNumbers),
+    Scrub(ScrubNumbers),
 }
 
-// A call without its bytes: where it stands, and numbers that the families share. Nobody outside makes one by hand.
+// A call without its bytes. Nobody outside makes one by hand.
 #[derive(Clone, Copy)]
 pub struct Numbers {
-    at: At,
-    stamped: bool,
-    fifo: u8,
-    more: u8,
-    next: u8,
-    m: u16,
-    w: u32,
-    a: u32,
-    b: u32,
-    t: u32,
-    size: usize,
-    len: usize,
-    why: Refusal,
+    family: Family,
 }
 
 // A call: its numbers, and its own bytes (the object to send, the payload received, or the bits that a plan sets).
