@@ -2,16 +2,13 @@
 // call is then over.
 ghost use Rattle.std.specs.Prelude.{◌≡◌};
 ghost use Rattle.driver.specs.Calls.{Modify, Verify, SetOpMode, Osc, Io, BitTiming, Fifo, Queue, Filter, FilterOff, Configure, Reset, OpMode, VerifyLong, Read, Checked, Write, ReadRam, WriteRam, Planned, Push, Transmit, Request, QueuePush, QueueUnchecked, QueueRequest, HasNext, Peek, Get, Scrub, fifo_number, started};
-ghost use Rattle.scrub.specs.Step.{begins};
-ghost use Rattle.driver.specs.Start.{of_scrub};
 ghost use Rattle.driver.specs.Numbers.{call_of, model_in};
 
 use crate::{Call, Family, Numbers};
 use areas::{FifoConfiguration, FilterConfiguration, TxQueueConfiguration};
 use changes::{BitTimeConfiguration, IoConfiguration, OscillatorConfiguration, Settings};
 use header::Header;
-use spi::Refusal;
-use watch::{Begun, Scrubber, Watch};
+use watch::{Scrubber, Watch};
 
 fn fifo_number(n: u32) -> u8
     ensures { result ≡ fifo_number n }
@@ -246,19 +243,11 @@ pub fn get(fifo: u32, room: usize) -> Call
     begun(Family::Fetch(p), body)
 }
 
-fn scrub_from(place: usize, b: Result<Begun, Refusal>, rewrite: bool) -> Call
-    ensures { call_of result ≡ of_scrub (begins place b rewrite) }
-{
-    Call {
-        numbers: with_scrub(idle(), scrub::scrub_begin(place, b, rewrite)),
-        body: [0u8; 76],
-    }
-}
-
 // One step of a scrubber over a list: the register that is due is read, checked, and its cared-for bits compared with the wanted ones.
 // Where they differ and `rewrite` is true they are written, and read back. `scrubber` gives the scrubber back.
 pub fn scrub(s: Scrubber, list: &[Watch], rewrite: bool) -> Call
     ensures { call_of result ≡ started (Scrub s.place list.now rewrite) }
 {
-    scrub_from(s.place, watch::scrub_start(s, list), rewrite)
+    let p = scrub::scrub_begin(s.place, watch::scrub_start(s, list), rewrite);
+    begun(Family::Scrub(p), [0u8; 76])
 }
