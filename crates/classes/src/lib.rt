@@ -107,14 +107,12 @@ pub fn called(row: usize, a: &[u64]) -> Seen {
     }
 }
 
-// One more than the bytes that a RAM read asks for, 0 for any other call.
-pub fn read_of(s: Seen) -> usize {
-    if s.row == 6 {
-        if s.size < 0xFFFF_FFFF {
-            return s.size as usize + 1;
-        }
+// How many bytes a RAM read asks for.
+pub fn read_of(s: Seen) -> Option<usize> {
+    if s.row == 6 && s.size < 0xFFFF_FFFF {
+        return Some(s.size as usize);
     }
-    0
+    None
 }
 
 fn one_more(n: u32) -> u32 {

@@ -2,209 +2,115 @@
 // has the script; what happened is written as a transcript.
 #![tactic(auto)]
 
+use acts::Chip;
 use lines::Writer;
-use output::{Streams, write};
-use reading::{Line, Reader};
-use script::Entry;
-use spoken::{Fault, Spoken};
-use state::Model;
-use std::rt::{Stderr, Stdin, Stdout};
+use output::Streams;
+use script::{Between, Entry};
+use spoken::Fault;
+use starts::Arguments;
 
-// The number of the line that was read last, counted from 1; whether a call waits for its @ lines, and how many bytes its own line and
-// they have.
-#[derive(Clone, Copy)]
-struct Place {
+#[derive(Drop)]
+struct Drive<'a> {
+    chip: Chip,
+    // The place of the one scrubber.
+    place: usize,
+    // The number of the line that was read last, counted from 1.
     number: u64,
+    // Whether a call waits for its @ lines; its own line, and they, each ended by a newline.
     open: bool,
-    head: usize,
-    notes: usize,
+    head: Writer<'a>,
+    notes: Writer<'a>,
+    // What a line says.
+    numbers: [u64; 24],
+    lent: [u8; 32768],
 }
 
-fn next(p: Place) -> Place {
-    let mut q = p;
-    q.number = output::one_more(p.number);
-    q
-}
-
-// The call that waits is run before the line that ends it, or at the input's end.
-fn run_call(
-    stdout: Stdout,
-    m: Model,
-    p: Place,
-    over: bool,
-    head: &[u8],
-    notes: &[u8],
-    scrubber: &mut [u64; 1],
-) -> Model {
-    if p.open && over {
-        return stage::run(
-            stdout,
-            m,
-            text::front(head, p.head),
-            text::front(notes, p.notes),
-            scrubber,
-        );
-    }
-    m
-}
-
-// With a new chip the scrubber is at the first entry.
-fn step(
-    stdout: Stdout,
-    m: Model,
-    s: Spoken,
-    line: &[u8],
-    numbers: &[u64],
-    lent: &[u8],
-    scrubber: &mut [u64; 1],
-) -> Model {
-    if s.row == script::NEW {
-        scrubber[0] = 0;
-    }
-    acts::between(stdout, m, s, line, numbers, lent)
-}
-
-fn act(
-    stdout: Stdout,
-    m: Model,
-    entry: Entry,
-    line: &[u8],
-    numbers: &[u64],
-    lent: &[u8],
-    scrubber: &mut [u64; 1],
-) -> Model {
-    match entry {
-        Entry::Step(s) => step(stdout, m, s, line, numbers, lent, scrubber),
-        _ => m,
-    }
-}
-
-fn refused(stdout: Stdout, stderr: Stderr, p: Place, fault: Fault, line: &[u8]) -> Place {
-    output::error(stdout, p.number);
-    write(stdout, b"\n");
-    faults::told(stderr, p.number, fault, line);
-    p
-}
-
-fn closed(p: Place) -> Place {
-    let mut q = p;
-    q.open = false;
-    q
-}
-
-fn opened(p: Place, line: &[u8], head: &mut [u8]) -> Place {
-    let mut w = Writer::new(head);
-    w.put(line);
-    Place {
-        number: p.number,
-        open: true,
-        head: w.len(),
-        notes: 0,
-    }
-}
-
-// Whether one more line fits, with its newline.
-fn fits(notes: &[u8], len: usize, line: &[u8]) -> bool {
-    if len < notes.len() {
-        return line.len() < notes.len() - len;
-    }
-    false
-}
-
-fn noted(stdout: Stdout, stderr: Stderr, p: Place, line: &[u8], notes: &mut [u8]) -> Place {
-    if !p.open {
-        return refused(stdout, stderr, p, Fault::Alone, line);
-    }
-    if fits(notes, p.notes, line) {
-        let mut q = p;
-        let mut w = Writer::behind(notes, p.notes);
-        w.put(line);
-        w.byte(b'\n');
-        q.notes = w.len();
-        return q;
-    }
-    refused(stdout, stderr, p, Fault::Room, line)
-}
-
-fn after(
-    stdout: Stdout,
-    stderr: Stderr,
-    p: Place,
-    entry: Entry,
-    line: &[u8],
-    head: &mut [u8],
-    notes: &mut [u8],
-) -> Place {
-    match entry {
-        Entry::Blank => p,
-        Entry::Call => opened(p, line, head),
-        Entry::Note => noted(stdout, stderr, p, line, notes),
-        Entry::BadNote(f) => refused(stdout, stderr, p, f, line),
-        Entry::Step(_) => closed(p),
-        Entry::Bad(f) => refused(stdout, stderr, closed(p), f, line),
-    }
-}
-
-// A line at a time; `scrubber` is the place of the one scrubber. No script has so many lines that the turns run out.
-fn run(
-    stdin: Stdin,
-    stdout: Stdout,
-    stderr: Stderr,
-    piece: &mut [u8; 65536],
-    buf: &mut [u8; 65536],
-    head: &mut [u8; 65536],
-    notes: &mut [u8; 65536],
-    lent: &mut [u8; 32768],
-    numbers: &mut [u64; 24],
-    scrubber: &mut [u64; 1],
-) {
-    let streams = Streams {
-        stdin,
-        stdout,
-        stderr,
-    };
-    let mut reader = Reader::new(streams, piece);
-    let mut m = acts::new_chip();
-    let mut p = Place {
-        number: 0,
-        open: false,
-        head: 0,
-        notes: 0,
-    };
-    for _ in 0..u64::MAX {
-        let read = reader.next_line(buf);
-        let end = read.is_none();
-        let Line { text: line, long } = read.unwrap_or_default();
-        let entry = script::entry_of(line, long, numbers, lent);
-        let over = end || script::ends(entry);
-        p = next(p);
-        m = run_call(stdout, m, p, over, head, notes, scrubber);
-        if end {
-            return;
+impl Drive<'_> {
+    // The call that waits is run before the line that ends it, or at the input's end.
+    fn run_call(&mut self) {
+        if self.open {
+            stage::run(
+                &mut self.chip,
+                self.head.text(),
+                self.notes.text(),
+                &mut self.place,
+            );
         }
-        m = act(stdout, m, entry, line, numbers, lent, scrubber);
-        p = after(stdout, stderr, p, entry, line, head, notes);
+    }
+
+    // With a new chip the scrubber is at the first entry.
+    fn step(&mut self, step: Between, line: &[u8]) {
+        if let Between::New = step {
+            self.place = 0;
+        }
+        let a = Arguments {
+            numbers: &self.numbers,
+            bytes: &self.lent,
+        };
+        self.chip.between(step, line, a);
+    }
+
+    fn refused(&mut self, fault: Fault, line: &[u8]) {
+        let to = self.chip.to;
+        to.error(self.number);
+        to.write(b"\n");
+        faults::told(to.stderr, self.number, fault, line);
+    }
+
+    fn opened(&mut self, line: &[u8]) {
+        self.open = true;
+        self.head.clear();
+        self.head.put(line);
+        self.notes.clear();
+    }
+
+    fn noted(&mut self, line: &[u8]) {
+        if !self.open {
+            return self.refused(Fault::Alone, line);
+        }
+        if self.notes.room() <= line.len() {
+            return self.refused(Fault::Room, line);
+        }
+        self.notes.put(line);
+        self.notes.byte(b'\n');
+    }
+
+    fn line(&mut self, line: &[u8], long: bool) {
+        let entry = script::entry_of(line, long, &mut self.numbers, &mut self.lent);
+        self.number = self.number.saturating_add(1);
+        if script::ends(entry) {
+            self.run_call();
+            self.open = false;
+        }
+        match entry {
+            Ok(Entry::Blank) => {}
+            Ok(Entry::Note(Ok(_))) => self.noted(line),
+            Ok(Entry::Call) => self.opened(line),
+            Ok(Entry::Note(Err(f))) | Err(f) => self.refused(f, line),
+            Ok(Entry::Step(step)) => self.step(step, line),
+        }
     }
 }
 
 fn main(rt: HostRuntime) {
-    let mut piece = io::large_buffer();
-    let mut buf = io::large_buffer();
+    let to = Streams {
+        stdin: rt.stdin(),
+        stdout: rt.stdout(),
+        stderr: rt.stderr(),
+    };
+    let mut buffer = io::large_buffer();
     let mut head = io::large_buffer();
     let mut notes = io::large_buffer();
-    let mut lent = [0u8; 32768];
-    let mut numbers = [0u64; 24];
-    let mut scrubber = [0u64; 1];
-    run(
-        rt.stdin(),
-        rt.stdout(),
-        rt.stderr(),
-        &mut piece,
-        &mut buf,
-        &mut head,
-        &mut notes,
-        &mut lent,
-        &mut numbers,
-        &mut scrubber,
-    );
+    let mut drive = Drive {
+        chip: Chip::new(to),
+        place: 0,
+        number: 0,
+        open: false,
+        head: Writer::new(&mut head),
+        notes: Writer::new(&mut notes),
+        numbers: [0u64; 24],
+        lent: [0u8; 32768],
+    };
+    reading::each_line(to, &mut buffer, |line, long| drive.line(line, long));
+    drive.run_call();
 }

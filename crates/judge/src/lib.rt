@@ -1,83 +1,72 @@
 // What is made of a transcript's lines: where its reader stands, which cases agree, and what is written of the others.
 #![tactic(auto)]
 
+mod counts;
+
 use classes::Seen;
+use counts::Counts;
 use items::Item;
 use lines::Writer;
+use output::Streams;
 use spoken::{Fault, Spoken};
-use std::rt::{Stderr, Stdout};
 
-mod state;
+// Where the transcript's reader stands in a case.
+#[derive(Clone, Copy, PartialEq, Eq, Debug)]
+enum Phase {
+    // No case is open.
+    Idle,
+    // The call is to do something; it is to be answered; its result was there.
+    Turn,
+    Reply,
+    Over,
+    // A line of the case is malformed or out of place, or its call is not understood. The rest of it is passed over up to a blank line or
+    // the next case, and it counts as differing.
+    Lost,
+}
 
-pub use state::{State, begin, is_due, is_lost, told};
-
-// The first difference of a case is held until its end, since only then it is known whether the case is compared: what the transcript
-// has behind `-`, what the port did behind `+`.
-fn held(s: State, line: &[u8], out: &[u8], note: &mut [u8]) -> State {
-    if check::same(line, out) {
-        return s;
-    }
-    let mut w = Writer::new(note);
-    w.put(b"- ");
-    w.put(line);
-    w.put(b"\n+ ");
-    w.put(out);
-    w.put(b"\n");
-    state::differing(s, w.len())
+#[derive(Drop)]
+pub struct Judge<'a> {
+    to: Streams,
+    // The line that was read last and the one that the case began with, counted from 1.
+    number: u64,
+    start: u64,
+    phase: Phase,
+    seen: Seen,
+    class: u8,
+    // The line where the port first did otherwise. It is held until the case's end, since only then it is known whether the case is
+    // compared: `note` has behind `-` what the transcript has, and what the port did behind `+`.
+    differs: Option<u64>,
+    note: Writer<'a>,
+    counts: Counts,
+    // How many bytes the call's line has, and how many came last.
+    lent: usize,
+    got: usize,
 }
 
 // Whether both are results of a kind that a transcript may have without its last words: a message's DLC and filter, or the number of
 // exchanges that mismatched before a checked read's word, which the Rust does not tell.
 fn is_in_part(line: &[u8], out: &[u8]) -> bool {
     let kind = text::word(line, 1);
-    text::is(out, 1, kind) && (check::same(kind, b"message") || check::same(kind, b"word"))
+    text::is(out, 1, kind) && matches!(kind, b"message" | b"word")
 }
 
-// How much of what the port does a line tells.
-fn told_of(line: &[u8], out: &[u8]) -> usize {
-    let all = out.len();
+// What the port does, as far as a line tells it.
+fn told_of<'a>(line: &[u8], out: &'a [u8]) -> &'a [u8] {
     let more = text::rest(out, text::count(line)).len();
-    if is_in_part(line, out) {
-        if 0 < more {
-            if more < all {
-                return all - more - 1;
-            }
-        }
+    if is_in_part(line, out) && 0 < more && more < out.len() {
+        return text::front(out, out.len() - more - 1);
     }
-    all
+    out
 }
 
-// What the port does, `out`, is compared with the line, and with nothing where the case ends too early.
-fn judged(s: State, item: Result<Item, Fault>, line: &[u8], out: &[u8], note: &mut [u8]) -> State {
-    if state::is_due(s, item) {
-        let there = state::compared(item, line);
-        let told = text::front(out, told_of(there, out));
-        return held(s, there, told, note);
-    }
-    s
+// Whether a line ends the case before it.
+fn is_end(item: Result<Item, Fault>) -> bool {
+    matches!(item, Ok(Item::Blank | Item::Call | Item::Field | Item::Crc))
 }
 
-// A line that is a case by itself.
-fn single(
-    stdout: Stdout,
-    stderr: Stderr,
-    s: State,
-    item: Result<Item, Fault>,
-    line: &[u8],
-    note: &mut [u8],
-    counts: &mut [u64],
-) {
-    if !singles::is_single(item) {
-        return;
-    }
-    let mut out = [0u8; 8192];
-    match singles::single(item, line, &mut out) {
-        Some(n) => {
-            let t = held(s, line, text::front(&out, n), note);
-            state::count_single(stdout, t, singles::class(item, line), note, counts);
-        }
-        None => state::count_bad(stdout, stderr, s, line, counts),
-    }
+// Whether it says what the call does.
+fn is_done(item: Result<Item, Fault>) -> bool {
+    matches!(item, Ok(Item::Sent | Item::Wait | Item::Result))
 }
 
 // What a call's line says.
@@ -91,68 +80,213 @@ pub fn hear(
     if long {
         return Err(Fault::Long);
     }
-    if let Ok(Item::Call) = item {
-        return spoken::understood(line, numbers, lent);
-    }
-    Err(Fault::Name)
-}
-
-pub fn seen_after(
-    seen: Seen,
-    item: Result<Item, Fault>,
-    heard: Result<Spoken, Fault>,
-    line: &[u8],
-    numbers: &[u64],
-    rx: &[u8],
-) -> Seen {
-    if let Ok(spoken) = heard {
-        return classes::called(spoken.row, numbers);
-    }
     match item {
-        Ok(Item::Sent) => classes::asked(seen, line),
-        Ok(Item::Got(n)) => classes::answered(seen, text::front(rx, n)),
-        _ => seen,
+        Ok(Item::Call) => spoken::understood(line, numbers, lent),
+        _ => Err(Fault::Name),
     }
 }
 
-fn classed(s: State, seen: Seen, item: Result<Item, Fault>, line: &[u8]) -> State {
-    match item {
-        Ok(Item::Result) => state::classed(s, classes::class(seen, line)),
-        _ => s,
+impl<'a> Judge<'a> {
+    // Before the first line. Differences are noted in the lent buffer.
+    pub fn new(to: Streams, note: &'a mut [u8]) -> Judge<'a> {
+        Judge {
+            to,
+            number: 0,
+            start: 0,
+            phase: Phase::Idle,
+            seen: classes::called(0, &[]),
+            class: classes::COMPARED,
+            differs: None,
+            note: Writer::new(note),
+            counts: Counts::new(),
+            lent: 0,
+            got: 0,
+        }
     }
-}
 
-// A line is read: the case that it ends, or that it is, is counted.
-pub fn settled(
-    stdout: Stdout,
-    stderr: Stderr,
-    before: State,
-    item: Result<Item, Fault>,
-    line: &[u8],
-    out: &[u8],
-    note: &mut [u8],
-    counts: &mut [u64],
-) -> State {
-    let s = judged(state::next(before), item, line, out, note);
-    let t = state::closed(stdout, s, item, note, counts);
-    single(stdout, stderr, t, item, line, note, counts);
-    t
-}
+    pub fn lent(&self) -> usize {
+        self.lent
+    }
 
-// After a line, `heard` being what a call's line says.
-pub fn after(
-    stdout: Stdout,
-    stderr: Stderr,
-    s: State,
-    item: Result<Item, Fault>,
-    heard: Result<Spoken, Fault>,
-    seen: Seen,
-    line: &[u8],
-) -> State {
-    classed(
-        state::after(stdout, stderr, s, item, heard, line),
-        seen,
-        item,
-        line,
-    )
+    pub fn got(&self) -> usize {
+        self.got
+    }
+
+    // How many bytes the call reads from RAM.
+    pub fn read(&self) -> Option<usize> {
+        classes::read_of(self.seen)
+    }
+
+    // Whether the port is looked at: the case so far is good, and the line says what the call does, or ends a case that has no result.
+    pub fn is_due(&self, item: Result<Item, Fault>) -> bool {
+        self.differs.is_none()
+            && match self.phase {
+                Phase::Turn => is_end(item) || is_done(item),
+                Phase::Reply => is_end(item),
+                _ => false,
+            }
+    }
+
+    // Whether the call does what the transcript has so far.
+    pub fn is_followed(&self) -> bool {
+        self.differs.is_none() && self.phase != Phase::Lost
+    }
+
+    // What a line has, and what the port does.
+    fn put_note(&mut self, line: &[u8], out: &[u8]) {
+        self.note.clear();
+        self.note.put(b"- ");
+        self.note.put(line);
+        self.note.put(b"\n+ ");
+        self.note.put(out);
+        self.note.put(b"\n");
+    }
+
+    fn compare(&mut self, line: &[u8], out: &[u8]) {
+        let told = told_of(line, out);
+        if line != told {
+            self.differs = Some(self.number);
+            self.put_note(line, told);
+        }
+    }
+
+    fn differ(&mut self, at: u64, start: u64) {
+        self.to.write(b"line ");
+        self.to.number(at);
+        self.to.write(b" differs, in the case of line ");
+        self.to.number(start);
+        self.to.write(b"\n");
+        self.to.write(self.note.text());
+        self.counts.differ();
+    }
+
+    // A case ends: it is counted, and told where it differs. One without a result differs whatever its class.
+    fn close(&mut self) {
+        match self.phase {
+            Phase::Idle => {}
+            Phase::Lost => self.counts.differ(),
+            Phase::Over if self.class != classes::COMPARED => self.counts.outside(self.class),
+            _ => match self.differs {
+                Some(at) => self.differ(at, self.start),
+                None => self.counts.agree(),
+            },
+        }
+        self.phase = Phase::Idle;
+        self.differs = None;
+    }
+
+    // A line that is a case by itself.
+    fn single(&mut self, item: Result<Item, Fault>, line: &[u8]) {
+        let mut buffer = [0u8; 8192];
+        let mut out = Writer::new(&mut buffer);
+        if singles::single(item, line, &mut out).is_none() {
+            self.to.error(self.number);
+            faults::told(self.to.stderr, self.number, Fault::Count, line);
+            return self.counts.differ();
+        }
+        let class = singles::class(item, line);
+        if class != classes::COMPARED {
+            self.counts.outside(class);
+        } else if line == out.text() {
+            self.counts.agree();
+        } else {
+            self.put_note(line, out.text());
+            self.differ(self.number, self.number);
+        }
+    }
+
+    // A line is read: the case that it ends, or that it is, is counted. `out` is what the port does, where it is looked at: where the
+    // case ends too early, nothing is held against it.
+    pub fn settle(&mut self, item: Result<Item, Fault>, line: &[u8], out: &[u8]) {
+        self.number = self.number.saturating_add(1);
+        if self.is_due(item) {
+            self.compare(if is_end(item) { b"" } else { line }, out);
+        }
+        if is_end(item) {
+            self.close();
+        }
+        if singles::is_single(item) {
+            self.single(item, line);
+        }
+    }
+
+    fn lose(&mut self, fault: Fault, line: &[u8]) {
+        self.to.error(self.number);
+        faults::told(self.to.stderr, self.number, fault, line);
+        if self.phase != Phase::Idle {
+            self.phase = Phase::Lost;
+        }
+    }
+
+    fn begin(&mut self, heard: Result<Spoken, Fault>, line: &[u8]) {
+        self.start = self.number;
+        self.phase = Phase::Turn;
+        self.class = classes::COMPARED;
+        self.differs = None;
+        match heard {
+            Ok(spoken) => self.lent = spoken.count,
+            Err(f) => self.lose(f, line),
+        }
+    }
+
+    // A line within a case.
+    fn follow(&mut self, item: Item, line: &[u8]) {
+        match (item, self.phase) {
+            (_, Phase::Lost) => {}
+            (Item::Sent, Phase::Turn) => self.phase = Phase::Reply,
+            (Item::Wait, Phase::Turn) => {}
+            (Item::Result, Phase::Turn) => self.phase = Phase::Over,
+            (Item::Got(n), Phase::Reply) => {
+                self.phase = Phase::Turn;
+                self.got = n;
+            }
+            (Item::Failed, Phase::Reply) => {
+                self.phase = Phase::Turn;
+                self.got = 0;
+            }
+            _ => self.lose(Fault::Place, line),
+        }
+    }
+
+    // What is seen of the case, `numbers` being those of the call's line and `rx` the bytes that came.
+    fn see(
+        &mut self,
+        item: Result<Item, Fault>,
+        heard: Result<Spoken, Fault>,
+        line: &[u8],
+        numbers: &[u64],
+        rx: &[u8],
+    ) {
+        self.seen = match (heard, item) {
+            (Ok(spoken), _) => classes::called(spoken.row, numbers),
+            (_, Ok(Item::Sent)) => classes::asked(self.seen, line),
+            (_, Ok(Item::Got(n))) => classes::answered(self.seen, text::front(rx, n)),
+            _ => self.seen,
+        };
+    }
+
+    // After a line, `heard` being what a call's line says.
+    pub fn after(
+        &mut self,
+        item: Result<Item, Fault>,
+        heard: Result<Spoken, Fault>,
+        line: &[u8],
+        numbers: &[u64],
+        rx: &[u8],
+    ) {
+        match item {
+            Ok(Item::Call) => self.begin(heard, line),
+            Ok(Item::Blank | Item::Field | Item::Crc) => {}
+            Ok(item) => self.follow(item, line),
+            Err(f) => self.lose(f, line),
+        }
+        if let Ok(Item::Result) = item {
+            self.class = classes::class(self.seen, line);
+        }
+        self.see(item, heard, line, numbers, rx);
+    }
+
+    pub fn tell(&self) {
+        self.counts.tell(self.to);
+    }
 }

@@ -6,99 +6,62 @@ use driver::{Answer, Call, Outcome, Refusal};
 use field::Numbered;
 use fifo::{ControlWord, FifoControl};
 use lines::Writer;
-use std::rt::Stdout;
-
-fn tell_refusal(stdout: Stdout, r: Refusal) {
-    output::write(stdout, b"refused ");
-    output::number(stdout, driver::number(r) as u64);
-    output::write(stdout, b"\n");
-}
+use output::Streams;
+use starts::Arguments;
 
 // How a call that was started ended, with no buffer lent: it is refused, or has still to ask.
 fn begun(call: Call) -> Outcome {
-    let none = [0u8; 1];
-    let mut buf = [0u8; 1];
-    driver::finish(call, text::front(&none, 0), &mut buf)
+    driver::finish(call, b"", &mut [])
 }
 
-fn tell(stdout: Stdout, what: &[u8], o: Outcome) {
-    output::write(stdout, what);
-    match o {
-        Outcome::Refused(r) => tell_refusal(stdout, r),
-        _ => output::write(stdout, b"not refused\n"),
+fn tell(to: Streams, what: &[u8], refused: Option<Refusal>) {
+    to.write(what);
+    match refused {
+        Some(r) => {
+            to.write(b"refused ");
+            to.number(driver::number(r) as u64);
+            to.write(b"\n");
+        }
+        None => to.write(b"not refused\n"),
     }
 }
 
-fn show(stdout: Stdout, what: &[u8], s: &[u8]) {
+fn refusal_of(o: Outcome) -> Option<Refusal> {
+    match o {
+        Outcome::Refused(r) => Some(r),
+        _ => None,
+    }
+}
+
+fn show(to: Streams, what: &[u8], s: &[u8]) {
     let mut line = [0u8; 256];
-    let mut w = Writer::new(&mut line);
-    w.bytes(s);
-    let n = w.len();
-    output::write(stdout, what);
-    output::write_line(stdout, text::front(&line, n));
+    let mut out = Writer::new(&mut line);
+    out.bytes(s);
+    to.write(what);
+    to.write_line(out.text());
+}
+
+fn tell_begun(to: Streams, what: &[u8], call: Call) {
+    tell(to, what, refusal_of(begun(call)));
 }
 
 // A RAM read's part of a buffer of 8 bytes.
-fn part(stdout: Stdout, what: &[u8], address: u32, place: usize, count: usize) {
-    tell(
-        stdout,
-        what,
-        begun(driver::read_ram(address, 8, place, count)),
-    );
+fn part(to: Streams, what: &[u8], address: u32, place: usize) {
+    tell_begun(to, what, driver::read_ram(address, 8, place, 4));
 }
 
-fn parts(stdout: Stdout) {
-    part(
-        stdout,
-        b"S28 read_ram 400, 4 bytes at 4 of 8: ",
-        0x400,
-        4,
-        4,
-    );
-    part(
-        stdout,
-        b"S28 read_ram 400, 4 bytes at 5 of 8: ",
-        0x400,
-        5,
-        4,
-    );
-    part(
-        stdout,
-        b"S28 read_ram 3ff, 4 bytes at 4 of 8: ",
-        0x3FF,
-        4,
-        4,
-    );
-    part(
-        stdout,
-        b"S28 read_ram 3ff, 4 bytes at 5 of 8: ",
-        0x3FF,
-        5,
-        4,
-    );
+fn parts(to: Streams) {
+    part(to, b"S28 read_ram 400, 4 bytes at 4 of 8: ", 0x400, 4);
+    part(to, b"S28 read_ram 400, 4 bytes at 5 of 8: ", 0x400, 5);
+    part(to, b"S28 read_ram 3ff, 4 bytes at 4 of 8: ", 0x3FF, 4);
+    part(to, b"S28 read_ram 3ff, 4 bytes at 5 of 8: ", 0x3FF, 5);
 }
 
-fn rooms(stdout: Stdout) {
-    tell(
-        stdout,
-        b"S28 peek 2 with a buffer of 64: ",
-        begun(driver::peek(2, 64)),
-    );
-    tell(
-        stdout,
-        b"S28 peek 2 with a buffer of 63: ",
-        begun(driver::peek(2, 63)),
-    );
-    tell(
-        stdout,
-        b"S28 get 2 with a buffer of 63: ",
-        begun(driver::get(2, 63)),
-    );
-    tell(
-        stdout,
-        b"S32 get 0 with a buffer of 63: ",
-        begun(driver::get(0, 63)),
-    );
+fn rooms(to: Streams) {
+    tell_begun(to, b"S28 peek 2 with a buffer of 64: ", driver::peek(2, 64));
+    tell_begun(to, b"S28 peek 2 with a buffer of 63: ", driver::peek(2, 63));
+    tell_begun(to, b"S28 get 2 with a buffer of 63: ", driver::get(2, 63));
+    tell_begun(to, b"S32 get 0 with a buffer of 63: ", driver::get(0, 63));
 }
 
 // A read of 4 bytes into the middle of 8, answered so.
@@ -106,62 +69,61 @@ fn read_of(answer: Answer, rx: &[u8]) -> Call {
     driver::answer(driver::read_ram(0x400, 8, 2, 4), answer, rx)
 }
 
-// How the read ended, and what it leaves of a buffer of aa.
-fn left(stdout: Stdout, what: &[u8], call: Call, rx: &[u8]) {
-    let mut buf = [0xAAu8; 8];
-    tell(stdout, what, driver::finish(call, rx, &mut buf));
-    show(stdout, b"  buffer ", &buf);
+// How a call ended, and what it leaves of a buffer of aa.
+fn left(to: Streams, what: &[u8], call: Call, rx: &[u8], buf: &mut [u8]) {
+    tell(to, what, refusal_of(driver::finish(call, rx, buf)));
+    show(to, b"  buffer ", buf);
 }
 
-fn reads(stdout: Stdout) {
+fn left_of_8(to: Streams, what: &[u8], call: Call, rx: &[u8]) {
+    left(to, what, call, rx, &mut [0xAAu8; 8]);
+}
+
+fn reads(to: Streams) {
     let rx = [1u8, 2, 3, 4];
     let short = [1u8, 2, 3];
-    left(
-        stdout,
+    left_of_8(
+        to,
         b"S46 a read of 4 bytes at 2 of 8: ",
         read_of(Answer::Exchanged, &rx),
         &rx,
     );
-    left(
-        stdout,
+    left_of_8(
+        to,
         b"S30 the same, failed: ",
         read_of(Answer::Failed, &rx),
         &rx,
     );
-    left(
-        stdout,
+    left_of_8(
+        to,
         b"S26 the same, answered with 3 bytes: ",
         read_of(Answer::Exchanged, &short),
         &short,
     );
-    left(
-        stdout,
+    left_of_8(
+        to,
         b"S26 the same, answered as a wait: ",
         read_of(Answer::Waited, &rx),
         &rx,
     );
     let over = read_of(Answer::Exchanged, &rx);
-    left(
-        stdout,
+    left_of_8(
+        to,
         b"S26 the same, answered again after its end: ",
         driver::answer(over, Answer::Exchanged, &rx),
         &rx,
     );
 }
 
-fn wait(stdout: Stdout, what: &[u8], answer: Answer, got: usize) {
-    output::write(stdout, what);
-    match spi::wait_reply(answer, got) {
-        Err(r) => tell_refusal(stdout, r),
-        Ok(()) => output::write(stdout, b"not refused\n"),
-    }
+fn wait(to: Streams, what: &[u8], answer: Answer, got: usize) {
+    tell(to, what, spi::wait_reply(answer, got).err());
 }
 
-fn waits(stdout: Stdout) {
-    wait(stdout, b"S26 a wait, waited out: ", Answer::Waited, 0);
-    wait(stdout, b"S26 the same, with a byte: ", Answer::Waited, 1);
+fn waits(to: Streams) {
+    wait(to, b"S26 a wait, waited out: ", Answer::Waited, 0);
+    wait(to, b"S26 the same, with a byte: ", Answer::Waited, 1);
     wait(
-        stdout,
+        to,
         b"S26 the same, answered as a failed exchange: ",
         Answer::Failed,
         0,
@@ -182,15 +144,8 @@ fn peeked(payload: &[u8]) -> Call {
     driver::answer(call, Answer::Exchanged, payload)
 }
 
-fn taken(stdout: Stdout, what: &[u8], call: Call) {
-    let mut buf = [0xAAu8; 70];
-    let none = [0u8; 1];
-    tell(
-        stdout,
-        what,
-        driver::finish(call, text::front(&none, 0), &mut buf),
-    );
-    show(stdout, b"  buffer ", &buf);
+fn taken(to: Streams, what: &[u8], call: Call) {
+    left(to, what, call, b"", &mut [0xAAu8; 70]);
 }
 
 // A scrub by its line, from the second entry on.
@@ -199,78 +154,77 @@ fn scrub_of(line: &[u8]) -> Call {
     let mut lent = [0u8; 64];
     numbers[starts::PLACE] = 1;
     match spoken::understood(line, &mut numbers, &mut lent) {
-        Ok(s) => starts::start(s.row, &numbers, text::front(&lent, s.count)),
+        Ok(s) => {
+            let a = Arguments {
+                numbers: &numbers,
+                bytes: text::front(&lent, s.count),
+            };
+            starts::start(s.row, a)
+        }
         Err(_) => driver::reset(),
     }
 }
 
 // How a step stands, and where its scrubber is.
-fn stands(stdout: Stdout, what: &[u8], call: Call) {
-    let none = [0u8; 1];
+fn stands(to: Streams, what: &[u8], call: Call) {
     let mut line = [0u8; 128];
-    let mut w = Writer::new(&mut line);
-    w.result(begun(call), text::front(&none, 0));
-    let n = w.len();
-    let s = driver::scrubber(call);
-    output::write(stdout, what);
-    output::write(stdout, text::front(&line, n));
-    output::write(stdout, b", place ");
-    output::number(stdout, s.place as u64);
-    output::write(stdout, b"\n");
+    let mut out = Writer::new(&mut line);
+    out.result(begun(call), b"");
+    to.write(what);
+    to.write(out.text());
+    to.write(b", place ");
+    to.number(driver::scrubber(call).place as u64);
+    to.write(b"\n");
 }
 
 // The word read is 460, with the CRC of be 00 04 60 04 00 00.
-fn scrubs(stdout: Stdout) {
-    let none = [0u8; 1];
-    let empty = text::front(&none, 0);
+fn scrubs(to: Streams) {
     let word = [0x60u8, 4, 0, 0, 0x6C, 0x41];
     let first = scrub_of(b"call scrub rewrite e04:3000003:ffffffff e00:461:1");
-    stands(stdout, b"R4.4 a scrub, not answered yet: ", first);
+    stands(to, b"R4.4 a scrub, not answered yet: ", first);
     stands(
-        stdout,
+        to,
         b"S26 the same, its read answered as a wait: ",
-        driver::answer(first, Answer::Waited, empty),
+        driver::answer(first, Answer::Waited, b""),
     );
     let second = driver::answer(first, Answer::Exchanged, &word);
     stands(
-        stdout,
+        to,
         b"R4.4 the same, read, and its rewrite not answered yet: ",
         second,
     );
-    let over = driver::answer(second, Answer::Waited, empty);
+    let over = driver::answer(second, Answer::Waited, b"");
+    stands(to, b"S26 the same, its rewrite answered as a wait: ", over);
     stands(
-        stdout,
-        b"S26 the same, its rewrite answered as a wait: ",
-        over,
-    );
-    stands(
-        stdout,
+        to,
         b"S26 the same, answered again after its end: ",
-        driver::answer(over, Answer::Exchanged, empty),
+        driver::answer(over, Answer::Exchanged, b""),
     );
-    stands(stdout, b"R4.4 a call of another kind: ", driver::reset());
+    stands(to, b"R4.4 a call of another kind: ", driver::reset());
 }
 
 fn main(rt: HostRuntime) {
-    parts(rt.stdout());
-    rooms(rt.stdout());
-    reads(rt.stdout());
-    waits(rt.stdout());
+    let to = Streams {
+        stdin: rt.stdin(),
+        stdout: rt.stdout(),
+        stderr: rt.stderr(),
+    };
+    parts(to);
+    rooms(to);
+    reads(to);
+    waits(to);
     taken(
-        rt.stdout(),
+        to,
         b"S34 a peek of 3 bytes into 70: ",
         peeked(&[1u8, 2, 3, 0]),
     );
     taken(
-        rt.stdout(),
+        to,
         b"S30 the same, its payload answered with 3 bytes: ",
         peeked(&[1u8, 2, 3]),
     );
-    scrubs(rt.stdout());
-    output::write(
-        rt.stdout(),
-        b"S57 TXAT of the reset word, which has 3 there, reads as ",
-    );
-    output::number(rt.stdout(), FifoControl::reset().txat() as u64);
-    output::write(rt.stdout(), b"\n");
+    scrubs(to);
+    to.write(b"S57 TXAT of the reset word, which has 3 there, reads as ");
+    to.number(FifoControl::reset().txat() as u64);
+    to.write(b"\n");
 }

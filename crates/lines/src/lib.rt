@@ -86,13 +86,17 @@ impl<'a> Writer<'a> {
         Writer { out, len: 0 }
     }
 
-    // Behind bytes that are put already.
-    pub fn behind(out: &'a mut [u8], len: usize) -> Writer<'a> {
-        Writer { out, len }
+    pub fn text(&self) -> &[u8] {
+        text::front(self.out, self.len)
     }
 
-    pub fn len(&self) -> usize {
-        self.len
+    pub fn clear(&mut self) {
+        self.len = 0;
+    }
+
+    // How many bytes more fit.
+    pub fn room(&self) -> usize {
+        self.out.len().saturating_sub(self.len)
     }
 
     pub fn byte(&mut self, b: u8) {

@@ -5,90 +5,54 @@ use driver::{Answer, Call, Next, Outcome};
 use items::Item;
 use lines::Writer;
 use spoken::{Fault, Spoken};
+use starts::Arguments;
 
 // A RAM read of so many bytes ends with them.
-fn ended(o: Outcome, read: usize, buf: &[u8], w: &mut Writer) {
-    w.put(b"= ");
-    if 0 < read {
-        if let Outcome::Done = o {
-            w.read_result(text::front(buf, read - 1));
-            return;
-        }
-    }
-    w.result(o, buf);
-}
-
-// What the call does now, if it is wanted. The first `sent` bytes of `lent` are what a RAM write sends, the first `got` of `rx` what
-// came last; `read` is one more than the bytes that a RAM read asks for, and 0 for any other call.
-pub fn line(
-    call: Call,
-    wanted: bool,
-    read: usize,
-    lent: &[u8],
-    sent: usize,
-    rx: &[u8],
-    got: usize,
-    out: &mut [u8],
-) -> usize {
-    if !wanted {
-        return 0;
-    }
-    let mut tx = [0u8; 4200];
+fn ended(call: Call, read: Option<usize>, rx: &[u8], out: &mut Writer<'_>) {
     let mut buf = [0u8; 2048];
-    let mut w = Writer::new(out);
-    match driver::next(call, text::front(lent, sent), &mut tx) {
-        Next::Transfer { n, want } => w.exchange(text::front(&tx, n), want),
-        Next::Wait => w.put(b"wait 500"),
-        Next::Over => {
-            let o = driver::finish(call, text::front(rx, got), &mut buf);
-            ended(o, read, &buf, &mut w);
-        }
-        Next::Short => w.put(b"short"),
+    out.put(b"= ");
+    match (driver::finish(call, rx, &mut buf), read) {
+        (Outcome::Done, Some(n)) => out.read_result(text::front(&buf, n)),
+        (outcome, _) => out.result(outcome, &buf),
     }
-    w.len()
 }
 
-// What a line of the transcript means to the call.
+// What the call does now. `sent` is what a RAM write sends, `rx` what came last, and `read` how many bytes a RAM read asks for.
+pub fn put_line(call: Call, read: Option<usize>, sent: &[u8], rx: &[u8], out: &mut Writer<'_>) {
+    let mut tx = [0u8; 4200];
+    match driver::next(call, sent, &mut tx) {
+        Next::Transfer { n, want } => out.exchange(text::front(&tx, n), want),
+        Next::Wait => out.put(b"wait 500"),
+        Next::Over => ended(call, read, rx, out),
+        Next::Short => out.put(b"short"),
+    }
+}
+
+// What a line of the transcript means to the call: the row that it begins with, or what it is answered.
 #[derive(Clone, Copy)]
 pub enum Step {
-    Stay,
     Begin(usize),
     Answer(Answer),
 }
 
 // A call's line begins it, and what it is answered goes to it.
-pub fn step_of(item: Result<Item, Fault>, heard: Result<Spoken, Fault>) -> Step {
+pub fn step_of(item: Result<Item, Fault>, heard: Result<Spoken, Fault>) -> Option<Step> {
     if let Ok(spoken) = heard {
-        return Step::Begin(spoken.row);
+        return Some(Step::Begin(spoken.row));
     }
     match item {
-        Ok(Item::Got(_)) => Step::Answer(Answer::Exchanged),
-        Ok(Item::Failed) => Step::Answer(Answer::Failed),
-        Ok(Item::Wait) => Step::Answer(Answer::Waited),
-        _ => Step::Stay,
+        Ok(Item::Got(_)) => Some(Step::Answer(Answer::Exchanged)),
+        Ok(Item::Failed) => Some(Step::Answer(Answer::Failed)),
+        Ok(Item::Wait) => Some(Step::Answer(Answer::Waited)),
+        _ => None,
     }
 }
 
-// How many bytes stand beside an answer: none beside that to a wait.
-fn beside(answer: Answer, got: usize) -> usize {
-    match answer {
-        Answer::Waited => 0,
-        _ => got,
-    }
-}
-
-pub fn moved(
-    call: Call,
-    step: Step,
-    a: &[u64],
-    lent: &[u8],
-    sent: usize,
-    rx: &[u8],
-    got: usize,
-) -> Call {
+// The call after a step, `a` being the arguments of its line. No byte stands beside the answer to a wait.
+pub fn moved(call: Call, step: Step, a: Arguments<'_>, rx: &[u8]) -> Call {
     match step {
-        Step::Stay => call,
-        Step::Begin(row) => starts::start(row, a, text::front(lent, sent)),
-        Step::Answer(answer) => driver::answer(call, answer, text::front(rx, beside(answer, got))),
+        Step::Begin(row) => starts::start(row, a),
+        Step::Answer(Answer::Waited) => driver::answer(call, Answer::Waited, b""),
+        Step::Answer(answer) => driver::answer(call, answer, rx),
     }
 }

@@ -124,3 +124,17 @@ impl<'a> Reader<'a> {
         Some(ended(line, len))
     }
 }
+
+// Each line of standard input, in order, put into the buffer. No input has so many that the turns run out.
+pub fn each_line<F: FnMut(&[u8], bool)>(streams: Streams, buffer: &mut [u8], mut visit: F)
+    requires { F.IsAlwaysCallable visit }
+{
+    let mut piece = io::large_buffer();
+    let mut input = Reader::new(streams, &mut piece);
+    for _ in 0..u64::MAX {
+        let Some(line) = input.next_line(buffer) else {
+            return;
+        };
+        visit(line.text, line.long);
+    }
+}

@@ -5,58 +5,17 @@
 
 use bus::Unsent;
 use driver::{Call, Header, Outcome};
-use looping::Line;
+use looping::Chip;
 use message::Frame;
-use state::Model;
+use output::Streams;
+use starts::Arguments;
 use std::io::Read;
-use std::rt::{Stdin, Stdout};
 
 // The chip with its count of exchanges, and how many messages came out as they went in.
 #[derive(Clone, Copy)]
-struct Stand {
-    line: Line,
+struct Rounds {
+    chip: Chip,
     good: u64,
-}
-
-fn count(n: u64, more: bool) -> u64 {
-    if more {
-        if n < u64::MAX {
-            return n + 1;
-        }
-    }
-    n
-}
-
-// The stand after a call.
-#[derive(Clone, Copy)]
-struct Done {
-    stand: Stand,
-    outcome: Outcome,
-}
-
-fn run(r: Stand, call: Call, buf: &mut [u8]) -> Done {
-    let none = [0u8; 1];
-    let mut tx = [0u8; 130];
-    let mut rx = [0u8; 128];
-    let line = r.line;
-    let ran = looping::run(line, call, text::front(&none, 0), &mut tx, &mut rx, buf);
-    let after = ran.line;
-    let outcome = ran.outcome;
-    let stand = Stand {
-        line: after,
-        good: r.good,
-    };
-    Done {
-        stand: stand,
-        outcome: outcome,
-    }
-}
-
-// A call that fills no buffer.
-fn ran(r: Stand, call: Call) -> Stand {
-    let mut none = [0u8; 1];
-    let d = run(r, call, &mut none);
-    d.stand
 }
 
 // A call by its line in a script.
@@ -64,28 +23,15 @@ fn call_of(line: &[u8]) -> Call {
     let mut numbers = [0u64; 24];
     let mut lent = [0u8; 64];
     match spoken::understood(line, &mut numbers, &mut lent) {
-        Ok(s) => starts::start(s.row, &numbers, text::front(&lent, s.count)),
+        Ok(s) => {
+            let a = Arguments {
+                numbers: &numbers,
+                bytes: text::front(&lent, s.count),
+            };
+            starts::start(s.row, a)
+        }
         Err(_) => driver::reset(),
     }
-}
-
-// A chip with FIFO 1 sending and FIFO 2 receiving with timestamps, each of 8 messages of up to 64 bytes.
-fn prepared() -> Stand {
-    let line = Line {
-        model: state::reset([0u8; 2048]),
-        exchanges: 0,
-    };
-    let first = Stand {
-        line: line,
-        good: 0,
-    };
-    let a = ran(
-        first,
-        call_of(b"call configure 0 0 0 0 0 0 0 62 15 15 0 14 3 3 0 0 0 0 0 0"),
-    );
-    let b = ran(a, call_of(b"call configure_fifo 1 8 7 tx 0 0 0 0 0 0 0"));
-    let c = ran(b, call_of(b"call configure_fifo 2 8 7 rx 1 0 0 0 0"));
-    ran(c, call_of(b"call set_op_mode 0"))
 }
 
 // The message of a round.
@@ -101,50 +47,16 @@ fn header_of(i: u32) -> Header {
 }
 
 fn payload_of(i: u32) -> [u8; 8] {
-    let b = words::le_bytes(i);
-    [b[0], b[1], b[2], b[3], b[3], b[2], b[1], b[0]]
+    let [a, b, c, d] = words::le_bytes(i);
+    [a, b, c, d, d, c, b, a]
 }
 
 fn is_ours(h: Header, payload: &[u8], i: u32) -> bool {
-    let p = payload_of(i);
-    if h.id != i % 0x800 {
-        return false;
-    }
-    check::same(payload, &p)
-}
-
-// The chip after a bus step, and whether a message came out as it went in.
-fn moved(r: Stand, m: Model, good: bool) -> Stand {
-    let l = r.line;
-    let line = Line {
-        model: m,
-        exchanges: l.exchanges,
-    };
-    Stand {
-        line: line,
-        good: count(r.good, good),
-    }
+    h.id == i % 0x800 && payload == payload_of(i).as_slice()
 }
 
 fn is_sent(sent: Result<Frame, Unsent>, i: u32) -> bool {
-    match sent {
-        Ok(frame) => {
-            let payload = frame.payload;
-            is_ours(frame.header, text::front(&payload.bytes, payload.len), i)
-        }
-        Err(_) => false,
-    }
-}
-
-// Pushed, requested, sent.
-fn outgoing(r: Stand, i: u32) -> Stand {
-    let p = payload_of(i);
-    let a = ran(r, driver::push(1, header_of(i), i % 0x80_0000, &p));
-    let b = ran(a, driver::request(1));
-    let l = b.line;
-    let s = bus::send(l.model, 1);
-    let next = s.model;
-    moved(b, next, is_sent(s.sent, i))
+    sent.is_ok_and(|f| is_ours(f.header, text::front(&f.payload.bytes, f.payload.len), i))
 }
 
 fn is_got(o: Outcome, buf: &[u8], i: u32) -> bool {
@@ -154,56 +66,89 @@ fn is_got(o: Outcome, buf: &[u8], i: u32) -> bool {
     }
 }
 
-// Delivered, got: a frame that was not delivered is not got either.
-fn incoming(r: Stand, i: u32) -> Stand {
-    let p = payload_of(i);
-    let mut buf = [0u8; 64];
-    let l = r.line;
-    let d = bus::deliver(l.model, 2, header_of(i), 8, i, &p);
-    let next = d.model;
-    let g = run(moved(r, next, false), driver::get(2, 64), &mut buf);
-    let s = g.stand;
-    let after = s.line;
-    let outcome = g.outcome;
-    moved(s, after.model, is_got(outcome, &buf, i))
-}
-
-fn tell(stdout: Stdout, n: u64, what: &[u8]) {
-    output::number(stdout, n);
-    output::write(stdout, what);
-}
-
-fn play(stdout: Stdout, n: u32) {
-    let mut r = prepared();
-    let mut i = 0;
-    while i < n {
-        r = incoming(outgoing(r, i), i);
-        i += 1;
+impl Rounds {
+    fn run(&mut self, call: Call, buf: &mut [u8]) -> Outcome {
+        let mut tx = [0u8; 130];
+        let mut rx = [0u8; 128];
+        looping::run(&mut self.chip, call, b"", &mut tx, &mut rx, buf)
     }
-    tell(stdout, n as u64, b" rounds, ");
-    tell(stdout, r.line.exchanges, b" exchanges, ");
-    tell(stdout, r.good, b" messages\n");
+
+    // A call that fills no buffer.
+    fn made(&mut self, call: Call) {
+        let _ = self.run(call, &mut []);
+    }
+
+    // A chip with FIFO 1 sending and FIFO 2 receiving with timestamps, each of 8 messages of up to 64 bytes.
+    fn prepared() -> Rounds {
+        let mut rounds = Rounds {
+            chip: Chip {
+                model: state::reset([0u8; 2048]),
+                exchanges: 0,
+            },
+            good: 0,
+        };
+        rounds.made(call_of(b"call configure 0 0 0 0 0 0 0 62 15 15 0 14 3 3 0 0 0 0 0 0"));
+        rounds.made(call_of(b"call configure_fifo 1 8 7 tx 0 0 0 0 0 0 0"));
+        rounds.made(call_of(b"call configure_fifo 2 8 7 rx 1 0 0 0 0"));
+        rounds.made(call_of(b"call set_op_mode 0"));
+        rounds
+    }
+
+    fn count(&mut self, good: bool) {
+        self.good = self.good.saturating_add(good as u64);
+    }
+
+    // Pushed, requested, sent.
+    fn outgoing(&mut self, i: u32) {
+        self.made(driver::push(1, header_of(i), i % 0x80_0000, &payload_of(i)));
+        self.made(driver::request(1));
+        let s = bus::send(self.chip.model, 1);
+        self.chip.model = s.model;
+        self.count(is_sent(s.sent, i));
+    }
+
+    // Delivered, got: a frame that was not delivered is not got either.
+    fn incoming(&mut self, i: u32) {
+        let d = bus::deliver(self.chip.model, 2, header_of(i), 8, i, &payload_of(i));
+        self.chip.model = d.model;
+        let mut buf = [0u8; 64];
+        let outcome = self.run(driver::get(2, 64), &mut buf);
+        self.count(is_got(outcome, &buf, i));
+    }
 }
 
+fn tell(to: Streams, n: u64, what: &[u8]) {
+    to.number(n);
+    to.write(what);
+}
+
+fn play(to: Streams, n: u32) {
+    let mut rounds = Rounds::prepared();
+    for i in 0..n {
+        rounds.outgoing(i);
+        rounds.incoming(i);
+    }
+    tell(to, n as u64, b" rounds, ");
+    tell(to, rounds.chip.exchanges, b" exchanges, ");
+    tell(to, rounds.good, b" messages\n");
+}
+
+// None where it is no number, or too large a one.
 fn rounds_of(s: &[u8]) -> u32 {
-    match text::decimal(s) {
-        Some(n) => { if n < 4294967296 { n as u32 } else { 0 } }
-        None => 0,
-    }
-}
-
-// How many bytes were read. A read that fails is no input.
-fn got(stdin: Stdin, buf: &mut [u8]) -> usize {
-    let mut input = stdin;
-    match input.read(buf) {
-        Ok(n) => n,
-        Err(_) => 0,
-    }
+    text::decimal(s)
+        .and_then(|n| u32::try_from(n).ok())
+        .unwrap_or(0)
 }
 
 fn main(rt: HostRuntime) {
+    let to = Streams {
+        stdin: rt.stdin(),
+        stdout: rt.stdout(),
+        stderr: rt.stderr(),
+    };
     let mut buf = io::buffer();
-    let n = got(rt.stdin(), &mut buf);
-    let digits = if 0 < n { n - 1 } else { 0 };
-    play(rt.stdout(), rounds_of(text::front(&buf, digits)));
+    let mut input = to.stdin;
+    // A read that fails is no input.
+    let n = input.read(&mut buf).unwrap_or(0);
+    play(to, rounds_of(text::front(&buf, n.saturating_sub(1))));
 }

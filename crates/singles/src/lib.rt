@@ -7,7 +7,7 @@ use named::NoValue;
 use spoken::Fault;
 
 // `crc BYTES -> HEX` as the port has it, or Bad where it is not understood.
-fn crc_line(line: &[u8], out: &mut [u8]) -> Option<usize> {
+fn crc_line(line: &[u8], out: &mut Writer<'_>) -> Option<()> {
     let mut scratch = [0u8; 4200];
     if text::count(line) != 4 || !text::is(line, 2, b"->") {
         return None;
@@ -15,12 +15,11 @@ fn crc_line(line: &[u8], out: &mut [u8]) -> Option<usize> {
     let n = text::bytes(text::word(line, 1), &mut scratch)?;
     let _ = text::hex(text::word(line, 3))?;
     let s = text::front(&scratch, n);
-    let mut w = Writer::new(out);
-    w.put(b"crc ");
-    w.bytes(s);
-    w.put(b" -> ");
-    w.hex(crc::checksum(s) as u64, 4);
-    Some(w.len())
+    out.put(b"crc ");
+    out.bytes(s);
+    out.put(b" -> ");
+    out.hex(crc::checksum(s) as u64, 4);
+    Some(())
 }
 
 // Up to 16 hex digits: a word, or the two of a header.
@@ -60,36 +59,34 @@ fn question(line: &[u8], k: usize) -> &[u8] {
 }
 
 // `field REGISTER NAME WORD -> VALUE`, a field read.
-fn read_line(line: &[u8], out: &mut [u8]) -> Option<usize> {
+fn read_line(line: &[u8], out: &mut Writer<'_>) -> Option<()> {
     let word = double(text::word(line, 3))?;
     let _ = text::decimal(text::word(line, 5))?;
-    let mut w = Writer::new(out);
-    w.put(question(line, 5));
+    out.put(question(line, 5));
     match fields::field_read(text::word(line, 1), text::word(line, 2), word) {
-        Ok(v) => w.decimal(v),
+        Ok(v) => out.decimal(v),
         Err(NoValue::Absent) => {}
         Err(NoValue::Unknown) => return None,
     }
-    Some(w.len())
+    Some(())
 }
 
 // `field REGISTER NAME VALUE WORD -> WORD`, a field set.
-fn set_line(line: &[u8], out: &mut [u8]) -> Option<usize> {
+fn set_line(line: &[u8], out: &mut Writer<'_>) -> Option<()> {
     let v = text::decimal(text::word(line, 3))?;
     let word = double(text::word(line, 4))?;
     let _ = double(text::word(line, 6))?;
-    let mut w = Writer::new(out);
-    w.put(question(line, 6));
+    out.put(question(line, 6));
     let width = text::word(line, 4).len();
     match fields::field_set(text::word(line, 1), text::word(line, 2), v, word) {
-        Ok(x) => w.hex(x, width),
+        Ok(x) => out.hex(x, width),
         Err(NoValue::Absent) => {}
         Err(NoValue::Unknown) => return None,
     }
-    Some(w.len())
+    Some(())
 }
 
-fn field_line(line: &[u8], out: &mut [u8]) -> Option<usize> {
+fn field_line(line: &[u8], out: &mut Writer<'_>) -> Option<()> {
     if is_whole(line, 6, 4) {
         return read_line(line, out);
     }
@@ -153,7 +150,7 @@ pub fn class(item: Result<Item, Fault>, line: &[u8]) -> u8 {
     }
 }
 
-pub fn single(item: Result<Item, Fault>, line: &[u8], out: &mut [u8]) -> Option<usize> {
+pub fn single(item: Result<Item, Fault>, line: &[u8], out: &mut Writer<'_>) -> Option<()> {
     match item {
         Ok(Item::Field) => field_line(line, out),
         Ok(Item::Crc) => crc_line(line, out),

@@ -1,6 +1,6 @@
 // The calls on FIFOs.
+use crate::Arguments;
 use crate::setup::{identifier, is_extended};
-use crate::simple::{number, word};
 use driver::{Call, Header};
 
 // Whether a flag's bit is in the number of the flags.
@@ -21,13 +21,13 @@ pub fn header_of(id: u64, flags: u64) -> Header {
 }
 
 // The row's call: push, transmit, has_next, peek, get.
-pub fn fifo_call(row: usize, a: &[u64], payload: &[u8]) -> Call {
-    let header = header_of(number(a, 1), number(a, 2));
+pub fn fifo_call(row: usize, a: Arguments<'_>) -> Call {
+    let header = header_of(a.number(1), a.number(2));
     match row {
-        20 => driver::push(word(a, 0), header, word(a, 3), payload),
-        21 => driver::transmit(word(a, 0), header, word(a, 3), payload),
-        22 => driver::has_next(word(a, 0)),
-        23 => driver::peek(word(a, 0), crate::ROOM),
-        _ => driver::get(word(a, 0), crate::ROOM),
+        20 => driver::push(a.word(0), header, a.word(3), a.bytes),
+        21 => driver::transmit(a.word(0), header, a.word(3), a.bytes),
+        22 => driver::has_next(a.word(0)),
+        23 => driver::peek(a.word(0), crate::ROOM),
+        _ => driver::get(a.word(0), crate::ROOM),
     }
 }

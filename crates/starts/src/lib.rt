@@ -2,6 +2,7 @@
 // its parameter becomes the parameter's largest, which the call refuses by the same number.
 #![tactic(auto)]
 
+mod arguments;
 mod fifos;
 mod plans;
 mod queue;
@@ -9,9 +10,9 @@ mod scrubbing;
 mod setup;
 mod simple;
 
+pub use arguments::Arguments;
 use driver::Call;
 pub use fifos::header_of;
-pub use simple::{number, word};
 
 // The buffer that is lent to a RAM read, a peek and a get.
 pub const ROOM: usize = 2048;
@@ -22,22 +23,14 @@ pub const SCRUB: usize = 25;
 // Which number of a call is the place that a scrub starts at. No row has so many arguments: it is 0 where nobody puts another there.
 pub const PLACE: usize = 23;
 
-// The call of a row, `lent` being the bytes of its last argument.
-pub fn start(row: usize, a: &[u64], lent: &[u8]) -> Call {
-    if row < 5 {
-        return simple::register(row, a);
+// The call of a row.
+pub fn start(row: usize, a: Arguments<'_>) -> Call {
+    match row {
+        0..=4 => simple::register(row, a),
+        5..=7 => simple::ram(row, a),
+        8..=19 => plans::plan(row, a),
+        20..=24 => fifos::fifo_call(row, a),
+        SCRUB => scrubbing::scrub_call(a),
+        _ => queue::queue_call(row, a),
     }
-    if row < 8 {
-        return simple::ram(row, a, lent.len());
-    }
-    if row < 20 {
-        return plans::plan(row, a);
-    }
-    if row < SCRUB {
-        return fifos::fifo_call(row, a, lent);
-    }
-    if row == SCRUB {
-        return scrubbing::scrub_call(a, lent);
-    }
-    queue::queue_call(row, a, lent)
 }

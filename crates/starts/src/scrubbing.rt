@@ -1,41 +1,32 @@
 // A scrub, from the bytes that its line's entries are.
-ghost use Rattle.std.specs.Prelude.{◌≡◌, ◌≤◌, take};
+ghost use Rattle.std.specs.Prelude.{◌≡◌, ◌≤◌, length, take};
 ghost use Rattle.driver.specs.Calls.{Scrub, started};
 ghost use Rattle.driver.specs.Numbers.{call_of};
 
-use crate::simple::number;
+use crate::Arguments;
 use driver::{Call, Scrubber, Watch};
 
-// Entry k, with its words as `spoken` puts them; all 0 where the list is shorter.
-fn entry(lent: &[u8], k: usize) -> Watch {
-    if k < 256 {
-        let at = 12 * k;
-        if at + 12 <= lent.len() {
-            return Watch {
-                address: words::le_at(lent, at),
-                wanted: words::le_at(lent, at + 4),
-                care: words::le_at(lent, at + 8),
-            };
-        }
-    }
+// An entry, with its words as `spoken` puts them.
+fn entry(bytes: &[u8]) -> Watch
+    requires { 12 ≤ length bytes.now }
+{
     Watch {
-        address: 0,
-        wanted: 0,
-        care: 0,
+        address: words::le_at(bytes, 0),
+        wanted: words::le_at(bytes, 4),
+        care: words::le_at(bytes, 8),
     }
 }
 
-fn list_of(lent: &[u8]) -> [Watch; 256] {
+// All 0 behind the entries that there are.
+fn list_of(bytes: &[u8]) -> [Watch; 256] {
     let none = Watch {
         address: 0,
         wanted: 0,
         care: 0,
     };
     let mut list = [none; 256];
-    let mut k = 0;
-    while k < 256 {
-        list[k] = entry(lent, k);
-        k += 1;
+    for (place, bytes) in list.iter_mut().zip(bytes.chunks_exact(12)) {
+        *place = entry(bytes);
     }
     list
 }
@@ -44,7 +35,7 @@ fn list_of(lent: &[u8]) -> [Watch; 256] {
 fn size_of(n: usize) -> usize
     ensures { result ≤ 256 }
 {
-    if n < 3072 { n / 12 } else { 256 }
+    (n / 12).min(256)
 }
 
 // The one place where a list is lent, with nothing else in it.
@@ -56,9 +47,9 @@ fn scrub_front(s: Scrubber, list: [Watch; 256], n: usize, rewrite: bool) -> Call
 }
 
 // One step, from the place that is among the numbers.
-pub fn scrub_call(a: &[u64], lent: &[u8]) -> Call {
+pub fn scrub_call(a: Arguments<'_>) -> Call {
     let s = Scrubber {
-        place: number(a, crate::PLACE) as usize,
+        place: a.number(crate::PLACE) as usize,
     };
-    scrub_front(s, list_of(lent), size_of(lent.len()), number(a, 0) == 1)
+    scrub_front(s, list_of(a.bytes), size_of(a.bytes.len()), a.is_on(0))
 }

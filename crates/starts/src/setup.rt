@@ -3,7 +3,7 @@
 ghost use Rattle.std.specs.Prelude.{◌≡◌, ◌≤◌, ◌<◌, ltb};
 ghost use Rattle.bit_timing.specs.Signed.{is_small, seven_of};
 
-use crate::simple::{number, word};
+use crate::Arguments;
 use bit_timing::signed;
 use driver::{
     BitTimeConfiguration, Call, DataBitTime, FifoConfiguration, FifoMode, FilterConfiguration,
@@ -11,57 +11,39 @@ use driver::{
     Settings, TxFifo,
 };
 
-pub fn is_on(a: &[u64], k: usize) -> bool {
-    number(a, k) == 1
-}
-
-// Whether the arguments from `from` up to `to` are each 0 or 1.
-pub fn are_flags(a: &[u64], from: usize, to: usize) -> bool
-    requires { from ≤ to }
-{
-    let mut i = from;
-    while i < to {
-        if 1 < number(a, i) {
-            return false;
-        }
-        i += 1;
-    }
-    true
-}
-
 // A call that is refused 24: there is no mode 8.
 fn unsettable() -> Call {
     driver::set_op_mode(8)
 }
 
-fn oscillator(a: &[u64]) -> OscillatorConfiguration {
+fn oscillator(a: Arguments<'_>) -> OscillatorConfiguration {
     OscillatorConfiguration {
-        pll: is_on(a, 0),
-        divide: is_on(a, 1),
+        pll: a.is_on(0),
+        divide: a.is_on(1),
     }
 }
 
-pub fn oscillator_call(a: &[u64]) -> Call {
-    if are_flags(a, 0, 2) {
+pub fn oscillator_call(a: Arguments<'_>) -> Call {
+    if a.are_flags(0, 2) {
         return driver::configure_osc(oscillator(a));
     }
     unsettable()
 }
 
 // Four arguments from k on.
-fn io(a: &[u64], k: usize) -> IoConfiguration
+fn io(a: Arguments<'_>, k: usize) -> IoConfiguration
     requires { k ≤ 20 }
 {
     IoConfiguration {
-        xstbyen: is_on(a, k),
-        txcanod: is_on(a, k + 1),
-        sof: is_on(a, k + 2),
-        intod: is_on(a, k + 3),
+        xstbyen: a.is_on(k),
+        txcanod: a.is_on(k + 1),
+        sof: a.is_on(k + 2),
+        intod: a.is_on(k + 3),
     }
 }
 
-pub fn io_call(a: &[u64]) -> Call {
-    if are_flags(a, 0, 4) {
+pub fn io_call(a: Arguments<'_>) -> Call {
+    if a.are_flags(0, 4) {
         return driver::configure_io(io(a, 0));
     }
     unsettable()
@@ -75,21 +57,21 @@ fn offset(n: u32) -> i32
 }
 
 // Nine arguments from k on.
-pub fn bit_time(a: &[u64], k: usize) -> BitTimeConfiguration
+pub fn bit_time(a: Arguments<'_>, k: usize) -> BitTimeConfiguration
     requires { k ≤ 20 }
 {
     let n = NominalBitTime {
-        brp: word(a, k),
-        tseg1: word(a, k + 1),
-        tseg2: word(a, k + 2),
-        sjw: word(a, k + 3),
+        brp: a.word(k),
+        tseg1: a.word(k + 1),
+        tseg2: a.word(k + 2),
+        sjw: a.word(k + 3),
     };
     let d = DataBitTime {
-        brp: word(a, k + 4),
-        tseg1: word(a, k + 5),
-        tseg2: word(a, k + 6),
-        sjw: word(a, k + 7),
-        tdco: offset(word(a, k + 8)),
+        brp: a.word(k + 4),
+        tseg1: a.word(k + 5),
+        tseg2: a.word(k + 6),
+        sjw: a.word(k + 7),
+        tdco: offset(a.word(k + 8)),
     };
     BitTimeConfiguration {
         nominal: n,
@@ -98,25 +80,20 @@ pub fn bit_time(a: &[u64], k: usize) -> BitTimeConfiguration
 }
 
 // The yes or no of `configure`: arguments 0 to 5, 15 and 17 to 19.
-fn configure_flags(a: &[u64]) -> bool {
-    if are_flags(a, 0, 6) {
-        if are_flags(a, 15, 16) {
-            return are_flags(a, 17, 20);
-        }
-    }
-    false
+fn configure_flags(a: Arguments<'_>) -> bool {
+    a.are_flags(0, 6) && a.are_flags(15, 16) && a.are_flags(17, 20)
 }
 
-pub fn configure_call(a: &[u64]) -> Call {
+pub fn configure_call(a: Arguments<'_>) -> Call {
     let s = Settings {
         oscillator: oscillator(a),
         io: io(a, 2),
         bittime: bit_time(a, 6),
-        counter: is_on(a, 15),
-        dncnt: word(a, 16),
-        canerrors: is_on(a, 17),
-        spierror: is_on(a, 18),
-        eccerror: is_on(a, 19),
+        counter: a.is_on(15),
+        dncnt: a.word(16),
+        canerrors: a.is_on(17),
+        spierror: a.is_on(18),
+        eccerror: a.is_on(19),
     };
     if configure_flags(a) {
         return driver::configure(s);
@@ -130,37 +107,37 @@ pub fn spoilt(good: bool, n: u32) -> u32 {
 }
 
 // Size, payload size and mode; `good` is whether every yes or no of the mode is one.
-fn fifo_call(a: &[u64], good: bool, mode: FifoMode) -> Call {
+fn fifo_call(a: Arguments<'_>, good: bool, mode: FifoMode) -> Call {
     let c = FifoConfiguration {
-        size: word(a, 1),
-        plsize: spoilt(good, word(a, 2)),
+        size: a.word(1),
+        plsize: spoilt(good, a.word(2)),
         mode: mode,
     };
-    driver::configure_fifo(word(a, 0), c)
+    driver::configure_fifo(a.word(0), c)
 }
 
-pub fn tx_call(a: &[u64]) -> Call {
+pub fn tx_call(a: Arguments<'_>) -> Call {
     let t = TxFifo {
-        txpri: word(a, 4),
-        txat: word(a, 5),
-        rtren: is_on(a, 6),
-        txatie: is_on(a, 7),
-        empty: is_on(a, 8),
-        half: is_on(a, 9),
-        notfull: is_on(a, 10),
+        txpri: a.word(4),
+        txat: a.word(5),
+        rtren: a.is_on(6),
+        txatie: a.is_on(7),
+        empty: a.is_on(8),
+        half: a.is_on(9),
+        notfull: a.is_on(10),
     };
-    fifo_call(a, are_flags(a, 6, 11), FifoMode::Transmit(t))
+    fifo_call(a, a.are_flags(6, 11), FifoMode::Transmit(t))
 }
 
-pub fn rx_call(a: &[u64]) -> Call {
+pub fn rx_call(a: Arguments<'_>) -> Call {
     let r = RxFifo {
-        rxtsen: is_on(a, 4),
-        rxovie: is_on(a, 5),
-        full: is_on(a, 6),
-        half: is_on(a, 7),
-        notempty: is_on(a, 8),
+        rxtsen: a.is_on(4),
+        rxovie: a.is_on(5),
+        full: a.is_on(6),
+        half: a.is_on(7),
+        notempty: a.is_on(8),
     };
-    fifo_call(a, are_flags(a, 4, 9), FifoMode::Receive(r))
+    fifo_call(a, a.are_flags(4, 9), FifoMode::Receive(r))
 }
 
 fn filter_mode(n: u64) -> FilterMode {
@@ -187,12 +164,12 @@ fn filter_identifier(n: u64) -> Identifier {
     }
 }
 
-pub fn filter_call(a: &[u64]) -> Call {
+pub fn filter_call(a: Arguments<'_>) -> Call {
     let c = FilterConfiguration {
-        fifo: word(a, 1),
-        mode: filter_mode(number(a, 2)),
-        object: filter_identifier(number(a, 3)),
-        mask: filter_identifier(number(a, 4)),
+        fifo: a.word(1),
+        mode: filter_mode(a.number(2)),
+        object: filter_identifier(a.number(3)),
+        mask: filter_identifier(a.number(4)),
     };
-    driver::configure_filter(word(a, 0), c)
+    driver::configure_filter(a.word(0), c)
 }

@@ -4,185 +4,118 @@
 // call that is not understood go to no call.
 #![tactic(auto)]
 
+use driver::Call;
 use items::Item;
-use output::{Streams, write_line};
-use port::Step;
-use reading::{Line, Reader};
+use lines::Writer;
+use output::Streams;
 use spoken::{Fault, Spoken};
-use std::rt::{Stderr, Stdin, Stdout};
+use starts::Arguments;
 
-// What the call does now. A wait is not written here: its line comes with the answers.
-fn show(stdout: Stdout, s: &[u8]) {
-    if 0 < s.len() {
-        if s[0] != b'w' {
-            write_line(stdout, s);
-        }
-    }
+#[derive(Drop)]
+struct Talks<'a> {
+    to: Streams,
+    call: Call,
+    // The number of the line that was read last, counted from 1.
+    number: u64,
+    // Whether the last call's line was understood; how many bytes it has, and how many the call reads from RAM.
+    open: bool,
+    sent: usize,
+    read: Option<usize>,
+    // The numbers and the bytes of the call's line, and the bytes that came.
+    numbers: [u64; 24],
+    lent: [u8; 4200],
+    rx: [u8; 4200],
+    // What the call does now.
+    out: Writer<'a>,
 }
 
-fn is_step(step: Step) -> bool {
-    match step {
-        Step::Stay => false,
-        _ => true,
-    }
-}
-
-fn got_of(item: Result<Item, Fault>) -> usize {
+fn got_of(item: Item) -> usize {
     match item {
-        Ok(Item::Got(n)) => n,
+        Item::Got(n) => n,
         _ => 0,
     }
 }
 
-// The number of the line that was read last, counted from 1; whether the last call's line was understood; how many bytes it has, and
-// one more than the call reads from RAM.
-#[derive(Clone, Copy)]
-struct Place {
-    number: u64,
-    open: bool,
-    sent: usize,
-    read: usize,
-}
-
-fn begin() -> Place {
-    Place {
-        number: 0,
-        open: false,
-        sent: 0,
-        read: 0,
-    }
-}
-
-fn called(p: Place, heard: Result<Spoken, Fault>, numbers: &[u64]) -> Place {
-    let mut q = p;
-    match heard {
-        Ok(spoken) => {
-            q.open = true;
-            q.sent = spoken.count;
-            q.read = classes::read_of(classes::called(spoken.row, numbers));
-        }
-        Err(_) => q.open = false,
-    }
-    q
-}
-
-fn next(
-    p: Place,
-    item: Result<Item, Fault>,
-    heard: Result<Spoken, Fault>,
-    numbers: &[u64],
-) -> Place {
-    let mut q = p;
-    q.number = output::one_more(p.number);
-    match item {
-        Ok(Item::Call) => called(q, heard, numbers),
-        _ => q,
-    }
-}
-
-// What is wrong with a line, if anything is.
-#[derive(Clone, Copy)]
-enum Verdict {
-    Good,
-    Bad(Fault),
-}
-
-fn call_judged(heard: Result<Spoken, Fault>) -> Verdict {
-    match heard {
-        Ok(_) => Verdict::Good,
-        Err(f) => Verdict::Bad(f),
-    }
-}
-
-fn answer_judged(open: bool) -> Verdict {
-    if open {
-        return Verdict::Good;
-    }
-    Verdict::Bad(Fault::Alone)
-}
-
-fn judged(open: bool, item: Result<Item, Fault>, heard: Result<Spoken, Fault>) -> Verdict {
-    match item {
-        Ok(Item::Blank) => Verdict::Good,
-        Ok(Item::Call) => call_judged(heard),
-        Ok(Item::Got(_)) => answer_judged(open),
-        Ok(Item::Failed) => answer_judged(open),
-        Ok(Item::Wait) => answer_judged(open),
-        Err(f) => Verdict::Bad(f),
-        _ => Verdict::Bad(Fault::Place),
-    }
-}
-
-fn step_of(j: Verdict, item: Result<Item, Fault>, heard: Result<Spoken, Fault>) -> Step {
-    match j {
-        Verdict::Good => port::step_of(item, heard),
-        Verdict::Bad(_) => Step::Stay,
-    }
-}
-
-fn told(stdout: Stdout, stderr: Stderr, p: Place, j: Verdict, line: &[u8]) {
-    match j {
-        Verdict::Good => write_line(stdout, line),
-        Verdict::Bad(f) => {
-            output::error(stdout, p.number);
-            faults::told(stderr, p.number, f, line);
+impl Talks<'_> {
+    fn called(&mut self, heard: Result<Spoken, Fault>) {
+        self.open = heard.is_ok();
+        if let Ok(spoken) = heard {
+            self.sent = spoken.count;
+            self.read = classes::read_of(classes::called(spoken.row, &self.numbers));
         }
     }
-}
 
-// A line at a time. No input has so many lines that the turns run out.
-fn run(
-    stdin: Stdin,
-    stdout: Stdout,
-    stderr: Stderr,
-    piece: &mut [u8; 65536],
-    buf: &mut [u8; 8192],
-    lent: &mut [u8; 4200],
-    rx: &mut [u8; 4200],
-    out: &mut [u8; 8192],
-    numbers: &mut [u64; 24],
-) {
-    let streams = Streams {
-        stdin,
-        stdout,
-        stderr,
-    };
-    let mut reader = Reader::new(streams, piece);
-    let mut p = begin();
-    let mut call = driver::reset();
-    for _ in 0..u64::MAX {
-        let Some(Line { text: line, long }) = reader.next_line(buf) else {
+    // What a line is, or what is wrong with it.
+    fn judged(&self, item: Item, heard: Result<Spoken, Fault>) -> Result<Item, Fault> {
+        match item {
+            Item::Blank => Ok(item),
+            Item::Call => heard.map(|_| item),
+            Item::Got(_) | Item::Failed | Item::Wait if self.open => Ok(item),
+            Item::Got(_) | Item::Failed | Item::Wait => Err(Fault::Alone),
+            _ => Err(Fault::Place),
+        }
+    }
+
+    // What the call does after this line, where it does something: a wait is not written here, since its line comes with the answers.
+    fn moved(&mut self, item: Item, heard: Result<Spoken, Fault>) {
+        let Some(step) = port::step_of(Ok(item), heard) else {
             return;
         };
-        let item = items::item_of(line, long, rx);
-        let heard = judge::hear(item, line, long, numbers, lent);
-        let got = got_of(item);
-        p = next(p, item, heard, numbers);
-        let j = judged(p.open, item, heard);
-        let step = step_of(j, item, heard);
-        call = port::moved(call, step, numbers, lent, p.sent, rx, got);
-        let n = port::line(call, is_step(step), p.read, lent, p.sent, rx, got, out);
-        told(stdout, stderr, p, j, line);
-        show(stdout, text::front(out, n));
+        let sent = text::front(&self.lent, self.sent);
+        let rx = text::front(&self.rx, got_of(item));
+        let a = Arguments {
+            numbers: &self.numbers,
+            bytes: sent,
+        };
+        self.call = port::moved(self.call, step, a, rx);
+        self.out.clear();
+        port::put_line(self.call, self.read, sent, rx, &mut self.out);
+        if self.out.text().first() != Some(&b'w') {
+            self.to.write_line(self.out.text());
+        }
+    }
+
+    fn refused(&self, fault: Fault, line: &[u8]) {
+        self.to.error(self.number);
+        faults::told(self.to.stderr, self.number, fault, line);
+    }
+
+    fn line(&mut self, line: &[u8], long: bool) {
+        let item = items::item_of(line, long, &mut self.rx);
+        let heard = judge::hear(item, line, long, &mut self.numbers, &mut self.lent);
+        self.number = self.number.saturating_add(1);
+        if let Ok(Item::Call) = item {
+            self.called(heard);
+        }
+        match item.and_then(|item| self.judged(item, heard)) {
+            Ok(item) => {
+                self.to.write_line(line);
+                self.moved(item, heard);
+            }
+            Err(fault) => self.refused(fault, line),
+        }
     }
 }
 
 fn main(rt: HostRuntime) {
-    let mut piece = io::large_buffer();
-    let mut buf = [0u8; 8192];
-    let mut lent = [0u8; 4200];
-    let mut rx = [0u8; 4200];
+    let to = Streams {
+        stdin: rt.stdin(),
+        stdout: rt.stdout(),
+        stderr: rt.stderr(),
+    };
+    let mut buffer = [0u8; 8192];
     let mut out = [0u8; 8192];
-    let mut numbers = [0u64; 24];
-    run(
-        rt.stdin(),
-        rt.stdout(),
-        rt.stderr(),
-        &mut piece,
-        &mut buf,
-        &mut lent,
-        &mut rx,
-        &mut out,
-        &mut numbers,
-    );
+    let mut talks = Talks {
+        to,
+        call: driver::reset(),
+        number: 0,
+        open: false,
+        sent: 0,
+        read: None,
+        numbers: [0u64; 24],
+        lent: [0u8; 4200],
+        rx: [0u8; 4200],
+        out: Writer::new(&mut out),
+    };
+    reading::each_line(to, &mut buffer, |line, long| talks.line(line, long));
 }

@@ -1,0 +1,65 @@
+// How many cases there are of each kind.
+use output::Streams;
+
+// Those that agree, of each class of those outside, and those that differ.
+#[derive(Clone, Copy)]
+pub struct Counts {
+    agree: u64,
+    outside: [u64; 8],
+    differ: u64,
+}
+
+fn tell_class(to: Streams, k: usize, n: u64) {
+    to.write(b"outside ");
+    to.write(text::word(b"- 24 25 35 D1 D2 D3 absent", k));
+    to.write(b": ");
+    to.number(n);
+    to.write(b"\n");
+}
+
+impl Counts {
+    pub fn new() -> Counts {
+        Counts {
+            agree: 0,
+            outside: [0u64; 8],
+            differ: 0,
+        }
+    }
+
+    pub fn agree(&mut self) {
+        self.agree = self.agree.saturating_add(1);
+    }
+
+    pub fn outside(&mut self, class: u8) {
+        if let Some(n) = self.outside.get_mut(class as usize) {
+            *n = n.saturating_add(1);
+        }
+    }
+
+    pub fn differ(&mut self) {
+        self.differ = self.differ.saturating_add(1);
+    }
+
+    // The classes outside that there are, each with its count; and how many cases there are.
+    pub fn tell(&self, to: Streams) {
+        let mut outside: u64 = 0;
+        for (k, n) in self.outside.iter().enumerate() {
+            if 0 < *n {
+                tell_class(to, k, *n);
+            }
+            outside = outside.saturating_add(*n);
+        }
+        to.number(
+            self.agree
+                .saturating_add(self.differ)
+                .saturating_add(outside),
+        );
+        to.write(b" cases, ");
+        to.number(self.agree);
+        to.write(b" agree, ");
+        to.number(self.differ);
+        to.write(b" differ, ");
+        to.number(outside);
+        to.write(b" outside\n");
+    }
+}
