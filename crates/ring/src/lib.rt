@@ -5,11 +5,10 @@ mod layout;
 pub mod queue;
 mod readings;
 mod ring;
+mod slots;
 
 pub use layout::{end, size, slot_at, stamped};
 pub use queue::Queue;
 pub use readings::{control, control_word, status};
-pub use ring::{
-    Fifo, claimed, commanded, configured, depth, fresh, overflowed, place, sending, sent, shown,
-    turned,
-};
+pub use ring::{Fifo, claimed, depth, overflowed, place, sending, sent, shown};
+pub use slots::{Slots, commanded, configured, turned};

@@ -1,12 +1,11 @@
 // The transmit queue: its slots are held in any order, and one is shown. `frozen` is its control word as last written in Configuration.
-ghost use Rattle.std.specs.Prelude.{◌≡◌, ◌&&◌, not, ◌≤◌, ◌<◌, eqb, get_or, set, if◌then◌else◌};
-ghost use Rattle.field.specs.Field.{flag};
-ghost use Rattle.fifo.specs.Control.{UINC};
-ghost use Rattle.ring.specs.Queue.{first_not, free, full, empty, status, fresh, controlled, emptied, marked, showing, claimed, freed, sent, configured, commanded, turned, rank_of};
+ghost use Rattle.std.specs.Prelude.{◌≡◌, not, ◌≤◌, ◌<◌, eqb, get_or, set, if◌then◌else◌};
+ghost use Rattle.ring.specs.Queue.{first_not, free, full, empty, status, fresh, controlled, marked, claimed, freed, sent, configured, commanded, turned, rank_of};
+ghost use Rattle.ring.specs.Slots.{queue_word, queue_increased, queue_configures, queue_commands, queue_enters, queue_leaves};
 
 use crate::depth;
-use crate::ring::{kept, without_txreq};
-use fifo::{ControlWord, FifoControl, FifoStatus};
+use crate::slots::{Slots, without_txreq};
+use fifo::FifoStatus;
 
 #[derive(Clone, Copy)]
 pub struct Queue {
@@ -20,53 +19,42 @@ pub struct Queue {
 
 // ---- what is held
 
-// Slot k is held, or with `on` false is free.
-fn is(held: [u8; 32], on: bool, k: u32) -> bool
-    requires { k < 32 }
-    ensures { result ≡ (if on then eqb (get_or held k 0) 1 else not (eqb (get_or held k 0) 1)) }
-{
-    if on {
-        return held[k as usize] == 1;
-    }
-    held[k as usize] != 1
-}
-
-// How many slots come before the first that is not so.
-fn run(held: [u8; 32], on: bool, depth: u32) -> u32
+// How many slots come before the first that is not held, or with `on` false is held.
+fn run(held: &[u8; 32], on: bool, depth: u32) -> u32
     requires { depth ≤ 32 }
-    ensures { (result ≡ first_not (λ k. if on then eqb (get_or held k 0) 1 else not (eqb (get_or held k 0) 1)) 0 depth) × (result ≤ depth) }
+    ensures { (result ≡ first_not (λ k. if on then eqb (get_or held.now k 0) 1 else not (eqb (get_or held.now k 0) 1)) 0 depth) × (result ≤ depth) }
 {
-    let mut k = 0;
-    while k < depth {
-        if !is(held, on, k) {
+    for k in 0..depth {
+        if (held[k as usize] == 1) != on {
             return k;
         }
-        k += 1;
     }
     depth
 }
 
+#[tactic(auto, unfolding(crate::specs::Queue::free))]
 pub fn free(frozen: u32, q: Queue) -> u8
     ensures { (result ≡ free frozen q) × (result ≤ 32) }
 {
-    let held = q.held;
-    run(held, true, depth(frozen)) as u8
+    run(&q.held, true, depth(frozen)) as u8
 }
 
+#[tactic(auto, unfolding(crate::specs::Queue::full))]
 pub fn full(frozen: u32, q: Queue) -> bool
     ensures { result ≡ full frozen q }
 {
     depth(frozen) <= free(frozen, q) as u32
 }
 
+#[tactic(auto, unfolding(crate::specs::Queue::empty))]
 pub fn empty(frozen: u32, q: Queue) -> bool
     ensures { result ≡ empty frozen q }
 {
-    let held = q.held;
     let d = depth(frozen);
-    d <= run(held, false, d)
+    d <= run(&q.held, false, d)
 }
 
+#[tactic(auto, unfolding(crate::specs::Queue::status))]
 pub fn status(frozen: u32, q: Queue) -> u32
     ensures { result ≡ status frozen q }
 {
@@ -75,33 +63,6 @@ pub fn status(frozen: u32, q: Queue) -> u32
 }
 
 // ---- changes
-
-pub fn fresh(control: u32) -> Queue
-    ensures { result ≡ fresh control }
-{
-    Queue {
-        control: control,
-        held: [0u8; 32],
-        shown: 0,
-    }
-}
-
-fn controlled(w: u32, q: Queue) -> Queue
-    ensures { result ≡ controlled w q }
-{
-    let held = q.held;
-    Queue {
-        control: w,
-        held: held,
-        shown: q.shown,
-    }
-}
-
-fn emptied(q: Queue) -> Queue
-    ensures { result ≡ emptied q }
-{
-    fresh(without_txreq(q.control))
-}
 
 // The flags with slot k's; there is none behind slot 31.
 fn flagged(held: [u8; 32], k: u8, on: u8) -> [u8; 32]
@@ -114,28 +75,17 @@ fn flagged(held: [u8; 32], k: u8, on: u8) -> [u8; 32]
     flags
 }
 
+#[tactic(auto, unfolding(crate::specs::Queue::marked))]
 fn marked(q: Queue) -> Queue
     ensures { result ≡ marked q }
 {
-    let held = q.held;
     Queue {
-        control: q.control,
-        held: flagged(held, q.shown, 1),
-        shown: q.shown,
+        held: flagged(q.held, q.shown, 1),
+        ..q
     }
 }
 
-fn showing(k: u8, q: Queue) -> Queue
-    ensures { result ≡ showing k q }
-{
-    let held = q.held;
-    Queue {
-        control: q.control,
-        held: held,
-        shown: k,
-    }
-}
-
+#[tactic(auto, unfolding(crate::specs::Queue::claimed, crate::specs::Queue::showing))]
 pub fn claimed(frozen: u32, q: Queue) -> Queue
     ensures { result ≡ claimed frozen q }
 {
@@ -146,7 +96,10 @@ pub fn claimed(frozen: u32, q: Queue) -> Queue
     if full(frozen, m) {
         return m;
     }
-    showing(free(frozen, m), m)
+    Queue {
+        shown: free(frozen, m),
+        ..m
+    }
 }
 
 // The slot shown once slot k is free.
@@ -159,79 +112,81 @@ fn next(frozen: u32, k: u8, q: Queue) -> u8
     q.shown
 }
 
+#[tactic(auto, unfolding(crate::specs::Queue::freed))]
 pub fn freed(frozen: u32, k: u8, q: Queue) -> Queue
     ensures { result ≡ freed frozen k q }
 {
-    let held = q.held;
     Queue {
-        control: q.control,
-        held: flagged(held, k, 0),
+        held: flagged(q.held, k, 0),
         shown: next(frozen, k, q),
+        ..q
     }
 }
 
+#[tactic(auto, unfolding(crate::specs::Queue::sent))]
 pub fn sent(frozen: u32, k: u8, q: Queue) -> Queue
     ensures { result ≡ sent frozen k q }
 {
     let f = freed(frozen, k, q);
     if empty(frozen, f) {
-        return controlled(without_txreq(q.control), f);
+        return f.controlled(without_txreq(q.control));
     }
     f
 }
 
-// ---- the control word written
+impl Slots for Queue {
+    ghost word_of = { queue_word };
 
-pub fn configured(w: u32, q: Queue) -> Queue
-    ensures { result ≡ configured w q }
-{
-    controlled(FifoControl(w).with_uinc(false).0, q)
-}
+    ghost fresh_of = { fresh };
 
-// UINC takes effect where the queue is on.
-fn claims(on: bool, w: u32) -> bool
-    ensures { result ≡ (on && flag UINC w) }
-{
-    if on {
-        return FifoControl(w).uinc();
+    ghost controlled_by = { controlled };
+
+    ghost increased_by = { queue_increased };
+
+    ghost configured_by = { configured };
+
+    ghost commanded_by = { commanded };
+
+    ghost turned_by = { turned };
+
+    ghost configures = { queue_configures };
+
+    ghost commands = { queue_commands };
+
+    ghost enters = { queue_enters };
+
+    ghost leaves = { queue_leaves };
+
+    fn word(self) -> u32 {
+        self.control
     }
-    false
-}
 
-fn claimed_if(claims: bool, frozen: u32, q: Queue) -> Queue
-    ensures { result ≡ (if claims then claimed frozen q else q) }
-{
-    if claims {
-        return claimed(frozen, q);
+    #[tactic(auto, unfolding(crate::specs::Queue::fresh))]
+    fn fresh(word: u32) -> Queue {
+        Queue {
+            control: word,
+            held: [0; 32],
+            shown: 0,
+        }
     }
-    q
-}
 
-pub fn commanded(on: bool, frozen: u32, w: u32, q: Queue) -> Queue
-    ensures { result ≡ commanded on frozen w q }
-{
-    let p = claimed_if(claims(on, w), frozen, controlled(kept(w), q));
-    if FifoControl(w).freset() {
-        return emptied(p);
+    #[tactic(auto, unfolding(crate::specs::Queue::controlled))]
+    fn controlled(self, word: u32) -> Queue {
+        Queue {
+            control: word,
+            ..self
+        }
     }
-    p
-}
 
-pub fn turned(entering: bool, q: Queue) -> Queue
-    ensures { result ≡ turned entering q }
-{
-    if entering {
-        return emptied(q);
+    fn increased(self, on: bool, frozen: u32) -> Queue {
+        if on { claimed(frozen, self) } else { self }
     }
-    controlled(FifoControl(q.control).with_freset(false).0, q)
 }
 
 // ---- arbitration
 
-// What stands for no slot.
-pub const NO_SLOT: u8 = 32;
-
 // Two header words as one number, the smallest of which wins.
+#[tactic(auto, unfolding(crate::specs::Queue::rank_of))]
 pub fn rank_of(w0: u32, w1: u32) -> u32
     ensures { result ≡ rank_of w0 w1 }
 {

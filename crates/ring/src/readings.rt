@@ -6,6 +6,7 @@ ghost use Rattle.ring.specs.Registers.{frozen_fields, copied, control, ready, ed
 use crate::{Fifo, depth, sending};
 use fifo::{ControlWord, FifoControl, FifoStatus};
 
+#[tactic(auto, using(crate::proofs::Words::digit_bit))]
 // A control word as it reads: `last` is what was last written.
 pub fn control_word(frozen: u32, last: u32) -> u32
     ensures { result ≡ copied frozen_fields frozen last }
@@ -18,12 +19,14 @@ pub fn control_word(frozen: u32, last: u32) -> u32
         .0
 }
 
+#[tactic(auto, unfolding(crate::specs::Registers::control))]
 pub fn control(frozen: u32, f: Fifo) -> u32
     ensures { result ≡ control frozen f }
 {
     control_word(frozen, f.control)
 }
 
+#[tactic(auto, unfolding(crate::specs::Registers::ready))]
 fn ready(frozen: u32, f: Fifo) -> bool
     ensures { result ≡ ready frozen f }
 {
@@ -33,6 +36,7 @@ fn ready(frozen: u32, f: Fifo) -> bool
     0 < f.count
 }
 
+#[tactic(auto, unfolding(crate::specs::Registers::edge))]
 fn edge(frozen: u32, f: Fifo) -> bool
     ensures { result ≡ edge frozen f }
 {
@@ -51,6 +55,7 @@ fn over(frozen: u32, f: Fifo) -> bool
     f.over
 }
 
+#[tactic(auto, unfolding(crate::specs::Registers::status))]
 pub fn status(frozen: u32, f: Fifo) -> u32
     ensures { result ≡ status frozen f }
 {

@@ -1,11 +1,10 @@
 // One FIFO as a ring of slots. `frozen` is its control word as last written in Configuration.
-ghost use Rattle.std.specs.Prelude.{◌≡◌, [], ◌∷◌, ◌+◌, ◌≤◌, ◌<◌, if◌then◌else◌};
-ghost use Rattle.field.specs.Field.{write};
-ghost use Rattle.field.specs.Settings.{◌:=◌, settings};
-ghost use Rattle.fifo.specs.Control.{UINC, FRESET, TXREQ};
-ghost use Rattle.ring.specs.Ring.{sending, depth, place, shown, claimed, taken, increased, controlled, overflowed, emptied, sent, configured, commanded, turned, fresh};
+ghost use Rattle.std.specs.Prelude.{◌≡◌, ◌+◌, ◌≤◌, ◌<◌};
+ghost use Rattle.ring.specs.Ring.{sending, depth, place, shown, claimed, taken, increased, controlled, overflowed, sent, configured, commanded, turned, fresh};
+ghost use Rattle.ring.specs.Slots.{fifo_word, fifo_configures, fifo_commands, fifo_enters, fifo_leaves};
 
-use fifo::{ControlWord, FifoControl};
+use crate::slots::{Slots, without_txreq};
+use fifo::FifoControl;
 
 #[derive(Clone, Copy)]
 pub struct Fifo {
@@ -18,28 +17,29 @@ pub struct Fifo {
     pub over: bool,
 }
 
+#[tactic(auto, unfolding(crate::specs::Ring::sending))]
 pub fn sending(frozen: u32) -> bool
     ensures { result ≡ sending frozen }
 {
     FifoControl(frozen).txen()
 }
 
+#[tactic(auto, unfolding(crate::specs::Ring::depth))]
 pub fn depth(frozen: u32) -> u32
     ensures { (result ≡ depth frozen) × (1 ≤ result) × (result ≤ 32) }
 {
     FifoControl(frozen).fifo_size()
 }
 
+#[tactic(auto, unfolding(crate::specs::Ring::place))]
 pub fn place(depth: u32, head: u8, k: u8) -> u32
     ensures { (result ≡ place depth head k) × (result ≤ head + k) }
 {
     let p = head as u32 + k as u32;
-    if p < depth {
-        return p;
-    }
-    p - depth
+    if p < depth { p } else { p - depth }
 }
 
+#[tactic(auto, unfolding(crate::specs::Ring::shown))]
 pub fn shown(frozen: u32, f: Fifo) -> u32
     ensures { (result ≡ shown frozen f) × (result ≤ 510) }
 {
@@ -50,19 +50,19 @@ pub fn shown(frozen: u32, f: Fifo) -> u32
     place(d, f.head, 0)
 }
 
+#[tactic(auto, unfolding(crate::specs::Ring::claimed))]
 pub fn claimed(f: Fifo) -> Fifo
     requires { f.count < 255 }
     ensures { result ≡ claimed f }
 {
     Fifo {
-        control: f.control,
-        head: f.head,
         count: f.count + 1,
-        over: f.over,
+        ..f
     }
 }
 
 // The ring's next place is below 256: there is one slot at least.
+#[tactic(auto, using(crate::proofs::Laws::place_below))]
 fn next(depth: u32, head: u8) -> u8
     requires { (1 ≤ depth) × (depth ≤ 32) }
     ensures { result ≡ place depth head 1 }
@@ -70,18 +70,19 @@ fn next(depth: u32, head: u8) -> u8
     place(depth, head, 1) as u8
 }
 
+#[tactic(auto, unfolding(crate::specs::Ring::taken))]
 fn taken(frozen: u32, f: Fifo) -> Fifo
     requires { 0 < f.count }
     ensures { result ≡ taken frozen f }
 {
     Fifo {
-        control: f.control,
         head: next(depth(frozen), f.head),
         count: f.count - 1,
-        over: f.over,
+        ..f
     }
 }
 
+#[tactic(auto, unfolding(crate::specs::Ring::increased))]
 fn increased(frozen: u32, f: Fifo) -> Fifo
     ensures { result ≡ increased frozen f }
 {
@@ -97,67 +98,11 @@ fn increased(frozen: u32, f: Fifo) -> Fifo
     f
 }
 
-fn increased_if(on: bool, frozen: u32, f: Fifo) -> Fifo
-    ensures { result ≡ (if on then increased frozen f else f) }
-{
-    if on {
-        return increased(frozen, f);
-    }
-    f
-}
-
-fn controlled(w: u32, f: Fifo) -> Fifo
-    ensures { result ≡ controlled w f }
-{
-    Fifo {
-        control: w,
-        head: f.head,
-        count: f.count,
-        over: f.over,
-    }
-}
-
+#[tactic(auto, unfolding(crate::specs::Ring::overflowed))]
 pub fn overflowed(over: bool, f: Fifo) -> Fifo
     ensures { result ≡ overflowed over f }
 {
-    Fifo {
-        control: f.control,
-        head: f.head,
-        count: f.count,
-        over: over,
-    }
-}
-
-pub fn without_txreq(w: u32) -> u32
-    ensures { result ≡ write TXREQ 0 w }
-{
-    FifoControl(w).with_txreq(false).0
-}
-
-pub fn fresh(control: u32) -> Fifo
-    ensures { result ≡ fresh control }
-{
-    Fifo {
-        control: control,
-        head: 0,
-        count: 0,
-        over: false,
-    }
-}
-
-fn emptied(f: Fifo) -> Fifo
-    ensures { result ≡ emptied f }
-{
-    fresh(without_txreq(f.control))
-}
-
-pub fn turned(entering: bool, f: Fifo) -> Fifo
-    ensures { result ≡ turned entering f }
-{
-    if entering {
-        return emptied(f);
-    }
-    controlled(FifoControl(f.control).with_freset(false).0, f)
+    Fifo { over: over, ..f }
 }
 
 #[tactic(auto, unfolding(crate::specs::Ring::sent))]
@@ -167,30 +112,58 @@ pub fn sent(frozen: u32, f: Fifo) -> Fifo
 {
     let g = taken(frozen, f);
     if f.count == 1 {
-        return controlled(without_txreq(f.control), g);
+        return g.controlled(without_txreq(f.control));
     }
     g
 }
 
-pub fn configured(w: u32, f: Fifo) -> Fifo
-    ensures { result ≡ configured w f }
-{
-    controlled(FifoControl(w).with_uinc(false).0, f)
-}
+impl Slots for Fifo {
+    ghost word_of = { fifo_word };
 
-// What is kept of a control word outside Configuration.
-pub fn kept(w: u32) -> u32
-    ensures { result ≡ settings (UINC := 0 ∷ FRESET := 0 ∷ []) w }
-{
-    FifoControl(w).with_uinc(false).with_freset(false).0
-}
+    ghost fresh_of = { fresh };
 
-pub fn commanded(frozen: u32, w: u32, f: Fifo) -> Fifo
-    ensures { result ≡ commanded frozen w f }
-{
-    let g = increased_if(FifoControl(w).uinc(), frozen, controlled(kept(w), f));
-    if FifoControl(w).freset() {
-        return emptied(g);
+    ghost controlled_by = { controlled };
+
+    ghost increased_by = { λ on. increased };
+
+    ghost configured_by = { configured };
+
+    ghost commanded_by = { λ on. commanded };
+
+    ghost turned_by = { turned };
+
+    ghost configures = { fifo_configures };
+
+    ghost commands = { fifo_commands };
+
+    ghost enters = { fifo_enters };
+
+    ghost leaves = { fifo_leaves };
+
+    fn word(self) -> u32 {
+        self.control
     }
-    g
+
+    #[tactic(auto, unfolding(crate::specs::Ring::fresh))]
+    fn fresh(word: u32) -> Fifo {
+        Fifo {
+            control: word,
+            head: 0,
+            count: 0,
+            over: false,
+        }
+    }
+
+    #[tactic(auto, unfolding(crate::specs::Ring::controlled))]
+    fn controlled(self, word: u32) -> Fifo {
+        Fifo {
+            control: word,
+            ..self
+        }
+    }
+
+    // A FIFO is always on.
+    fn increased(self, _on: bool, frozen: u32) -> Fifo {
+        increased(frozen, self)
+    }
 }

@@ -2,7 +2,7 @@
 // the RAM. FIFO n is entry n of an array.
 #![tactic(auto)]
 
-ghost use Rattle.std.specs.Prelude.{◌≡◌, min, length, get_or, set, take};
+ghost use Rattle.std.specs.Prelude.{◌≡◌, length, get_or, set, take};
 ghost use Rattle.parts.specs.Parts.{put};
 ghost use Rattle.state.specs.Model.{fixed₀, setup₀, reset, fifo_at, frozen_at, with_fixed, with_setup, with_fifo, with_queue, written};
 
@@ -15,7 +15,7 @@ use field::Register;
 use fifo::{FifoControl, TxQueueControl};
 use filter::{FilterControl, FilterMask, FilterObject};
 use interrupt::Interrupt;
-use ring::{Fifo, Queue};
+use ring::{Fifo, Queue, Slots};
 
 #[derive(Clone, Copy)]
 pub struct Fixed {
@@ -80,14 +80,15 @@ fn setup_reset() -> Setup
 }
 
 // After RESET, with this RAM.
+#[tactic(auto, unfolding(crate::specs::Model::reset))]
 pub fn reset(ram: [u8; 2048]) -> Model
     ensures { result ≡ reset ram }
 {
     Model {
         fixed: fixed_reset(),
         setup: setup_reset(),
-        fifo: [ring::fresh(FifoControl::RESET); 32],
-        queue: ring::queue::fresh(TxQueueControl::RESET),
+        fifo: [Fifo::fresh(FifoControl::RESET); 32],
+        queue: Queue::fresh(TxQueueControl::RESET),
         ram: ram,
     }
 }
@@ -96,77 +97,66 @@ pub fn reset(ram: [u8; 2048]) -> Model
 pub fn word_at(words: &[u32], k: usize) -> u32
     ensures { result ≡ get_or words.now k 0 }
 {
-    if k < words.len() {
-        return words[k];
-    }
-    0
+    words.get(k).copied().unwrap_or(0)
 }
 
 // A word of a list set, none where there is none.
 pub fn set_word(words: &mut [u32], k: usize, w: u32)
     ensures { words.new ≡ set words.old k w }
 {
-    if k < words.len() {
-        words[k] = w;
+    if let Some(word) = words.get_mut(k) {
+        *word = w;
     }
 }
 
+#[tactic(auto, unfolding(crate::specs::Model::fifo_at))]
 pub fn fifo_at(m: Model, n: u8) -> Fifo
     ensures { result ≡ fifo_at m n }
 {
     if n < 32 {
-        return m.fifo[n as usize];
+        m.fifo[n as usize]
+    } else {
+        Fifo::fresh(0)
     }
-    ring::fresh(0)
 }
 
+#[tactic(auto, unfolding(crate::specs::Model::frozen_at))]
 pub fn frozen_at(m: Model, n: u8) -> u32
     ensures { result ≡ frozen_at m n }
 {
-    let fixed = m.fixed;
-    let frozen = fixed.frozen;
-    word_at(&frozen, n as usize)
+    word_at(&m.fixed.frozen, n as usize)
 }
 
+#[tactic(auto, unfolding(crate::specs::Model::with_fixed))]
 pub fn with_fixed(m: Model, fixed: Fixed) -> Model
     ensures { result ≡ with_fixed m fixed }
 {
-    let mut d = m;
-    d.fixed = fixed;
-    d
+    Model { fixed: fixed, ..m }
 }
 
+#[tactic(auto, unfolding(crate::specs::Model::with_setup))]
 pub fn with_setup(m: Model, setup: Setup) -> Model
     ensures { result ≡ with_setup m setup }
 {
-    let mut d = m;
-    d.setup = setup;
-    d
+    Model { setup: setup, ..m }
 }
 
+#[tactic(auto, unfolding(crate::specs::Model::with_fifo))]
 pub fn with_fifo(m: Model, n: u8, f: Fifo) -> Model
     ensures { result ≡ with_fifo m n f }
 {
     let mut d = m;
     if n < 32 {
         d.fifo[n as usize] = f;
-        return d;
     }
-    m
-}
-
-pub fn with_queue(m: Model, q: Queue) -> Model
-    ensures { result ≡ with_queue m q }
-{
-    let mut d = m;
-    d.queue = q;
     d
 }
 
-fn least(a: usize, b: usize) -> usize
-    ensures { result ≡ min a b }
+#[tactic(auto, unfolding(crate::specs::Model::with_queue))]
+pub fn with_queue(m: Model, q: Queue) -> Model
+    ensures { result ≡ with_queue m q }
 {
-    if a < b { a } else { b }
+    Model { queue: q, ..m }
 }
 
 fn put_bytes(ram: [u8; 2048], at: usize, s: &[u8]) -> [u8; 2048]
@@ -176,17 +166,17 @@ fn put_bytes(ram: [u8; 2048], at: usize, s: &[u8]) -> [u8; 2048]
         return ram;
     }
     let mut b = ram;
-    let n = least(s.len(), 2048 - at);
+    let n = s.len().min(2048 - at);
     parts::put_at(&mut b, at, &s[..n]);
     b
 }
 
+#[tactic(auto, unfolding(crate::specs::Model::written))]
 pub fn written(m: Model, at: usize, s: &[u8]) -> Model
     ensures { result ≡ written m at s.now }
 {
-    let mut d = m;
-    let ram = m.ram;
-    let next = put_bytes(ram, at, s);
-    d.ram = next;
-    d
+    Model {
+        ram: put_bytes(m.ram, at, s),
+        ..m
+    }
 }
