@@ -1,4 +1,3 @@
-mod Turns
 pub mod Laws
 pub mod QueueLaws
 pub mod AllLaws

@@ -8,6 +8,7 @@ use configuration::CanControl;
 use place::Register;
 use state::{Model, fifo_at, frozen_at, word_at};
 
+#[tactic(auto, unfolding(crate::specs::Registers::mode_of))]
 fn mode(m: Model) -> u32
     ensures { (result ≡ mode_of m) × (result < 8) }
 {
@@ -17,6 +18,7 @@ fn mode(m: Model) -> u32
     CanControl(m.setup.con).reqop()
 }
 
+#[tactic(auto, unfolding(crate::specs::Registers::word_of))]
 fn con_word(m: Model) -> u32
     ensures { result ≡ word_of m Register.Con }
 {
@@ -26,6 +28,7 @@ fn con_word(m: Model) -> u32
         .0
 }
 
+#[tactic(auto, unfolding(crate::specs::Registers::word_of))]
 fn osc_word(m: Model) -> u32
     ensures { result ≡ word_of m Register.Osc }
 {
@@ -34,18 +37,15 @@ fn osc_word(m: Model) -> u32
 }
 
 // Where the slot that FIFO n shows begins in RAM.
+#[tactic(auto, unfolding(crate::specs::Registers::shown_at))]
 pub fn shown_at(m: Model, n: u8) -> usize
     ensures { (result ≡ shown_at m n) × (result ≤ 1000000) }
 {
-    let frozen = m.fixed.frozen;
-    ring::slot_at(
-        m.fixed.queue,
-        frozen,
-        n,
-        ring::shown(frozen_at(m, n), fifo_at(m, n)),
-    )
+    let k = ring::shown(frozen_at(m, n), fifo_at(m, n));
+    ring::slot_at(m.fixed.queue, &m.fixed.frozen, n, k)
 }
 
+#[tactic(auto, unfolding(crate::specs::Registers::word_of))]
 fn status_word(m: Model, n: u8) -> u32
     ensures { result ≡ word_of m (Register.Status n) }
 {
@@ -55,6 +55,7 @@ fn status_word(m: Model, n: u8) -> u32
     ring::status(frozen_at(m, n), fifo_at(m, n))
 }
 
+#[tactic(auto, unfolding(crate::specs::Registers::word_of))]
 fn address_word(m: Model, n: u8) -> u32
     ensures { result ≡ word_of m (Register.Address n) }
 {
@@ -65,32 +66,30 @@ fn address_word(m: Model, n: u8) -> u32
 }
 
 // Where the slot that the queue shows begins in RAM.
+#[tactic(auto, unfolding(crate::specs::Registers::queue_shown))]
 fn queue_shown(m: Model) -> usize
     ensures { (result ≡ queue_shown m) × (result ≤ 1000000) }
 {
-    let frozen = m.fixed.frozen;
-    ring::slot_at(m.fixed.queue, frozen, 0, m.queue.shown as u32)
+    ring::slot_at(m.fixed.queue, &m.fixed.frozen, 0, m.queue.shown as u32)
 }
 
 fn queue_acts(m: Model) -> bool
     ensures { result ≡ queue_acts m.fixed }
 {
-    if m.fixed.configuring {
-        return false;
-    }
-    m.fixed.queue
+    !m.fixed.configuring && m.fixed.queue
 }
 
+#[tactic(auto, unfolding(crate::specs::Registers::word_of))]
 fn queue_status_word(m: Model) -> u32
     ensures { result ≡ word_of m Register.QueueStatus }
 {
     if queue_acts(m) {
-        let q = m.queue;
-        return ring::queue::status(frozen_at(m, 0), q);
+        return ring::queue::status(frozen_at(m, 0), m.queue);
     }
     0
 }
 
+#[tactic(auto, unfolding(crate::specs::Registers::word_of))]
 fn queue_address_word(m: Model) -> u32
     ensures { result ≡ word_of m Register.QueueAddress }
 {

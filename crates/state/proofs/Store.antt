@@ -2,11 +2,11 @@
 -- Assumes nothing.
 use mathlib.Core.Path.{◌≡◌, refl, sym, ap, ◌∙◌}
 use mathlib.Core.Bool.{Bool, true, false}
-use mathlib.Core.List.{List, ◌++◌, append-nil, map}
+use mathlib.Core.List.{List, ◌++◌, append-nil}
 use Prim.Native.Nat.{ℕ, ◌+◌, ◌-◌, ◌≤◌, min}
 use native.Mathlib.Omega.{arith}
 use lib.Dec.{leb}
-use lib.ListN.{length, take, drop, length-map, length-append, length-drop, drop_of_length-le}
+use lib.ListN.{length, take, drop, length-append, length-drop, drop_of_length-le}
 use lib.Seq.{take_all, take-append_seam, take-append-le, take-append-add, take-length, length-take-le}
 use borrow.Author.Tests.{leb-true, leb-false}
 use Rattle.parts.specs.Parts.{put}
@@ -46,7 +46,3 @@ module _ (l bs : List ℕ) (a : ℕ) (h : a ≤ length l) where
   -- as many as there is room for
   pub put_front : put l a (take (min (length bs) (length l - a)) bs) ≡ take (length l) (put l a bs)
   put_front = by_room (leb (length bs) (length l - a)) refl
-
--- an array of structs is as long as it is said to be, read through whatever its elements are kept as
-pub length_kept : (X Y : Type 0) (f : X → Y) (l : List X) (n : ℕ) → length (map f l) ≡ n → length l ≡ n
-length_kept X Y f l n e = sym (length-map l f) ∙ e

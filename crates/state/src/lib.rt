@@ -104,12 +104,11 @@ pub fn word_at(words: &[u32], k: usize) -> u32
 pub fn set_word(words: &mut [u32], k: usize, w: u32)
     ensures { words.new ≡ set words.old k w }
 {
-    if let Some(word) = words.get_mut(k) {
-        *word = w;
+    if k < words.len() {
+        words[k] = w;
     }
 }
 
-#[tactic(auto, unfolding(crate::specs::Model::fifo_at))]
 pub fn fifo_at(m: Model, n: u8) -> Fifo
     ensures { result ≡ fifo_at m n }
 {
@@ -120,28 +119,24 @@ pub fn fifo_at(m: Model, n: u8) -> Fifo
     }
 }
 
-#[tactic(auto, unfolding(crate::specs::Model::frozen_at))]
 pub fn frozen_at(m: Model, n: u8) -> u32
     ensures { result ≡ frozen_at m n }
 {
     word_at(&m.fixed.frozen, n as usize)
 }
 
-#[tactic(auto, unfolding(crate::specs::Model::with_fixed))]
 pub fn with_fixed(m: Model, fixed: Fixed) -> Model
     ensures { result ≡ with_fixed m fixed }
 {
     Model { fixed: fixed, ..m }
 }
 
-#[tactic(auto, unfolding(crate::specs::Model::with_setup))]
 pub fn with_setup(m: Model, setup: Setup) -> Model
     ensures { result ≡ with_setup m setup }
 {
     Model { setup: setup, ..m }
 }
 
-#[tactic(auto, unfolding(crate::specs::Model::with_fifo))]
 pub fn with_fifo(m: Model, n: u8, f: Fifo) -> Model
     ensures { result ≡ with_fifo m n f }
 {
@@ -152,7 +147,6 @@ pub fn with_fifo(m: Model, n: u8, f: Fifo) -> Model
     d
 }
 
-#[tactic(auto, unfolding(crate::specs::Model::with_queue))]
 pub fn with_queue(m: Model, q: Queue) -> Model
     ensures { result ≡ with_queue m q }
 {
@@ -171,7 +165,6 @@ fn put_bytes(ram: [u8; 2048], at: usize, s: &[u8]) -> [u8; 2048]
     b
 }
 
-#[tactic(auto, unfolding(crate::specs::Model::written))]
 pub fn written(m: Model, at: usize, s: &[u8]) -> Model
     ensures { result ≡ written m at s.now }
 {

@@ -12,4 +12,4 @@ returns-then-at-ge2048 c =
 pub returns : goal.returns
 returns c =
     let e : length c.args.ram ≡ 2048 = search rules in
-    c.put_at.ensures ∙ rw (c.least-n.ensures, ← e) (put_front c.args.ram c.args.s.now c.args.at (omega (arith, e)))
+    c.put_at.ensures ∙ rw (c.min-n.ensures, ← e) (put_front c.args.ram c.args.s.now c.args.at (omega (arith, e)))
