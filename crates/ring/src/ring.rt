@@ -4,7 +4,7 @@ ghost use Rattle.ring.specs.Ring.{sending, depth, place, shown, claimed, taken, 
 ghost use Rattle.ring.specs.Slots.{fifo_word, fifo_configures, fifo_commands, fifo_enters, fifo_leaves};
 
 use crate::slots::{Slots, without_txreq};
-use fifo::FifoControl;
+use fifo::{ControlWord, FifoControl};
 
 #[derive(Clone, Copy)]
 pub struct Fifo {

@@ -6,7 +6,7 @@ ghost use Rattle.field.specs.Settings.{◌:=◌, settings};
 ghost use Rattle.fifo.specs.Control.{UINC, FRESET, TXREQ};
 ghost use Rattle.ring.specs.Slots.{commanded};
 
-use fifo::FifoControl;
+use fifo::{ControlWord, FifoControl};
 
 pub trait Slots: Copy {
     ghost word_of: { Self → ℕ };
