@@ -68,14 +68,15 @@ function core_names() {
     set_of(core_method, "then then_some")
     # of Option and Result
     set_of(core_method, "is_some is_none is_some_and is_ok is_err is_ok_and is_err_and ok err ok_or ok_or_else map map_err map_or")
-    set_of(core_method, "map_or_else and_then or_else unwrap unwrap_or unwrap_or_else unwrap_or_default copied filter take replace as_ref as_mut")
+    set_of(core_method, "map_or_else and_then or_else unwrap unwrap_or unwrap_or_else unwrap_or_default copied filter take replace as_ref")
+    set_of(core_method, "as_mut")
     # of iterators and ranges
     set_of(core_method, "into_iter enumerate zip rev skip step_by chain take_while skip_while map_while filter_map any all position find")
     set_of(core_method, "find_map")
     set_of(core_method, "count sum product fold try_fold nth next next_back size_hint")
     # of numbers
-    set_of(core_method, "min max clamp pow abs_diff div_ceil rem_euclid div_euclid is_power_of_two count_ones count_zeros leading_zeros")
-    set_of(core_method, "trailing_zeros rotate_left rotate_right swap_bytes reverse_bits to_le_bytes to_be_bytes")
+    set_of(core_method, "min max clamp pow abs_diff div_ceil next_multiple_of next_power_of_two rem_euclid div_euclid is_power_of_two")
+    set_of(core_method, "count_ones count_zeros leading_zeros trailing_zeros rotate_left rotate_right swap_bytes reverse_bits to_le_bytes to_be_bytes")
     set_of(core_method, "wrapping_add wrapping_sub wrapping_mul wrapping_neg wrapping_shl wrapping_shr checked_add checked_sub checked_mul")
     set_of(core_method, "checked_div checked_rem checked_pow checked_shl checked_shr saturating_add saturating_sub saturating_mul")
     set_of(core_method, "is_ascii_digit is_ascii_hexdigit is_ascii_lowercase is_ascii_uppercase is_ascii_alphabetic is_ascii_alphanumeric")
