@@ -1,6 +1,6 @@
 -- Transmit in the code's numbers: those of the push, which once it is done are the request's too, and the request's stage.
 -- Assumes nothing.
-use Rattle.std.specs.Prelude.{ℕ, ◌≡◌, List, [], ◌∷◌, length, if◌then◌else◌}
+use Rattle.std.specs.Prelude.{ℕ, ◌≡◌, List, [], ◌∷◌, length, if◌then◌else◌, Result, Ok, Err}
 use Rattle.fifo.specs.Control.{CiFIFOCON, is_fifo}
 use Rattle.spi.specs.declared.refusal.Refusal.{Refusal}
 use Rattle.spi.specs.declared.ask.Answer.{Answer}
@@ -9,6 +9,7 @@ use Rattle.plan.specs.declared.item.Item.{Item}
 use Rattle.plan.specs.Plan.{Plan}
 use Rattle.plan.specs.PlanAt.{PlanAt}
 use Rattle.tx_fifo.specs.PushAt.{PushAt}
+use Rattle.tx_fifo.specs.declared.push.PushStage.{PushStage}
 use Rattle.tx_fifo.specs.declared.push.PushNumbers.{PushNumbers}
 use Rattle.tx_fifo.specs.Step.{is_done}
 use Rattle.tx_fifo.specs.Numbers.{standing, push_of}
@@ -59,6 +60,11 @@ transmit_in c body = record {
 -- r is the push p, and the request as it starts, whatever the body
 abbrev pub RequestStarts : PushNumbers → TransmitNumbers → Type 0
 RequestStarts p r = (body : List ℕ) → transmit_in r body ≡ record { push = push_of p body; request = request_start p.fifo }
+
+-- the numbers that a request goes on with, or those of the push p, done, with the request refused
+abbrev pub settled : PushNumbers → Result TransmitNumbers Refusal → TransmitNumbers
+settled p (Ok r) = r
+settled p (Err why) = record { push = record p { stage = PushStage.Done; why = why }; request = RequestStage.Refused }
 
 -- r is the push p, done, and the request after an answer, whatever the body
 abbrev pub RequestSteps : PushNumbers → RequestStage → Answer → List ℕ → TransmitNumbers → Type 0

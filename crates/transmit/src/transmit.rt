@@ -1,12 +1,11 @@
 // Transmit: a push, and where it is done a request, by which the FIFO is to send what it holds: control is read, and written with
 // TXREQ 1.
-ghost use Rattle.std.specs.Prelude.{◌≡◌, []};
+ghost use Rattle.std.specs.Prelude.{◌≡◌, ℕ, []};
 ghost use Rattle.plan.specs.Change.{modified};
 ghost use Rattle.plan.specs.Step.{ask_of as plan_ask, outcome_of as plan_outcome};
 ghost use Rattle.tx_fifo.specs.Step.{is_done};
-ghost use Rattle.tx_fifo.specs.declared.push.PushStage.{PushStage};
 ghost use Rattle.transmit.specs.Transmit.{request_change, transmit_start, transmit_ask, transmit_outcome};
-ghost use Rattle.transmit.specs.Numbers.{request_of, transmit_in, RequestStarts, RequestSteps, TransmitSteps};
+ghost use Rattle.transmit.specs.Numbers.{request_of, settled, transmit_in, RequestStarts, RequestSteps, TransmitSteps};
 
 use call::Outcome;
 use field::Numbered;
@@ -32,41 +31,20 @@ pub struct TransmitNumbers {
     pub request: RequestStage,
 }
 
-// The push is done, and the request at a stage.
-fn requesting(p: PushNumbers, request: RequestStage, w: u32, why: Refusal) -> TransmitNumbers
-    ensures { result ≡ record { push = record { stage = PushStage.Done; fifo = p.fifo; size = p.size; len = p.len; w = w; m = p.m; why = why }; request = request } }
-{
-    let push = PushNumbers {
-        stage: PushStage::Done,
-        fifo: p.fifo,
-        size: p.size,
-        len: p.len,
-        w: w,
-        m: p.m,
-        why: why,
-    };
-    TransmitNumbers {
-        push: push,
-        request: request,
-    }
-}
-
 // Where the push is done the request begins, or is refused 20.
-fn with_request(p: PushNumbers) -> TransmitNumbers
-    ensures { RequestStarts p result }
+#[tactic(auto, unfolding(crate::specs::Transmit::request_start, plan::specs::Step::arrived_at))]
+fn with_request(push: PushNumbers) -> TransmitNumbers
+    ensures { RequestStarts push result }
 {
-    if push_done(p) {
-        if is_fifo(p.fifo as u32) {
-            TransmitNumbers {
-                push: p,
-                request: RequestStage::Read,
-            }
-        } else {
-            requesting(p, RequestStage::Refused, p.w, Refusal::BadNumber)
+    if push_done(push) && !is_fifo(push.fifo as u32) {
+        let why = Refusal::BadNumber;
+        TransmitNumbers {
+            push: PushNumbers { why, ..push },
+            request: RequestStage::Refused,
         }
     } else {
         TransmitNumbers {
-            push: p,
+            push,
             request: RequestStage::Read,
         }
     }
@@ -81,8 +59,7 @@ pub fn transmit_start(
 ) -> TransmitNumbers
     ensures { transmit_in result body.new ≡ transmit_start fifo header seq payload.now }
 {
-    let p = push_start(fifo, header, seq, payload, body);
-    with_request(p)
+    with_request(push_start(fifo, header, seq, payload, body))
 }
 
 fn request_ask(p: PushNumbers, request: RequestStage) -> Ask
@@ -97,86 +74,103 @@ fn request_ask(p: PushNumbers, request: RequestStage) -> Ask
             address: FifoControl::address(p.fifo),
             word: p.w,
         },
-        RequestStage::Done => Ask::Nothing,
-        RequestStage::Late => Ask::Nothing,
-        RequestStage::Refused => Ask::Nothing,
+        _ => Ask::Nothing,
     }
 }
 
+#[tactic(auto, unfolding(crate::specs::Transmit::transmit_ask))]
 pub fn transmit_ask(c: TransmitNumbers) -> Ask
     ensures { result ≡ transmit_ask (transmit_in c []) }
 {
-    let p = c.push;
-    let q = c.request;
-    if push_done(p) {
-        request_ask(p, q)
+    if push_done(c.push) {
+        request_ask(c.push, c.request)
     } else {
-        push_ask(p)
+        push_ask(c.push)
     }
 }
 
 // The word that is written for the one that was read.
 #[tactic(auto, using(crate::proofs::Transmits::request_word))]
-fn requested(fifo: u8, w: u32) -> u32
-    ensures { result ≡ modified (request_change fifo) w }
+fn requested(w: u32) -> u32
+    ensures { (fifo : ℕ) → result ≡ modified (request_change fifo) w }
 {
     FifoControl(w).with_txreq(true).0
 }
 
+// The request after an answer, or what it is refused for.
 #[tactic(auto, using(crate::proofs::Requests::at_end), unfolding(plan::specs::Step::step_of))]
+fn advanced(
+    p: PushNumbers,
+    request: RequestStage,
+    answer: Answer,
+    rx: &[u8],
+) -> Result<TransmitNumbers, Refusal>
+    ensures { RequestSteps p request answer rx.now (settled p result) }
+{
+    let mut push = PushNumbers {
+        stage: PushStage::Done,
+        ..p
+    };
+    let request = match request {
+        RequestStage::Read => {
+            push.w = requested(word_reply(Refusal::SpiRead, answer, rx)?);
+            RequestStage::Write
+        }
+        RequestStage::Write => {
+            done_reply(Refusal::SpiRead, answer, rx.len(), 0)?;
+            RequestStage::Done
+        }
+        RequestStage::Done | RequestStage::Late => RequestStage::Late,
+        RequestStage::Refused => return Err(Refusal::WrongAnswer),
+    };
+    Ok(TransmitNumbers { push, request })
+}
+
 fn request_step(p: PushNumbers, request: RequestStage, answer: Answer, rx: &[u8]) -> TransmitNumbers
     ensures { RequestSteps p request answer rx.now result }
 {
-    let why = p.why;
-    match request {
-        RequestStage::Read => match word_reply(Refusal::SpiRead, answer, rx) {
-            Ok(w) => requesting(p, RequestStage::Write, requested(p.fifo, w), why),
-            Err(r) => requesting(p, RequestStage::Refused, p.w, r),
+    match advanced(p, request, answer, rx) {
+        Ok(next) => next,
+        Err(why) => TransmitNumbers {
+            push: PushNumbers {
+                stage: PushStage::Done,
+                why,
+                ..p
+            },
+            request: RequestStage::Refused,
         },
-        RequestStage::Write => match done_reply(Refusal::SpiRead, answer, rx.len(), 0) {
-            Ok(()) => requesting(p, RequestStage::Done, p.w, why),
-            Err(r) => requesting(p, RequestStage::Refused, p.w, r),
-        },
-        RequestStage::Done => requesting(p, RequestStage::Late, p.w, why),
-        RequestStage::Late => requesting(p, RequestStage::Late, p.w, why),
-        RequestStage::Refused => requesting(p, RequestStage::Refused, p.w, Refusal::WrongAnswer),
     }
 }
 
 pub fn transmit_step(c: TransmitNumbers, answer: Answer, rx: &[u8]) -> TransmitNumbers
     ensures { TransmitSteps c answer rx.now result }
 {
-    let p = c.push;
-    let q = c.request;
-    if push_done(p) {
-        request_step(p, q, answer, rx)
+    if push_done(c.push) {
+        request_step(c.push, c.request, answer, rx)
     } else {
-        with_request(push_step(p, answer, rx))
+        with_request(push_step(c.push, answer, rx))
     }
 }
 
 fn request_outcome(p: PushNumbers, request: RequestStage) -> Outcome
     ensures { result ≡ plan_outcome (request_of request p) }
 {
-    let why = p.why;
     match request {
-        RequestStage::Read => Outcome::Running,
-        RequestStage::Write => Outcome::Running,
+        RequestStage::Read | RequestStage::Write => Outcome::Running,
         RequestStage::Done => Outcome::Done,
         RequestStage::Late => Outcome::Refused(Refusal::WrongAnswer),
-        RequestStage::Refused => Outcome::Refused(why),
+        RequestStage::Refused => Outcome::Refused(p.why),
     }
 }
 
+#[tactic(auto, unfolding(crate::specs::Transmit::transmit_outcome))]
 pub fn transmit_outcome(c: TransmitNumbers) -> Outcome
     ensures { result ≡ transmit_outcome (transmit_in c []) }
 {
-    let p = c.push;
-    let q = c.request;
-    if push_done(p) {
-        request_outcome(p, q)
+    if push_done(c.push) {
+        request_outcome(c.push, c.request)
     } else {
-        push_outcome(p)
+        push_outcome(c.push)
     }
 }
 
@@ -184,6 +178,5 @@ pub fn transmit_outcome(c: TransmitNumbers) -> Outcome
 pub fn accepted(c: TransmitNumbers) -> bool
     ensures { result ≡ is_done (transmit_in c []).push }
 {
-    let p = c.push;
-    push_done(p)
+    push_done(c.push)
 }
