@@ -1,6 +1,6 @@
 -- The plain numbers of has-next, peek and get as the place of which the definitions speak.
 -- Assumes nothing.
-use Rattle.std.specs.Prelude.{ℕ, true, false, if◌then◌else◌, Option, Some, None}
+use Rattle.std.specs.Prelude.{ℕ, ◌≡◌, Bool, true, false, if◌then◌else◌, Option, Some, None, Result, Ok, Err}
 use Rattle.field.specs.Field.{read}
 use Rattle.header.specs.Header.{DLC, FILHIT, header_of}
 use Rattle.spi.specs.declared.refusal.Refusal.{Refusal}
@@ -49,4 +49,19 @@ started want fifo = record { stage = FetchStage.Control; want = want; fifo = fif
 
 -- the same numbers at another stage
 abbrev pub moved_to : FetchNumbers → FetchStage → Refusal → FetchNumbers
-moved_to c stage why = record { stage = stage; want = c.want; fifo = c.fifo; stamped = c.stamped; len = c.len; m = c.m; w = c.w; a = c.a; b = c.b; t = c.t; why = why }
+moved_to c stage why = record c { stage = stage; why = why }
+
+-- where the status word leads
+abbrev pub stage_by : Want → (next : Bool) → FetchStage
+stage_by Want.HasNext next = if next then FetchStage.Yes else FetchStage.No
+stage_by Want.Peek next = if next then FetchStage.Address else FetchStage.Empty
+stage_by Want.Get next = if next then FetchStage.Address else FetchStage.Empty
+
+-- after a transition: other numbers, or a refusal
+abbrev pub gone : FetchNumbers → Result FetchNumbers Refusal → ℕ × Want × FetchAt
+gone c (Ok n) = standing n
+gone c (Err why) = (c.fifo, c.want, FetchAt.Refused why)
+
+-- the FIFO and what is wanted of it stay, and the call goes on to this place
+abbrev pub Goes : FetchNumbers → Result FetchNumbers Refusal → FetchAt → Type 0
+Goes c r at = gone c r ≡ (c.fifo, c.want, at)

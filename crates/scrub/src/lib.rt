@@ -183,10 +183,7 @@ fn when_back(c: ScrubNumbers, reply: CheckedWord) -> ScrubNumbers
     ensures { scrub_of result ≡ on_checked (unwritten (scrub_of c) c.w c.first) reply (again c.count (unwritten (scrub_of c) c.w c.first) (λ k. to (scrub_of c) (ScrubAt.Back c.w c.first k))) (λ w. reports (scrub_of c) (differs (scrub_of c).entry c.w c.first (Rewrite.Back w c.count))) }
 {
     match reply {
-        CheckedWord::Word(t) => ScrubNumbers {
-            t,
-            ..tells(c, ScrubStage::Rewritten, c.why)
-        },
+        CheckedWord::Word(t) => tells(ScrubNumbers { t, ..c }, ScrubStage::Rewritten, c.why),
         CheckedWord::Mismatch => mismatched(c, ScrubStage::Back, ScrubStage::Unwritten),
         CheckedWord::Bad(r) => tells(c, ScrubStage::Unwritten, r),
     }
