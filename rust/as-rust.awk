@@ -3,8 +3,8 @@
 #     or without, ghost members `ghost x: { .. };`, each on one line or several, `#![tactic(..)]` and `#[tactic(..)]`, `impl Model for ..`
 #     and `use std::marker::Model;`. Marked /*@ */ are parts of lines: a contract in front of the `;` that ends a trait's method, `final`
 #     in front of `fn`, and `Drop` as a bound or in a derive
-#   - behind the derive in front of each `struct` and `enum` stands another one, with those of Debug, PartialEq and Eq that it has not, and
-#     that no `impl` of the file gives
+#   - behind the derive in front of each `struct` and `enum`, but for one with a `dyn` in it, stands another one, with those of Debug,
+#     PartialEq and Eq that it has not, and that no `impl` of the file gives
 #   - `crate::X` becomes `ROOT::NAME::X`, as a Rattle crate is a module here, and `pub(crate)` becomes `pub(in ROOT::NAME)`
 #   - `use std::X..;` becomes `use core::X..;`
 #   - `use std::rt::..;`, the standard streams, becomes `use KITROOT::rt::..;`, and a program's `fn main(rt: HostRuntime) {` takes nothing
@@ -73,10 +73,11 @@ function core_names() {
     # of iterators and ranges
     set_of(core_method, "into_iter enumerate zip rev skip step_by chain take_while skip_while map_while filter_map any all position find")
     set_of(core_method, "find_map")
-    set_of(core_method, "count sum product fold try_fold nth next next_back size_hint")
+    set_of(core_method, "count sum product fold try_fold nth next next_back")
     # of numbers
     set_of(core_method, "min max clamp pow abs_diff div_ceil next_multiple_of next_power_of_two rem_euclid div_euclid is_power_of_two")
-    set_of(core_method, "count_ones count_zeros leading_zeros trailing_zeros rotate_left rotate_right swap_bytes reverse_bits to_le_bytes to_be_bytes")
+    set_of(core_method, "count_ones count_zeros leading_zeros trailing_zeros rotate_left rotate_right swap_bytes reverse_bits")
+    set_of(core_method, "to_le_bytes to_be_bytes")
     set_of(core_method, "wrapping_add wrapping_sub wrapping_mul wrapping_neg wrapping_shl wrapping_shr checked_add checked_sub checked_mul")
     set_of(core_method, "checked_div checked_rem checked_pow checked_shl checked_shr saturating_add saturating_sub saturating_mul")
     set_of(core_method, "is_ascii_digit is_ascii_hexdigit is_ascii_lowercase is_ascii_uppercase is_ascii_alphabetic is_ascii_alphanumeric")
@@ -219,6 +220,7 @@ function derive(l, s,    i, n, part, list) {
 function derives(l, w,    s, more) {
     s = line[l]
     if (!sub(/, Drop/, "/*@&*/", s) && !sub(/Drop, /, "/*@&*/", s)) sub(/Drop/, "/*@&*/", s)
+    if (has_dyn) return s
     more = missing(l, w, "PartialEq", missing(l, w, "Eq", ""))
     more = missing(l, w, "Debug", more)
     return s (more == "" ? "" : " #[derive(" more ")]")
@@ -332,7 +334,7 @@ function any_name() { return is_small() ? small() : capital() }
 # The name of a type, a trait or a constant of the source's own.
 function own_name(    w) { w = capital(); if (w in prelude) refused("a name of Rust's"); return w }
 
-function item(    start) {
+function item(    start, w) {
     start = p
     if (is_kind("G")) { if (token[p] ~ /^ghost [mf]/) wanted("an item that is known"); p++; return }
     if (is("impl")) { implementation(); return }
@@ -340,8 +342,10 @@ function item(    start) {
     visibility()
     if (is("struct") || is("enum")) {
         if (!(p > 1 && kind[start] == "D" && place[start + 1] == 1)) wanted("a type at the beginning of its line, behind its derive")
-        whole[row[start]] = derives(row[start], token[p + 1])
+        w = token[p + 1]
+        has_dyn = 0
         if (is("enum")) enumeration(); else structure()
+        whole[row[start]] = derives(row[start], w)
     } else if (kind[start] == "D") wanted("a type")
     else if (is("use")) use()
     else if (is("mod")) mod()
@@ -559,7 +563,7 @@ function type() {
         take("]")
     } else if (is("(")) {
         types()
-    } else if (is("impl") || is("dyn")) bounds()
+    } else if (is("impl") || is("dyn")) { if (is("dyn")) has_dyn = 1; bounds() }
     else if (is_integer() || is("bool")) p++
     else {
         if (is("Self")) p++
@@ -679,8 +683,11 @@ function matching() {
         pattern()
         if (is("if")) { p++; expression(1) }
         take("=>")
-        if (has_block()) { with_block(); if (is(",")) p++; else alone() }
-        else { effect(0); comma("}") }
+        if (has_block()) {
+            with_block()
+            if (is(",")) p++
+            else if (is("as") || is(".") || is("?")) wanted("a comma behind a block")
+        } else { effect(0); comma("}") }
     }
     p++
 }
