@@ -41,8 +41,7 @@ fn told(heard: Heard, m: Model) -> Exchanged
 fn fresh(m: Model) -> Model
     ensures { result ≡ reset m.ram }
 {
-    let ram = m.ram;
-    state::reset(ram)
+    state::reset(m.ram)
 }
 
 fn put_word(rx: &mut [u8], w: u32)
@@ -53,6 +52,7 @@ fn put_word(rx: &mut [u8], w: u32)
     parts::put_at(rx, 0, &b);
 }
 
+#[tactic(auto, using(crc::proofs::Laws::of_parts))]
 fn crc_of(sent: &[u8], w: u32) -> u16
     ensures { result ≡ crc_of (sent.now ++ le_bytes w) }
 {
@@ -73,9 +73,7 @@ fn put_ram(rx: &mut [u8], m: Model, at: usize, want: usize)
     requires { (at + want ≤ 2048) × (want ≤ length rx.old) }
     ensures { rx.new ≡ put rx.old 0 (part m.ram at want) }
 {
-    let ram = m.ram;
-    let end = at + want;
-    parts::put_at(rx, 0, &ram[at..end]);
+    parts::put_at(rx, 0, &m.ram[at..at + want]);
 }
 
 fn wrote(m: Model, r: Register, w: u32) -> Exchanged
