@@ -91,58 +91,26 @@ pub fn io_change(bits: u32) -> Change
 fn nominal_fits(n: NominalBitTime) -> bool
     ensures { result ≡ all_fit (nominal_settings n) }
 {
-    if 256 <= n.brp {
-        return false;
-    }
-    if 256 <= n.tseg1 {
-        return false;
-    }
-    if 128 <= n.tseg2 {
-        return false;
-    }
-    if 128 <= n.sjw {
-        return false;
-    }
-    true
+    n.brp < 256 && n.tseg1 < 256 && n.tseg2 < 128 && n.sjw < 128
 }
 
 fn data_fits(d: DataBitTime) -> bool
     ensures { result ≡ all_fit (data_settings d) }
 {
-    if 256 <= d.brp {
-        return false;
-    }
-    if 32 <= d.tseg1 {
-        return false;
-    }
-    if 16 <= d.tseg2 {
-        return false;
-    }
-    if 16 <= d.sjw {
-        return false;
-    }
-    true
+    d.brp < 256 && d.tseg1 < 32 && d.tseg2 < 16 && d.sjw < 16
 }
 
 #[tactic(auto, unfolding(crate::specs::Changes::timing_fits))]
 pub fn timing_fits(b: BitTimeConfiguration) -> bool
     ensures { result ≡ timing_fits b }
 {
-    let n = b.nominal;
-    let d = b.data;
-    if nominal_fits(n) {
-        if data_fits(d) {
-            return signed::is_small(d.tdco);
-        }
-    }
-    false
+    nominal_fits(b.nominal) && data_fits(b.data) && signed::is_small(b.data.tdco)
 }
 
 pub fn settings_fit(s: Settings) -> bool
     ensures { result ≡ (timing_fits s.bittime && fits DNCNT s.dncnt) }
 {
-    let b = s.bittime;
-    if timing_fits(b) { s.dncnt < 32 } else { false }
+    timing_fits(s.bittime) && s.dncnt < 32
 }
 
 pub fn nominal_bits(n: NominalBitTime) -> u32

@@ -1,8 +1,0 @@
--- `changes::changes::interrupt_change` meets its contract.
--- Assumes nothing.
-use borrow.Author.Rules.{rules}
-use Rattle.changes.proofs.changes.interrupt_change.Statement.{statement}
-use Rattle.changes.proofs.changes.interrupt_change.Tie as tie
-
-pub interrupt_change_spec : {M : Type 1} → statement M
-interrupt_change_spec = tie.close (tie.spec (λ c κs. search rules) (λ c κs. search rules) (λ c. cc))

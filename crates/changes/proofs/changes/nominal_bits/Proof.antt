@@ -1,9 +1,0 @@
--- `changes::changes::nominal_bits` meets its contract.
--- Assumes nothing.
-use borrow.Author.Rules.{rules}
-use Rattle.changes.proofs.changes.nominal_bits.Statement.{statement}
-use Rattle.changes.proofs.changes.nominal_bits.Tie as tie
-
-pub nominal_bits_spec : {M : Type 1} → statement M
-nominal_bits_spec =
-    tie.close (tie.spec (λ c κs. search rules) (λ c κs. search rules) (λ c κs. search rules) (λ c κs. search rules) (λ c. cc))

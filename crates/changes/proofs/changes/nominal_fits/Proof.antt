@@ -1,8 +1,0 @@
--- `changes::changes::nominal_fits` meets its contract.
--- Assumes nothing.
-use Rattle.changes.proofs.Tests.{tests}
-use Rattle.changes.proofs.changes.nominal_fits.Statement.{statement}
-use Rattle.changes.proofs.changes.nominal_fits.Tie as tie
-
-pub nominal_fits_spec : {M : Type 1} → statement M
-nominal_fits_spec = tie.close (tie.spec (λ c. search tests) (λ c. search tests) (λ c. search tests) (λ c. search tests) (λ c. search tests))

@@ -1,8 +1,0 @@
--- `changes::changes::stef_change` meets its contract.
--- Assumes nothing.
-use borrow.Author.Rules.{rules}
-use Rattle.changes.proofs.changes.stef_change.Statement.{statement}
-use Rattle.changes.proofs.changes.stef_change.Tie as tie
-
-pub stef_change_spec : {M : Type 1} → statement M
-stef_change_spec = tie.close (tie.spec (λ c κs. search rules) (λ c κs. search rules) (λ c κs. search rules) (λ c. cc))

@@ -1,8 +1,0 @@
--- `changes::changes::txqen_change` meets its contract.
--- Assumes nothing.
-use borrow.Author.Rules.{rules}
-use Rattle.changes.proofs.changes.txqen_change.Statement.{statement}
-use Rattle.changes.proofs.changes.txqen_change.Tie as tie
-
-pub txqen_change_spec : {M : Type 1} → statement M
-txqen_change_spec = tie.close (tie.spec (λ c κs. search rules) (λ c κs. search rules) (λ c κs. search rules) (λ c. cc))
