@@ -47,6 +47,9 @@ enables_is s = go s.canerrors s.spierror s.eccerror s.counter
     go false false false true = refl
     go false false false false = refl
 
+pub enables_set : (s : Settings) → (interrupt_change s).set ≡ enables s
+enables_set s = ap (λ c. c.set) (enables_is s)
+
 -- the change to the bits that settings ask for is that of the settings
 pub interrupt_to_lem : (s : Settings) → interrupt_to (interrupt_change s).set ≡ interrupt_change s
 interrupt_to_lem s = ap (λ c. interrupt_to c.set) (enables_is s) ∙ sym (enables_is s)

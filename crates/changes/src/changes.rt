@@ -250,6 +250,7 @@ pub fn rtxat_change() -> Change
 }
 
 // RXIE and TXIE, and what is asked for.
+#[tactic(auto, using(crate::proofs::Enables::enables_set))]
 pub fn interrupt_bits(s: Settings) -> u32
     ensures { result ≡ (interrupt_change s).set }
 {
