@@ -68,8 +68,8 @@ function core_names() {
     set_of(core_method, "then then_some")
     # of Option and Result
     set_of(core_method, "is_some is_none is_some_and is_ok is_err is_ok_and is_err_and ok err ok_or ok_or_else map map_err map_or")
-    set_of(core_method, "map_or_else and_then or_else unwrap unwrap_or unwrap_or_else unwrap_or_default copied filter take replace as_ref")
-    set_of(core_method, "as_mut")
+    set_of(core_method, "map_or_else and and_then or or_else unwrap unwrap_or unwrap_or_else unwrap_or_default copied filter take replace")
+    set_of(core_method, "as_ref as_mut")
     # of iterators and ranges
     set_of(core_method, "into_iter enumerate zip rev skip step_by chain take_while skip_while map_while filter_map any all position find")
     set_of(core_method, "find_map")
@@ -108,7 +108,7 @@ END {
     if (in_ghost || in_model) die(NR, "a contract or a ghost without an end")
     for (p = 1; p < tokens; p++) {
         if (is("mod")) here[token[p + 1]] = 1
-        if (is("const")) constants[token[p + 1]] = 1
+        if (is("const") || is("struct") && token[p + 2] == ";") constants[token[p + 1]] = 1
     }
     for (p = 1; p <= tokens;) item()
     for (l = 1; l <= NR; l++) print (l in ghost ? "//@ " line[l] : l in whole ? whole[l] : moved(l))
@@ -692,7 +692,8 @@ function matching() {
     p++
 }
 
-# A name in small letters binds, as constants are in capitals; a variant is named by its type.
+# A name in small letters binds, as constants are in capitals; a variant is named by its type. A name alone in capitals is a constant of
+# this file or a type of it that has no fields.
 function pattern() { if (is("|")) wanted("a pattern"); for (one_pattern(); is("|"); one_pattern()) p++ }
 function one_pattern() {
     if (is("_") || is("true") || is("false")) p++
