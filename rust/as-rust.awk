@@ -69,7 +69,7 @@ function core_names() {
     # of Option and Result
     set_of(core_method, "is_some is_none is_some_and is_ok is_err is_ok_and is_err_and ok err ok_or ok_or_else map map_err map_or")
     set_of(core_method, "map_or_else and and_then or or_else unwrap unwrap_or unwrap_or_else unwrap_or_default copied filter take replace")
-    set_of(core_method, "as_ref as_mut")
+    set_of(core_method, "as_ref as_mut as_slice")
     # of iterators and ranges
     set_of(core_method, "into_iter enumerate zip rev skip step_by chain take_while skip_while map_while filter_map any all position find")
     set_of(core_method, "find_map")
