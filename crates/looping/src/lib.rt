@@ -50,7 +50,7 @@ fn turned<L: Line>(line: &mut L, next: Next, tx: &[u8], rx: &mut [u8]) -> (Answe
             }
             match line.transfer(&tx[..n], &mut rx[..want]) {
                 Ok(()) => (Answer::Exchanged, want),
-                Err(Failed) => (Answer::Failed, want),
+                Err(_) => (Answer::Failed, want),
             }
         }
         Next::Wait => {

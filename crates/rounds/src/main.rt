@@ -52,7 +52,8 @@ fn payload_of(i: u32) -> [u8; 8] {
 }
 
 fn is_ours(h: Header, payload: &[u8], i: u32) -> bool {
-    h.id == i % 0x800 && payload == payload_of(i).as_slice()
+    let ours = payload_of(i);
+    h.id == i % 0x800 && payload == &ours[..]
 }
 
 fn is_sent(sent: Result<Frame, Unsent>, i: u32) -> bool {
