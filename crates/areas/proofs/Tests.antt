@@ -1,7 +1,7 @@
 -- What the tests of a FIFO's and a filter's settings tell.
 -- Assumes nothing.
 use Prim.Native.Nat.{ℕ, ◌≤◌, ◌<◌}
-use mathlib.Core.Path.{◌≡◌, refl, ap}
+use mathlib.Core.Path.{◌≡◌, refl}
 use mathlib.Core.Bool.{Bool, true, false, not, ◌&&◌}
 use native.Mathlib.Omega.{arith}
 use lib.Dec.{leb}
@@ -40,13 +40,6 @@ queue_told c e =
     let (p, q) = transmit_told t d in
     (a, b, p, q)
 
-abbrev good : Result (Unit {0}) Refusal → ℕ
-good (Ok _) = 1
-good (Err r) = 0
-
-not_good : {r : Refusal} → Err r ≡ Ok tt → ⊥
-not_good e = let z : ◌≡◌ {A = ℕ} 0 1 = ap good e in absurd (omega arith)
-
 -- what a filter's configuration that is not refused has
 pub filter_told_lem : (f : ℕ) (c : FilterConfiguration) → filter_check f c ≡ Ok tt
     → (c.object.id ≤ top_id c.object.extended) × (c.mask.id ≤ top_id c.mask.extended) × (c.fifo < 32)
@@ -54,11 +47,11 @@ unfolding filter_check is_fifo
 filter_told_lem f c = go (is_filter f) (leb 1 c.fifo) (leb c.fifo 31) (is_identifier c.object) (is_identifier c.mask) refl refl refl
   where
     go : (a l u i j : Bool) → leb c.fifo 31 ≡ u → is_identifier c.object ≡ i → is_identifier c.mask ≡ j
-        → (if not (a && (l && u)) then Err Refusal.BadNumber else if not (i && j) then Err Refusal.BadIdentifier else Ok tt) ≡ Ok tt
+        → ◌≡◌ {A = Result (Unit {0}) Refusal} (if not (a && (l && u)) then Err Refusal.BadNumber else if not (i && j) then Err Refusal.BadIdentifier else Ok tt) (Ok tt)
         → (c.object.id ≤ top_id c.object.extended) × (c.mask.id ≤ top_id c.mask.extended) × (c.fifo < 32)
     go true true true true true u i j e = (leb-true c.object.id (top_id c.object.extended) i, leb-true c.mask.id (top_id c.mask.extended) j, omega (arith, leb-true c.fifo 31 u))
-    go true true true true false u i j e = absurd (not_good e)
-    go true true true false k u i j e = absurd (not_good e)
-    go true true false i' k u i j e = absurd (not_good e)
-    go true false l i' k u i j e = absurd (not_good e)
-    go false b l i' k u i j e = absurd (not_good e)
+    go true true true true false u i j e = cc
+    go true true true false k u i j e = cc
+    go true true false i' k u i j e = cc
+    go true false l i' k u i j e = cc
+    go false b l i' k u i j e = cc

@@ -1,7 +1,6 @@
 // The changes that configure a FIFO, the transmit queue and a filter: the bits that they set, and the change of a register to these
 // bits, where the bits that are kept are all but those of its fields. And the change that requests a transmission.
-ghost use Rattle.std.specs.Prelude.{◌≡◌, true, not, ◌&&◌, ◌-◌, ◌^◌, ◌<◌, ◌≤◌, [], ◌∷◌, if◌then◌else◌, Ok, Err};
-ghost use Rattle.spi.specs.declared.refusal.Refusal.{Refusal};
+ghost use Rattle.std.specs.Prelude.{◌≡◌, true, ◌-◌, ◌^◌, ◌<◌, ◌≤◌, [], ◌∷◌};
 ghost use Rattle.header.specs.Header.{top_id};
 ghost use Rattle.field.specs.Field.{Fits};
 ghost use Rattle.field.specs.Settings.{◌:=◌, fields_of, settings};
@@ -24,10 +23,7 @@ use spi::Refusal;
 fn transmit_fits(t: TxFifo) -> bool
     ensures { result ≡ direction_fits (FifoMode.Transmit t) }
 {
-    if 32 <= t.txpri {
-        return false;
-    }
-    t.txat < 4
+    t.txpri < 32 && t.txat < 4
 }
 
 fn direction_fits(mode: FifoMode) -> bool
@@ -43,14 +39,7 @@ fn direction_fits(mode: FifoMode) -> bool
 pub fn fifo_fits(c: FifoConfiguration) -> bool
     ensures { result ≡ fifo_fits c }
 {
-    let mode = c.mode;
-    if c.size < 1 {
-        return false;
-    }
-    if 8 <= c.plsize {
-        return false;
-    }
-    direction_fits(mode)
+    1 <= c.size && c.plsize < 8 && direction_fits(c.mode)
 }
 
 fn with_transmit(control: FifoControl, t: TxFifo) -> FifoControl
@@ -119,16 +108,16 @@ fn fifo_keep(mode: FifoMode) -> u32
     }
 }
 
+#[tactic(auto, using(crate::proofs::Tests::fifo_told))]
 pub fn fifo_change(n: u8, c: FifoConfiguration) -> Change
     requires { fifo_fits c ≡ true }
     ensures { result ≡ fifo_change n c }
 {
-    let mode = c.mode;
     let sized = FifoControl(0).with_fifo_size(c.size).with_plsize(c.plsize);
     Change {
         address: FifoControl::address(n),
-        keep: fifo_keep(mode),
-        set: with_direction(sized, mode).0,
+        keep: fifo_keep(c.mode),
+        set: with_direction(sized, c.mode).0,
     }
 }
 
@@ -143,6 +132,7 @@ pub fn enable_change(on: bool) -> Change
 }
 
 // The same is refused as of a FIFO that sends.
+#[tactic(auto, unfolding(crate::specs::Areas::fifo_fits, crate::specs::Areas::queue_fits))]
 pub fn queue_fits(c: TxQueueConfiguration) -> bool
     ensures { result ≡ queue_fits c }
 {
@@ -162,6 +152,7 @@ pub fn queue_fits(c: TxQueueConfiguration) -> bool
     })
 }
 
+#[tactic(auto, using(crate::proofs::Tests::queue_told))]
 pub fn queue_bits(c: TxQueueConfiguration) -> u32
     requires { queue_fits c ≡ true }
     ensures { result ≡ (queue_change c).set }
@@ -242,21 +233,13 @@ pub fn on_change(f: u8, bits: u32) -> Change
 fn extended_only(mode: FilterMode) -> bool
     ensures { result ≡ extended_only mode }
 {
-    match mode {
-        FilterMode::Standard => false,
-        FilterMode::Extended => true,
-        FilterMode::Both => false,
-    }
+    matches!(mode, FilterMode::Extended)
 }
 
 fn one_kind(mode: FilterMode) -> bool
     ensures { result ≡ one_kind mode }
 {
-    match mode {
-        FilterMode::Standard => true,
-        FilterMode::Extended => true,
-        FilterMode::Both => false,
-    }
+    !matches!(mode, FilterMode::Both)
 }
 
 fn top_id(extended: bool) -> u32
@@ -321,32 +304,16 @@ pub fn mask_change(f: u8, bits: u32) -> Change
     }
 }
 
-// What the tests of a filter's number, its target, its object and its mask say.
-fn checked(filter: bool, fifo: bool, object: bool, mask: bool) -> Result<(), Refusal>
-    ensures { result ≡ (if not (filter && fifo) then Err Refusal.BadNumber else if not (object && mask) then Err Refusal.BadIdentifier else Ok tt) }
-{
-    if filter {
-        if fifo {
-            if object {
-                if mask {
-                    return Ok(());
-                }
-            }
-            return Err(Refusal::BadIdentifier);
-        }
-    }
-    Err(Refusal::BadNumber)
-}
-
+// 20 before 21.
+#[tactic(auto, unfolding(crate::specs::Areas::filter_check))]
 pub fn filter_check(f: u32, c: FilterConfiguration) -> Result<(), Refusal>
     ensures { result ≡ filter_check f c }
 {
-    let object = c.object;
-    let mask = c.mask;
-    checked(
-        f < 32,
-        is_fifo(c.fifo),
-        is_identifier(object),
-        is_identifier(mask),
-    )
+    if !(f < 32 && is_fifo(c.fifo)) {
+        return Err(Refusal::BadNumber);
+    }
+    if !(is_identifier(c.object) && is_identifier(c.mask)) {
+        return Err(Refusal::BadIdentifier);
+    }
+    Ok(())
 }
