@@ -1,5 +1,5 @@
 // The payload between the exchange that reads it and the end of the call: at the front of the body.
-ghost use Rattle.std.specs.Prelude.{◌≡◌, ◌≤◌, min, length, take, replicate};
+ghost use Rattle.std.specs.Prelude.{◌≡◌, ◌≤◌, min, length, take};
 ghost use Rattle.fetch.specs.Numbers.{fetch_at};
 ghost use Rattle.rx_fifo.specs.Step.{held_at};
 ghost use Rattle.rx_fifo.specs.Outcome.{size_at, filled_by};
@@ -11,24 +11,14 @@ use fetch::{FetchNumbers, FetchStage};
 pub fn at_most_64(n: usize) -> usize
     ensures { (result ≡ min n 64) × (result ≤ 64) }
 {
-    if n < 64 { n } else { 64 }
-}
-
-pub fn clear(body: &mut [u8; 76])
-    ensures { body.new ≡ replicate 76 0 }
-{
-    let none = [0u8; 76];
-    *body = none;
+    n.min(64)
 }
 
 pub fn hold(c: FetchNumbers, rx: &[u8], body: &mut [u8; 76])
     ensures { take 64 body.new ≡ held_at (fetch_at c) (take 64 body.old) rx.now }
 {
-    let stage = c.stage;
-    if let FetchStage::Body = stage {
-        let start = 0;
-        let end = at_most_64(rx.len());
-        parts::put_at(body, 0, &rx[start..end]);
+    if let FetchStage::Body = c.stage {
+        parts::put_at(body, 0, &rx[..at_most_64(rx.len())]);
     }
 }
 
@@ -36,8 +26,7 @@ pub fn hold(c: FetchNumbers, rx: &[u8], body: &mut [u8; 76])
 fn size_of(c: FetchNumbers) -> usize
     ensures { result ≡ size_at (fetch_at c) }
 {
-    let stage = c.stage;
-    if let FetchStage::Done = stage {
+    if let FetchStage::Done = c.stage {
         c.len as usize
     } else {
         0
@@ -50,10 +39,7 @@ pub fn fill(c: FetchNumbers, body: &[u8], buf: &mut [u8])
     requires { 64 ≤ length body.now }
     ensures { buf.new ≡ filled_by (fetch_of c body.now) buf.old }
 {
-    let n = size_of(c);
     if 64 <= buf.len() {
-        let start = 0;
-        let end = at_most_64(n);
-        parts::put_at(buf, 0, &body[start..end]);
+        parts::put_at(buf, 0, &body[..at_most_64(size_of(c))]);
     }
 }

@@ -19,34 +19,28 @@ use spi::{Answer, Ask, Refusal};
 
 mod held;
 
-pub fn has_next_start(fifo: u8, body: &mut [u8; 76]) -> FetchNumbers
-    ensures { fetch_of result body.new ≡ has_next_start fifo }
-{
-    held::clear(body);
-    let c = fetch::start(Want::HasNext, fifo);
-    if fifo::is_fifo(fifo as u32) {
-        c
-    } else {
-        fetch::refused(c, Refusal::BadNumber)
-    }
-}
-
 // 20 before 28.
 #[tactic(auto, unfolding(crate::specs::Numbers::fetch_of, crate::specs::Step::lent_start, crate::specs::Step::lent_at))]
 fn lent_start(want: Want, fifo: u8, room: usize, body: &mut [u8; 76]) -> FetchNumbers
     ensures { fetch_of result body.new ≡ lent_start want fifo room }
 {
-    held::clear(body);
+    *body = [0u8; 76];
     let c = fetch::start(want, fifo);
-    if fifo::is_fifo(fifo as u32) {
-        if room < 64 {
-            fetch::refused(c, Refusal::BufferTooSmall)
-        } else {
-            c
-        }
-    } else {
-        fetch::refused(c, Refusal::BadNumber)
+    if !fifo::is_fifo(fifo as u32) {
+        return fetch::refused(c, Refusal::BadNumber);
     }
+    if room < 64 {
+        return fetch::refused(c, Refusal::BufferTooSmall);
+    }
+    c
+}
+
+// No buffer is lent, so none is too small.
+#[tactic(auto, unfolding(crate::specs::Step::has_next_start, crate::specs::Step::first_at, crate::specs::Step::lent_start, crate::specs::Step::lent_at))]
+pub fn has_next_start(fifo: u8, body: &mut [u8; 76]) -> FetchNumbers
+    ensures { fetch_of result body.new ≡ has_next_start fifo }
+{
+    lent_start(Want::HasNext, fifo, 64, body)
 }
 
 // `room` is the length of the buffer that will be lent for the payload.
@@ -65,10 +59,7 @@ pub fn get_start(fifo: u8, room: usize, body: &mut [u8; 76]) -> FetchNumbers
 fn read_word(address: u16) -> Ask
     ensures { result ≡ Ask.Read address 4 }
 {
-    Ask::Read {
-        address: address,
-        count: 4,
-    }
+    Ask::Read { address, count: 4 }
 }
 
 fn with_uinc(w: u32) -> u32
@@ -81,22 +72,21 @@ fn with_uinc(w: u32) -> u32
 pub fn fetch_ask(c: FetchNumbers) -> Ask
     ensures { result ≡ ask_of (fetch_of c []) }
 {
-    let stage = c.stage;
-    match stage {
-        FetchStage::Control => read_word(FifoControl::address(c.fifo)),
+    match c.stage {
+        FetchStage::Control | FetchStage::Again | FetchStage::Next => {
+            read_word(FifoControl::address(c.fifo))
+        }
         FetchStage::Status => read_word(FifoStatus::address(c.fifo)),
         FetchStage::Address => read_word(UserAddress::address(c.fifo)),
         FetchStage::Header => Ask::Read {
             address: c.m,
             count: 8,
         },
-        FetchStage::Again => read_word(FifoControl::address(c.fifo)),
         FetchStage::Time => read_word(c.m),
         FetchStage::Body => Ask::Read {
             address: c.m,
             count: words::round_up(c.len as usize),
         },
-        FetchStage::Next => read_word(FifoControl::address(c.fifo)),
         FetchStage::Commit => Ask::Word {
             address: FifoControl::address(c.fifo),
             word: with_uinc(c.w),
@@ -105,6 +95,7 @@ pub fn fetch_ask(c: FetchNumbers) -> Ask
     }
 }
 
+#[tactic(auto, unfolding(crate::specs::Numbers::fetch_of, crate::specs::Step::step_of))]
 pub fn fetch_step(c: FetchNumbers, answer: Answer, rx: &[u8], body: &mut [u8; 76]) -> FetchNumbers
     ensures { fetch_of result body.new ≡ step_of (fetch_of c body.old) answer rx.now }
 {
@@ -115,7 +106,7 @@ pub fn fetch_step(c: FetchNumbers, answer: Answer, rx: &[u8], body: &mut [u8; 76
 fn stamp_of(c: FetchNumbers) -> Option<u32>
     ensures { result ≡ stamp_in c }
 {
-    if c.stamped { Some(c.t) } else { None }
+    c.stamped.then_some(c.t)
 }
 
 // As many bytes as the lent buffer is filled with.
@@ -135,14 +126,12 @@ fn found(c: FetchNumbers) -> Found
 pub fn fetch_outcome(c: FetchNumbers) -> Outcome
     ensures { FetchEnds c result }
 {
-    let stage = c.stage;
-    let why = c.why;
-    match stage {
+    match c.stage {
         FetchStage::Done => Outcome::Message(found(c)),
         FetchStage::Empty => Outcome::Empty,
         FetchStage::Yes => Outcome::Yes,
         FetchStage::No => Outcome::No,
-        FetchStage::Refused => Outcome::Refused(why),
+        FetchStage::Refused => Outcome::Refused(c.why),
         _ => Outcome::Running,
     }
 }
@@ -153,17 +142,11 @@ pub fn fetch_outcome(c: FetchNumbers) -> Outcome
 pub fn fetch_finish(c: FetchNumbers, body: &[u8; 76], buf: &mut [u8]) -> Outcome
     ensures { (result ≡ finished_as (fetch_of c body.now) (length buf.old)) × (buf.new ≡ filled_by (fetch_of c body.now) buf.old) }
 {
-    let room = buf.len();
-    let stage = c.stage;
     held::fill(c, body, buf);
-    match stage {
-        FetchStage::Done => {
-            if 64 <= room {
-                fetch_outcome(c)
-            } else {
-                Outcome::Refused(Refusal::BufferTooSmall)
-            }
+    if let FetchStage::Done = c.stage {
+        if buf.len() < 64 {
+            return Outcome::Refused(Refusal::BufferTooSmall);
         }
-        _ => fetch_outcome(c),
     }
+    fetch_outcome(c)
 }
