@@ -6,9 +6,10 @@ ghost use Rattle.bus.specs.Sort.{filter_for, target_for, by_filter, unsorted, fi
 
 use crate::{Delivered, Delivery, arrival};
 use configuration::CanControl;
+use filters::{Filters, Identifier};
 use header::Header;
 use spi::Refusal;
-use state::Model;
+use state::{Model, Setup};
 
 // The FIFO and the filter that a frame was for; 0 where it was refused.
 #[derive(Clone, Copy)]
@@ -43,25 +44,32 @@ fn by_filter(d: Delivered, n: u32, f: u32) -> Sorted
     }
 }
 
+fn filters_of(setup: &Setup) -> Filters<'_>
+    ensures { (result.control.now ≡ setup.now.filter) × (result.object.now ≡ setup.now.object) × (result.mask.now ≡ setup.now.mask) }
+{
+    Filters {
+        control: &setup.filter,
+        object: &setup.object,
+        mask: &setup.mask,
+    }
+}
+
 fn filter_for(m: Model, h: Header) -> u32
     requires { h.id ≤ top_id h.extended }
     ensures { result ≡ filter_for m h }
 {
-    let setup = m.setup;
-    let control = setup.filter;
-    let object = setup.object;
-    let mask = setup.mask;
-    let sid = header::sid_of(h.extended, h.id);
-    let eid = header::eid_of(h.extended, h.id);
-    filters::lowest(&control, &object, &mask, h.extended, sid, eid)
+    let id = Identifier {
+        extended: h.extended,
+        sid: header::sid_of(h.extended, h.id),
+        eid: header::eid_of(h.extended, h.id),
+    };
+    filters_of(&m.setup).lowest(id)
 }
 
 fn target_for(m: Model, f: u8) -> u32
     ensures { result ≡ target_for m f }
 {
-    let setup = m.setup;
-    let control = setup.filter;
-    filters::target_of(&control, f)
+    filters_of(&m.setup).target_of(f)
 }
 
 fn filtered(m: Model, dlc: u32, header: Header, time: u32, payload: &[u8]) -> Sorted

@@ -6,103 +6,89 @@ ghost use Rattle.filters.specs.Filters.{agrees, kind_agrees, id_agrees, matches,
 
 use filter::{FilterControl, FilterMask, FilterObject};
 
+// A frame's identifier, as the filters compare it.
+#[derive(Clone, Copy)]
+pub struct Identifier {
+    pub extended: bool,
+    pub sid: u32,
+    pub eid: u32,
+}
+
+#[tactic(auto, unfolding(crate::specs::Filters::agrees))]
 fn agreeing(id: u32, object: u32, mask: u32) -> bool
     ensures { result ≡ agrees id object mask }
 {
     (id ^ object) & mask == 0
 }
 
+#[tactic(auto, unfolding(crate::specs::Filters::kind_agrees))]
 fn kind_agrees(object: u32, mask: u32, extended: bool) -> bool
     ensures { result ≡ kind_agrees object mask extended }
 {
-    if !FilterMask(mask).mide() {
-        return true;
-    }
-    let exide = FilterObject(object).exide();
-    if extended { exide } else { !exide }
+    !FilterMask(mask).mide() || FilterObject(object).exide() == extended
 }
 
 // For a standard frame EID is not compared.
-fn id_agrees(object: u32, mask: u32, extended: bool, sid: u32, eid: u32) -> bool
-    ensures { result ≡ id_agrees object mask extended sid eid }
+#[tactic(auto, unfolding(crate::specs::Filters::id_agrees))]
+fn id_agrees(object: u32, mask: u32, id: Identifier) -> bool
+    ensures { result ≡ id_agrees object mask id.extended id.sid id.eid }
 {
     let o = FilterObject(object);
     let m = FilterMask(mask);
-    if !agreeing(sid, o.sid(), m.msid()) {
-        return false;
-    }
-    if !extended {
-        return true;
-    }
-    agreeing(eid, o.eid(), m.meid())
+    agreeing(id.sid, o.sid(), m.msid()) && (!id.extended || agreeing(id.eid, o.eid(), m.meid()))
 }
 
 // One filter and one identifier, of both kinds.
-pub fn matching(enabled: bool, object: u32, mask: u32, extended: bool, sid: u32, eid: u32) -> bool
-    ensures { result ≡ matches enabled object mask extended sid eid }
+#[tactic(auto, unfolding(crate::specs::Filters::matches))]
+pub fn matching(enabled: bool, object: u32, mask: u32, id: Identifier) -> bool
+    ensures { result ≡ matches enabled object mask id.extended id.sid id.eid }
 {
-    if !enabled {
-        return false;
-    }
-    if !kind_agrees(object, mask, extended) {
-        return false;
-    }
-    id_agrees(object, mask, extended, sid, eid)
+    enabled && kind_agrees(object, mask, id.extended) && id_agrees(object, mask, id)
 }
 
-// The control word that filter f has a byte of; of a filter that there is not, 0.
-fn control_at(control: &[u32; 8], f: u8) -> u32
-    ensures { result ≡ control_at control.now f }
-{
-    let words: &[u32] = control;
-    let k = (f / 4) as usize;
-    if k < words.len() {
-        return words[k];
+// The words of all filters.
+#[derive(Clone, Copy)]
+pub struct Filters<'a> {
+    pub control: &'a [u32; 8],
+    pub object: &'a [u32; 32],
+    pub mask: &'a [u32; 32],
+}
+
+impl Filters<'_> {
+    // The control word that filter f has a byte of; of a filter that there is not, 0.
+    fn control_at(self, f: u8) -> FilterControl
+        ensures { result.0 ≡ control_at self.entry.control.now f }
+    {
+        let control = self.control;
+        FilterControl(control.get((f / 4) as usize).copied().unwrap_or(0))
     }
-    0
-}
 
-// The FIFO that filter f gives its frames to.
-pub fn target_of(control: &[u32; 8], f: u8) -> u32
-    ensures { result ≡ target_of control.now f }
-{
-    FilterControl(control_at(control, f)).target(f)
-}
+    // The FIFO that filter f gives its frames to.
+    pub fn target_of(self, f: u8) -> u32
+        ensures { result ≡ target_of self.entry.control.now f }
+    {
+        self.control_at(f).target(f)
+    }
 
-// Bit f is filter f.
-pub fn match_word(
-    control: &[u32; 8],
-    object: &[u32; 32],
-    mask: &[u32; 32],
-    extended: bool,
-    sid: u32,
-    eid: u32,
-) -> u32
-    ensures { result ≡ match_word control.now object.now mask.now extended sid eid }
-{
-    let mut w: u32 = 0;
-    let mut f: u8 = 0;
-    while f < 32 {
-        let enabled = FilterControl(control_at(control, f)).enabled(f);
-        let i = f as usize;
-        if matching(enabled, object[i], mask[i], extended, sid, eid) {
-            w = w | 1 << f;
+    // Bit f is filter f.
+    pub fn match_word(self, id: Identifier) -> u32
+        ensures { let s = self.entry in result ≡ match_word s.control.now s.object.now s.mask.now id.extended id.sid id.eid }
+    {
+        let mut w: u32 = 0;
+        for f in 0..32u8 {
+            let enabled = self.control_at(f).enabled(f);
+            let i = f as usize;
+            if matching(enabled, self.object[i], self.mask[i], id) {
+                w |= 1 << f;
+            }
         }
-        f += 1;
+        w
     }
-    w
-}
 
-// The lowest-numbered filter that matches, 32 for none.
-pub fn lowest(
-    control: &[u32; 8],
-    object: &[u32; 32],
-    mask: &[u32; 32],
-    extended: bool,
-    sid: u32,
-    eid: u32,
-) -> u32
-    ensures { result ≡ filter_of control.now object.now mask.now extended sid eid }
-{
-    u32::trailing_zeros(match_word(control, object, mask, extended, sid, eid))
+    // The lowest-numbered filter that matches, 32 for none.
+    pub fn lowest(self, id: Identifier) -> u32
+        ensures { let s = self.entry in result ≡ filter_of s.control.now s.object.now s.mask.now id.extended id.sid id.eid }
+    {
+        self.match_word(id).trailing_zeros()
+    }
 }
