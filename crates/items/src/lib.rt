@@ -21,14 +21,18 @@ pub enum Item {
 }
 
 // A line by a table of rows; its bytes go to `lent`.
-fn row_of(line: &[u8], table: &[u8], lent: &mut [u8]) -> Result<Spoken, Fault> {
+fn row_of<T: Copy>(
+    line: &[u8],
+    rows: &[(&[u8], &[u8], T)],
+    lent: &mut [u8],
+) -> Result<Spoken<T>, Fault> {
     let mut numbers = [0u64; 24];
-    spoken::row_of(line, table, &mut numbers, lent)
+    spoken::row_of(line, rows, &mut numbers, lent)
 }
 
 // The bytes go to `rx`.
 fn got(line: &[u8], rx: &mut [u8]) -> Result<Item, Fault> {
-    let s = row_of(line, b"< b", rx)?;
+    let s = row_of(line, &[(b"<", b"b", ())], rx)?;
     Ok(Item::Got(s.count))
 }
 
@@ -39,46 +43,28 @@ fn result(line: &[u8]) -> Result<Item, Fault> {
     Ok(Item::Result)
 }
 
-fn by_row(row: usize) -> Item {
-    match row {
-        0 => Item::Sent,
-        1 => Item::Failed,
-        _ => Item::Wait,
-    }
-}
+const OTHERS: [(&[u8], &[u8], Item); 3] = [
+    (b">", b"bd", Item::Sent),
+    (b"!", b"", Item::Failed),
+    (b"wait", b"d", Item::Wait),
+];
 
 fn other(line: &[u8]) -> Result<Item, Fault> {
     let mut scratch = [0u8; 4200];
-    let s = row_of(line, b"> bd ! - wait d", &mut scratch)?;
-    Ok(by_row(s.row))
-}
-
-fn by_name(line: &[u8], rx: &mut [u8]) -> Result<Item, Fault> {
-    if text::is(line, 0, b"<") {
-        return got(line, rx);
-    }
-    if text::is(line, 0, b"=") {
-        return result(line);
-    }
-    if text::is(line, 0, b"field") {
-        return Ok(Item::Field);
-    }
-    if text::is(line, 0, b"crc") {
-        return Ok(Item::Crc);
-    }
-    other(line)
+    let s = row_of(line, &OTHERS, &mut scratch)?;
+    Ok(s.what)
 }
 
 // A line that is too long is a call that is not understood, or nothing.
 pub fn item_of(line: &[u8], long: bool, rx: &mut [u8]) -> Result<Item, Fault> {
-    if line.len() == 0 {
-        return Ok(Item::Blank);
+    match text::word(line, 0) {
+        b"" => Ok(Item::Blank),
+        b"call" => Ok(Item::Call),
+        _ if long => Err(Fault::Long),
+        b"<" => got(line, rx),
+        b"=" => result(line),
+        b"field" => Ok(Item::Field),
+        b"crc" => Ok(Item::Crc),
+        _ => other(line),
     }
-    if text::is(line, 0, b"call") {
-        return Ok(Item::Call);
-    }
-    if long {
-        return Err(Fault::Long);
-    }
-    by_name(line, rx)
 }

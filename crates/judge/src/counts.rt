@@ -1,17 +1,18 @@
 // How many cases there are of each kind.
+use classes::Class;
 use output::Streams;
 
 // Those that agree, of each class of those outside, and those that differ.
 #[derive(Clone, Copy)]
 pub struct Counts {
     agree: u64,
-    outside: [u64; 8],
+    outside: [u64; 7],
     differ: u64,
 }
 
 fn tell_class(to: Streams, k: usize, n: u64) {
     to.write(b"outside ");
-    to.write(text::word(b"- 24 25 35 D1 D2 D3 absent", k));
+    to.write(text::word(b"24 25 35 D1 D2 D3 absent", k));
     to.write(b": ");
     to.number(n);
     to.write(b"\n");
@@ -21,7 +22,7 @@ impl Counts {
     pub fn new() -> Counts {
         Counts {
             agree: 0,
-            outside: [0u64; 8],
+            outside: [0u64; 7],
             differ: 0,
         }
     }
@@ -30,7 +31,7 @@ impl Counts {
         self.agree = self.agree.saturating_add(1);
     }
 
-    pub fn outside(&mut self, class: u8) {
+    pub fn outside(&mut self, class: Class) {
         if let Some(n) = self.outside.get_mut(class as usize) {
             *n = n.saturating_add(1);
         }

@@ -3,12 +3,12 @@
 
 mod counts;
 
-use classes::Seen;
+use classes::{Class, Seen};
 use counts::Counts;
 use items::Item;
 use lines::Writer;
 use output::Streams;
-use spoken::{Fault, Spoken};
+use spoken::{CallName, Fault, Spoken};
 
 // Where the transcript's reader stands in a case.
 #[derive(Clone, Copy, PartialEq, Eq, Debug)]
@@ -32,7 +32,7 @@ pub struct Judge<'a> {
     start: u64,
     phase: Phase,
     seen: Seen,
-    class: u8,
+    class: Option<Class>,
     // The line where the port first did otherwise. It is held until the case's end, since only then it is known whether the case is
     // compared: `note` has behind `-` what the transcript has, and what the port did behind `+`.
     differs: Option<u64>,
@@ -76,7 +76,7 @@ pub fn hear(
     long: bool,
     numbers: &mut [u64],
     lent: &mut [u8],
-) -> Result<Spoken, Fault> {
+) -> Result<Spoken<CallName>, Fault> {
     if long {
         return Err(Fault::Long);
     }
@@ -94,8 +94,8 @@ impl<'a> Judge<'a> {
             number: 0,
             start: 0,
             phase: Phase::Idle,
-            seen: classes::called(0, &[]),
-            class: classes::COMPARED,
+            seen: Seen::new(CallName::Reset, &[]),
+            class: None,
             differs: None,
             note: Writer::new(note),
             counts: Counts::new(),
@@ -114,7 +114,7 @@ impl<'a> Judge<'a> {
 
     // How many bytes the call reads from RAM.
     pub fn read(&self) -> Option<usize> {
-        classes::read_of(self.seen)
+        self.seen.read()
     }
 
     // Whether the port is looked at: the case so far is good, and the line says what the call does, or ends a case that has no result.
@@ -162,14 +162,12 @@ impl<'a> Judge<'a> {
 
     // A case ends: it is counted, and told where it differs. One without a result differs whatever its class.
     fn close(&mut self) {
-        match self.phase {
-            Phase::Idle => {}
-            Phase::Lost => self.counts.differ(),
-            Phase::Over if self.class != classes::COMPARED => self.counts.outside(self.class),
-            _ => match self.differs {
-                Some(at) => self.differ(at, self.start),
-                None => self.counts.agree(),
-            },
+        match (self.phase, self.class, self.differs) {
+            (Phase::Idle, _, _) => {}
+            (Phase::Lost, _, _) => self.counts.differ(),
+            (Phase::Over, Some(class), _) => self.counts.outside(class),
+            (_, _, Some(at)) => self.differ(at, self.start),
+            _ => self.counts.agree(),
         }
         self.phase = Phase::Idle;
         self.differs = None;
@@ -184,8 +182,7 @@ impl<'a> Judge<'a> {
             faults::told(self.to.stderr, self.number, Fault::Count, line);
             return self.counts.differ();
         }
-        let class = singles::class(item, line);
-        if class != classes::COMPARED {
+        if let Some(class) = singles::class(item, line) {
             self.counts.outside(class);
         } else if line == out.text() {
             self.counts.agree();
@@ -218,10 +215,10 @@ impl<'a> Judge<'a> {
         }
     }
 
-    fn begin(&mut self, heard: Result<Spoken, Fault>, line: &[u8]) {
+    fn begin(&mut self, heard: Result<Spoken<CallName>, Fault>, line: &[u8]) {
         self.start = self.number;
         self.phase = Phase::Turn;
-        self.class = classes::COMPARED;
+        self.class = None;
         self.differs = None;
         match heard {
             Ok(spoken) => self.lent = spoken.count,
@@ -252,24 +249,24 @@ impl<'a> Judge<'a> {
     fn see(
         &mut self,
         item: Result<Item, Fault>,
-        heard: Result<Spoken, Fault>,
+        heard: Result<Spoken<CallName>, Fault>,
         line: &[u8],
         numbers: &[u64],
         rx: &[u8],
     ) {
-        self.seen = match (heard, item) {
-            (Ok(spoken), _) => classes::called(spoken.row, numbers),
-            (_, Ok(Item::Sent)) => classes::asked(self.seen, line),
-            (_, Ok(Item::Got(n))) => classes::answered(self.seen, text::front(rx, n)),
-            _ => self.seen,
-        };
+        match (heard, item) {
+            (Ok(spoken), _) => self.seen = Seen::new(spoken.what, numbers),
+            (_, Ok(Item::Sent)) => self.seen.ask(line),
+            (_, Ok(Item::Got(n))) => self.seen.answer(text::front(rx, n)),
+            _ => {}
+        }
     }
 
     // After a line, `heard` being what a call's line says.
     pub fn after(
         &mut self,
         item: Result<Item, Fault>,
-        heard: Result<Spoken, Fault>,
+        heard: Result<Spoken<CallName>, Fault>,
         line: &[u8],
         numbers: &[u64],
         rx: &[u8],
@@ -281,7 +278,7 @@ impl<'a> Judge<'a> {
             Err(f) => self.lose(f, line),
         }
         if let Ok(Item::Result) = item {
-            self.class = classes::class(self.seen, line);
+            self.class = self.seen.class(line);
         }
         self.see(item, heard, line, numbers, rx);
     }

@@ -159,7 +159,7 @@ fn scrub_of(line: &[u8]) -> Call {
                 numbers: &numbers,
                 bytes: text::front(&lent, s.count),
             };
-            starts::start(s.row, a)
+            starts::start(s.what, a)
         }
         Err(_) => driver::reset(),
     }

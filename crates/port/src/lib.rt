@@ -4,7 +4,7 @@
 use driver::{Answer, Call, Next, Outcome};
 use items::Item;
 use lines::Writer;
-use spoken::{Fault, Spoken};
+use spoken::{CallName, Fault, Spoken};
 use starts::Arguments;
 
 // A RAM read of so many bytes ends with them.
@@ -28,17 +28,17 @@ pub fn put_line(call: Call, read: Option<usize>, sent: &[u8], rx: &[u8], out: &m
     }
 }
 
-// What a line of the transcript means to the call: the row that it begins with, or what it is answered.
+// What a line of the transcript means to the call: its name, or what it is answered.
 #[derive(Clone, Copy)]
 pub enum Step {
-    Begin(usize),
+    Begin(CallName),
     Answer(Answer),
 }
 
 // A call's line begins it, and what it is answered goes to it.
-pub fn step_of(item: Result<Item, Fault>, heard: Result<Spoken, Fault>) -> Option<Step> {
+pub fn step_of(item: Result<Item, Fault>, heard: Result<Spoken<CallName>, Fault>) -> Option<Step> {
     if let Ok(spoken) = heard {
-        return Some(Step::Begin(spoken.row));
+        return Some(Step::Begin(spoken.what));
     }
     match item {
         Ok(Item::Got(_)) => Some(Step::Answer(Answer::Exchanged)),
@@ -51,7 +51,7 @@ pub fn step_of(item: Result<Item, Fault>, heard: Result<Spoken, Fault>) -> Optio
 // The call after a step, `a` being the arguments of its line. No byte stands beside the answer to a wait.
 pub fn moved(call: Call, step: Step, a: Arguments<'_>, rx: &[u8]) -> Call {
     match step {
-        Step::Begin(row) => starts::start(row, a),
+        Step::Begin(name) => starts::start(name, a),
         Step::Answer(Answer::Waited) => driver::answer(call, Answer::Waited, b""),
         Step::Answer(answer) => driver::answer(call, answer, rx),
     }

@@ -41,17 +41,29 @@ pub enum Entry {
     Step(Between),
 }
 
-// The bus steps are the first six rows of both tables below.
-fn bus_of(row: usize) -> Bus {
-    match row {
-        0 => Bus::Send,
-        1 => Bus::Deliver { coded: false },
-        2 => Bus::Deliver { coded: true },
-        3 => Bus::Sort { coded: false },
-        4 => Bus::Sort { coded: true },
-        _ => Bus::SendQueue,
-    }
-}
+// Lines of bus steps, between calls and in @ lines.
+const BUS: [(&[u8], &[u8], Bus); 6] = [
+    (b"send", b"d", Bus::Send),
+    (b"deliver", b"difhb", Bus::Deliver { coded: false }),
+    (b"deliver", b"difhbd", Bus::Deliver { coded: true }),
+    (b"sort", b"ifhb", Bus::Sort { coded: false }),
+    (b"sort", b"ifhbd", Bus::Sort { coded: true }),
+    (b"send", b"q", Bus::SendQueue),
+];
+
+// What an @ line has besides bus steps.
+const NOTES: [(&[u8], &[u8], Note); 2] = [
+    (b"fail", b"", Note::Fail),
+    (b"answer", b"b", Note::Answer),
+];
+
+// What stands between calls besides bus steps.
+const STEPS: [(&[u8], &[u8], Between); 4] = [
+    (b"raw", b"bd", Between::Raw),
+    (b"held", b"d", Between::Held),
+    (b"held", b"q", Between::HeldQueue),
+    (b"new", b"", Between::New),
+];
 
 // The number of the exchange that an @ line is about.
 pub fn exchange_of(line: &[u8]) -> Option<u64> {
@@ -60,13 +72,11 @@ pub fn exchange_of(line: &[u8]) -> Option<u64> {
 
 // What an @ line says; its numbers and bytes go to the buffers.
 pub fn note_of(line: &[u8], numbers: &mut [u64], lent: &mut [u8]) -> Result<Note, Fault> {
-    let table = b"send d deliver difhb deliver difhbd sort ifhb sort ifhbd send q fail - answer b";
-    let s = spoken::row_of(text::rest(line, 1), table, numbers, lent)?;
-    Ok(match s.row {
-        6 => Note::Fail,
-        7 => Note::Answer,
-        row => Note::Bus(bus_of(row)),
-    })
+    let said = text::rest(line, 1);
+    match spoken::row_of(said, &BUS, numbers, lent) {
+        Err(Fault::Name) => Ok(spoken::row_of(said, &NOTES, numbers, lent)?.what),
+        step => Ok(Note::Bus(step?.what)),
+    }
 }
 
 fn noted(line: &[u8], numbers: &mut [u64], lent: &mut [u8]) -> Result<Note, Fault> {
@@ -75,16 +85,10 @@ fn noted(line: &[u8], numbers: &mut [u64], lent: &mut [u8]) -> Result<Note, Faul
 }
 
 fn step(line: &[u8], numbers: &mut [u64], lent: &mut [u8]) -> Result<Between, Fault> {
-    let table =
-        b"send d deliver difhb deliver difhbd sort ifhb sort ifhbd send q raw bd held d held q new -";
-    let s = spoken::row_of(line, table, numbers, lent)?;
-    Ok(match s.row {
-        6 => Between::Raw,
-        7 => Between::Held,
-        8 => Between::HeldQueue,
-        9 => Between::New,
-        row => Between::Bus(bus_of(row)),
-    })
+    match spoken::row_of(line, &BUS, numbers, lent) {
+        Err(Fault::Name) => Ok(spoken::row_of(line, &STEPS, numbers, lent)?.what),
+        step => Ok(Between::Bus(step?.what)),
+    }
 }
 
 // Of a line that is too long only the front is there, which is no more than a comment or an error.

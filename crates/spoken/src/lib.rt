@@ -1,16 +1,20 @@
 // Lines that are a name and arguments: calls and results.
 #![tactic(auto)]
 
-ghost use Rattle.std.specs.Prelude.{◌≤◌, length};
-
+use calls::CALLS;
 use entries::entry;
+use results::RESULTS;
 
+mod calls;
 mod entries;
+mod results;
 
-// A line by its row in a table, and its last number: of bytes, how many.
+pub use calls::CallName;
+
+// A line by what its row in a table stands for, and its last number: of bytes, how many.
 #[derive(Clone, Copy, PartialEq, Eq, Debug)]
-pub struct Spoken {
-    pub row: usize,
+pub struct Spoken<T> {
+    pub what: T,
     pub count: usize,
 }
 
@@ -33,31 +37,17 @@ pub enum Fault {
     Place,
 }
 
-fn put_at(numbers: &mut [u64], at: usize, n: u64) {
-    if at < numbers.len() {
-        numbers[at] = n;
-    }
-}
-
 // Which word of a list a word is.
 fn choice(w: &[u8], list: &[u8]) -> Option<u64> {
-    let n = text::count(list);
-    let mut i = 0;
-    while i < n {
-        if text::is(list, i, w) {
-            return Some(i as u64);
-        }
-        i += 1;
-    }
-    None
+    Some(text::place(list, w)? as u64)
 }
 
 // A timestamp's word, or none.
 fn stamp(w: &[u8]) -> Option<u64> {
-    if check::same(w, b"-") {
-        return Some(0);
+    match w {
+        b"-" => Some(0),
+        _ => text::hex(w),
     }
-    text::hex(w)
 }
 
 // What a word says as the argument that a letter stands for; bytes go to the lent buffer, and the number is how many.
@@ -82,146 +72,109 @@ fn argument(letter: u8, w: &[u8], lent: &mut [u8]) -> Option<u64> {
     }
 }
 
-// How many arguments a row has.
-fn size_of(shape: &[u8]) -> usize
-    ensures { result ≤ length shape.now }
-{
-    if check::same(shape, b"-") {
-        return 0;
+fn put_at(numbers: &mut [u64], k: usize, n: u64) {
+    if let Some(place) = numbers.get_mut(k) {
+        *place = n;
     }
-    shape.len()
 }
 
-// The arguments of a line as a row has them: how many bytes the last has, or what is wrong with them.
+// The arguments of a line as a row has them: the last one's number, or what is wrong with them.
 fn arguments(
     line: &[u8],
     shape: &[u8],
     numbers: &mut [u64],
     lent: &mut [u8],
 ) -> Result<u64, Fault> {
-    let n = size_of(shape);
-    let words = text::count(line);
-    if words < 1 {
+    if text::count(line) != shape.len() + 1 {
         return Err(Fault::Count);
     }
-    if words - 1 != n {
-        return Err(Fault::Count);
-    }
-    let mut last: u64 = 0;
-    let mut i = 0;
-    while i < n {
-        let letter = shape[i];
-        let Some(v) = argument(letter, text::word(line, i + 1), lent) else {
-            return Err(Fault::Word(i + 1, letter));
-        };
-        put_at(numbers, i, v);
-        last = v;
-        i += 1;
+    let mut last = 0;
+    for (k, letter) in shape.iter().enumerate() {
+        let w = text::word(line, k + 1);
+        last = argument(*letter, w, lent).ok_or(Fault::Word(k + 1, *letter))?;
+        put_at(numbers, k, last);
     }
     Ok(last)
 }
 
-// The n words from the third on are entries: how many bytes they are.
-fn all_entries(line: &[u8], n: usize, lent: &mut [u8]) -> Result<u64, Fault>
-    requires { n ≤ 256 }
-{
-    let mut k = 0;
-    while k < n {
-        if !entry(text::word(line, k + 2), k, lent) {
-            return Err(Fault::Word(k + 2, b'e'));
-        }
-        k += 1;
-    }
-    Ok((12 * n) as u64)
-}
-
-// The arguments of a line whose row is we.
+// The arguments of a line whose row is we: how many bytes its entries are.
 fn listed(line: &[u8], numbers: &mut [u64], lent: &mut [u8]) -> Result<u64, Fault> {
     let words = text::count(line);
-    if words < 2 {
+    if words < 2 || 258 < words {
         return Err(Fault::Count);
     }
-    if 258 < words {
-        return Err(Fault::Count);
-    }
-    let Some(v) = argument(b'w', text::word(line, 1), lent) else {
-        return Err(Fault::Word(1, b'w'));
-    };
+    let v = argument(b'w', text::word(line, 1), lent).ok_or(Fault::Word(1, b'w'))?;
     put_at(numbers, 0, v);
-    all_entries(line, words - 2, lent)
+    let mut places = lent.chunks_exact_mut(12);
+    for k in 2..words {
+        let place = places.next().ok_or(Fault::Word(k, b'e'))?;
+        entry(text::word(line, k), place).ok_or(Fault::Word(k, b'e'))?;
+    }
+    Ok(12 * (words as u64 - 2))
 }
 
-// A row's last number, or why the row is not the line's.
-fn try_row(
+// The last number of a line that has a row's name and words.
+fn tried(
     line: &[u8],
-    table: &[u8],
-    row: usize,
+    name: &[u8],
+    shape: &[u8],
     numbers: &mut [u64],
     lent: &mut [u8],
 ) -> Result<u64, Fault> {
-    if 100 <= row {
+    if !text::is(line, 0, name) {
         return Err(Fault::Name);
     }
-    if !text::is(line, 0, text::word(table, 2 * row)) {
-        return Err(Fault::Name);
+    match shape {
+        b"we" => listed(line, numbers, lent),
+        _ => arguments(line, shape, numbers, lent),
     }
-    let shape = text::word(table, 2 * row + 1);
-    if check::same(shape, b"we") {
-        return listed(line, numbers, lent);
-    }
-    arguments(line, shape, numbers, lent)
 }
 
 // Of two rows' faults the one that says more.
 fn nearer(a: Fault, b: Fault) -> Fault {
     match b {
         Fault::Name => a,
-        Fault::Count => match a {
-            Fault::Name => b,
-            _ => a,
-        },
+        Fault::Count if a != Fault::Name => a,
         _ => b,
     }
 }
 
-// The first row of a table that is the line's. A row is a name, the line's first word, and a letter for each word that follows it: d
+// The first row of a table that is the line's. A row is a name, the line's first word; a letter for each word that follows it: d
 // decimal, h hex, i identifier, f flags, b bytes, m std, ext or both, k std or ext, s timestamp; t, r, o, q, a and u are the words tx,
-// rx, off, queue, back and unread; - is no word. The row we is report or rewrite, and behind it entries, any number up to 256, none
-// included.
-pub fn row_of(
+// rx, off, queue, back and unread; and what it stands for. The row we is report or rewrite, and behind it entries, any number up to 256,
+// none included.
+pub fn row_of<T: Copy>(
     line: &[u8],
-    table: &[u8],
+    rows: &[(&[u8], &[u8], T)],
     numbers: &mut [u64],
     lent: &mut [u8],
-) -> Result<Spoken, Fault> {
-    let n = text::count(table) / 2;
+) -> Result<Spoken<T>, Fault> {
     let mut fault = Fault::Name;
-    let mut row = 0;
-    while row < n {
-        match try_row(line, table, row, numbers, lent) {
+    for (name, shape, what) in rows {
+        match tried(line, name, shape, numbers, lent) {
             Ok(last) => {
                 return Ok(Spoken {
-                    row: row,
+                    what: *what,
                     count: last as usize,
                 });
             }
             Err(f) => fault = nearer(fault, f),
         }
-        row += 1;
     }
     Err(fault)
 }
 
 // A call's line, `call NAME ARGS...`.
-pub fn understood(line: &[u8], numbers: &mut [u64], lent: &mut [u8]) -> Result<Spoken, Fault> {
-    let table =
-        b"reset - get_op_mode - read_register h checked_read h write_register hh verify_long - read_ram hd write_ram hb verify - modify_register hhh set_op_mode d configure_osc dd configure_io dddd configure_bit_timing ddddddddd configure dddddddddddddddddddd configure_fifo dddtddddddd configure_fifo dddrddddd configure_filter do configure_filter ddmii request d push difdb transmit difdb has_next d peek d get d scrub we configure_tx_queue o configure_tx_queue ddddddd queue_push ifdb queue_push_unchecked ifdb queue_request -";
-    row_of(text::rest(line, 1), table, numbers, lent)
+pub fn understood(
+    line: &[u8],
+    numbers: &mut [u64],
+    lent: &mut [u8],
+) -> Result<Spoken<CallName>, Fault> {
+    row_of(text::rest(line, 1), &CALLS, numbers, lent)
 }
 
 // A result's line, `= RESULT`. What it says goes to the buffers.
-pub fn result(line: &[u8], numbers: &mut [u64], lent: &mut [u8]) -> Result<Spoken, Fault> {
-    let table =
-        b"ok - none - yes - no - panic - refused d refused dh refused dd word h word hd mode d bytes b message khfsb message khfsbd message khfsbdd agree hd differ hhhd differ hhhdahd differ hhhdud unread hd";
-    row_of(text::rest(line, 1), table, numbers, lent)
+pub fn result(line: &[u8], numbers: &mut [u64], lent: &mut [u8]) -> Result<(), Fault> {
+    row_of(text::rest(line, 1), &RESULTS, numbers, lent)?;
+    Ok(())
 }

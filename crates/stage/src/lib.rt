@@ -2,10 +2,12 @@
 #![tactic(auto)]
 
 use acts::Chip;
+use classes::Seen;
 use driver::{Answer, Call, Next};
 use lines::Writer;
 use model::Heard;
 use script::Note;
+use spoken::CallName;
 use starts::Arguments;
 
 // What the @ lines say of one exchange: whether it fails, and how many bytes are given instead of what the chip answers.
@@ -147,20 +149,20 @@ impl Stage<'_> {
     }
 }
 
-fn through(chip: &mut Chip, row: usize, a: Arguments<'_>, notes: &[u8]) -> Call {
+fn through(chip: &mut Chip, name: CallName, a: Arguments<'_>, notes: &[u8]) -> Call {
     let mut rx = [0u8; 32768];
     let mut out = io::large_buffer();
     let mut stage = Stage {
         chip,
         notes,
         lent: a.bytes,
-        read: classes::read_of(classes::called(row, a.numbers)),
+        read: Seen::new(name, a.numbers).read(),
         made: 0,
         got: 0,
         rx: &mut rx,
         out: Writer::new(&mut out),
     };
-    stage.through(starts::start(row, a))
+    stage.through(starts::start(name, a))
 }
 
 // A call by its line, with its @ lines. A scrub starts at the place, which is afterwards the next one's: no other call moves it.
@@ -176,9 +178,9 @@ pub fn run(chip: &mut Chip, line: &[u8], notes: &[u8], place: &mut usize) {
         numbers: &numbers,
         bytes: text::front(&lent, s.count),
     };
-    let call = through(chip, s.row, a, notes);
+    let call = through(chip, s.what, a, notes);
     chip.to.write(b"\n");
-    if s.row == starts::SCRUB {
+    if s.what == CallName::Scrub {
         *place = driver::scrubber(call).place;
     }
 }

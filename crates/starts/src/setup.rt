@@ -8,7 +8,7 @@ use bit_timing::signed;
 use driver::{
     BitTimeConfiguration, Call, DataBitTime, FifoConfiguration, FifoMode, FilterConfiguration,
     FilterMode, Identifier, IoConfiguration, NominalBitTime, OscillatorConfiguration, RxFifo,
-    Settings, TxFifo,
+    Settings, TxFifo, TxQueueConfiguration,
 };
 
 // A call that is refused 24: there is no mode 8.
@@ -102,7 +102,7 @@ pub fn configure_call(a: Arguments<'_>) -> Call {
 }
 
 // A number that no field holds, where a yes or no was neither.
-pub fn spoilt(good: bool, n: u32) -> u32 {
+fn spoilt(good: bool, n: u32) -> u32 {
     if good { n } else { 0xFFFF_FFFF }
 }
 
@@ -172,4 +172,16 @@ pub fn filter_call(a: Arguments<'_>) -> Call {
         mask: filter_identifier(a.number(4)),
     };
     driver::configure_filter(a.word(0), c)
+}
+
+pub fn queue_call(a: Arguments<'_>) -> Call {
+    driver::configure_tx_queue(Some(TxQueueConfiguration {
+        size: a.word(0),
+        plsize: spoilt(a.are_flags(4, 7), a.word(1)),
+        txpri: a.word(2),
+        txat: a.word(3),
+        txatie: a.is_on(4),
+        empty: a.is_on(5),
+        notfull: a.is_on(6),
+    }))
 }

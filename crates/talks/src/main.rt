@@ -4,11 +4,12 @@
 // call that is not understood go to no call.
 #![tactic(auto)]
 
+use classes::Seen;
 use driver::Call;
 use items::Item;
 use lines::Writer;
 use output::Streams;
-use spoken::{Fault, Spoken};
+use spoken::{CallName, Fault, Spoken};
 use starts::Arguments;
 
 #[derive(Drop)]
@@ -37,16 +38,16 @@ fn got_of(item: Item) -> usize {
 }
 
 impl Talks<'_> {
-    fn called(&mut self, heard: Result<Spoken, Fault>) {
+    fn called(&mut self, heard: Result<Spoken<CallName>, Fault>) {
         self.open = heard.is_ok();
         if let Ok(spoken) = heard {
             self.sent = spoken.count;
-            self.read = classes::read_of(classes::called(spoken.row, &self.numbers));
+            self.read = Seen::new(spoken.what, &self.numbers).read();
         }
     }
 
     // What a line is, or what is wrong with it.
-    fn judged(&self, item: Item, heard: Result<Spoken, Fault>) -> Result<Item, Fault> {
+    fn judged(&self, item: Item, heard: Result<Spoken<CallName>, Fault>) -> Result<Item, Fault> {
         match item {
             Item::Blank => Ok(item),
             Item::Call => heard.map(|_| item),
@@ -57,7 +58,7 @@ impl Talks<'_> {
     }
 
     // What the call does after this line, where it does something: a wait is not written here, since its line comes with the answers.
-    fn moved(&mut self, item: Item, heard: Result<Spoken, Fault>) {
+    fn moved(&mut self, item: Item, heard: Result<Spoken<CallName>, Fault>) {
         let Some(step) = port::step_of(Ok(item), heard) else {
             return;
         };
