@@ -1,7 +1,7 @@
 // What stands between calls: bus steps, raw exchanges, what a FIFO or the transmit queue holds, a new chip. Each is done and written.
 #![tactic(auto)]
 
-use bus::{Delivery, Sent, Unsent};
+use bus::{Sent, Undelivered, Unsent};
 use header::Header;
 use lines::Writer;
 use message::{Frame, Undecoded};
@@ -62,14 +62,14 @@ fn put_sent(out: &mut Writer<'_>, sent: Result<Frame, Unsent>) {
     }
 }
 
-fn put_delivery(out: &mut Writer<'_>, delivery: Delivery) {
+fn put_delivery(out: &mut Writer<'_>, delivery: Result<(), Undelivered>) {
     match delivery {
-        Delivery::Delivered => out.put(b"delivered"),
-        Delivery::Refused(r) => out.refusal(r),
-        Delivery::Configuration => out.put(b"turned down configuration"),
-        Delivery::NotReceiving => out.put(b"turned down not receiving"),
-        Delivery::TooLong => out.put(b"turned down too long"),
-        Delivery::Full => out.put(b"turned down full"),
+        Ok(()) => out.put(b"delivered"),
+        Err(Undelivered::Refused(r)) => out.refusal(r),
+        Err(Undelivered::Configuration) => out.put(b"turned down configuration"),
+        Err(Undelivered::NotReceiving) => out.put(b"turned down not receiving"),
+        Err(Undelivered::TooLong) => out.put(b"turned down too long"),
+        Err(Undelivered::Full) => out.put(b"turned down full"),
     }
 }
 
@@ -132,7 +132,7 @@ impl Chip {
         let mut out = Writer::new(&mut buffer);
         let s = bus::sort(self.model, f.header, f.dlc, f.time, f.payload);
         put_delivery(&mut out, s.delivery);
-        if let Delivery::Delivered = s.delivery {
+        if s.delivery.is_ok() {
             out.byte(b' ');
             out.decimal(s.fifo as u64);
             out.put(b" filter ");

@@ -4,11 +4,9 @@ use Rattle.std.specs.Prelude.{Option, Some, None, Ok}
 use mathlib.Core.Path.{◌≡◌, ap, ◌∙◌}
 use Prim.Native.Nat.{ℕ, ◌≤◌, ◌<◌}
 use native.Mathlib.Omega.{arith}
-use mathlib.Core.List.{List, [], ◌∷◌}
+use mathlib.Core.List.{List}
 use lib.ListN.{length, take}
 use lib.Seq.{take-append_seam}
-use types.Run.{OneOf, miss}
-use denote.Enum.Declared.{tag_of}
 use Rattle.parts.specs.Parts.{zeroed}
 use Rattle.parts.proofs.Laws.{length_zeroed}
 use Rattle.words.proofs.Laws.{le_length}
@@ -16,11 +14,10 @@ use Rattle.header.specs.declared.Header.{Header}
 use Rattle.header.specs.Header.{top_id, word0, received1}
 use Rattle.header.proofs.Dlcs.{received_le}
 use Rattle.message.specs.Object.{stamp_bytes}
-use Rattle.message.specs.Message.{arrival_check, arriving, Decoding, holds, no_frame, short}
+use Rattle.message.specs.Message.{arrival_check, arriving}
 use Rattle.message.proofs.Checks.{fitting}
-use Rattle.message.specs.Structs.{Object, object_in, decoded_as}
+use Rattle.message.specs.Structs.{Object, object_in}
 use Rattle.message.proofs.Round.{object_length}
-use Rattle.state.specs.declared.Model.{Model}
 
 stamp_most : (s : Option ℕ) → length (stamp_bytes s) ≤ 4
 stamp_most (Some t) = omega (arith, le_length t)

@@ -21,7 +21,7 @@ use Rattle.message.specs.Message.{arrival_check, arriving}
 use Rattle.ring.specs.Ring.{sending, depth, claimed, overflowed}
 use Rattle.state.specs.declared.Model.{Model}
 use Rattle.state.specs.Model.{fifo_at, frozen_at, with_fifo, written}
-use Rattle.bus.specs.declared.arrival.Delivery.{Delivery}
+use Rattle.bus.specs.declared.arrival.Undelivered.{Undelivered}
 use Rattle.bus.specs.declared.arrival.Delivered.{Delivered}
 use Rattle.bus.specs.Held.{slot_of}
 use Rattle.bus.specs.Bus.{stamp_for, delivered, receives, appended, give, by_check, deliver_of}
@@ -73,9 +73,9 @@ module _ (m : Model) (n : ℕ) (header : Header) (dlc time : ℕ) (payload : Lis
 
   -- what holds of each answer holds of deliver's; each may use the tests that lead to it
   pub by_deliver : (P : Delivered → Type 0)
-      → (is_fifo n ≡ false → P (delivered (Delivery.Refused Refusal.BadNumber) m))
-      → (is_fifo n ≡ true → too_high ≡ true → P (delivered (Delivery.Refused Refusal.BadIdentifier) m))
-      → (is_fifo n ≡ true → too_high ≡ false → means ≡ false → P (delivered (Delivery.Refused Refusal.BadPayload) m))
+      → (is_fifo n ≡ false → P (delivered (Err (Undelivered.Refused Refusal.BadNumber)) m))
+      → (is_fifo n ≡ true → too_high ≡ true → P (delivered (Err (Undelivered.Refused Refusal.BadIdentifier)) m))
+      → (is_fifo n ≡ true → too_high ≡ false → means ≡ false → P (delivered (Err (Undelivered.Refused Refusal.BadPayload)) m))
       → (is_fifo n ≡ true → too_high ≡ false → means ≡ true → arrival_check header dlc (length payload) ≡ Ok tt
       → P (give m n 0 dlc header time payload))
       → P (deliver_of m n header dlc time payload)
@@ -85,14 +85,14 @@ module _ (m : Model) (n : ℕ) (header : Header) (dlc time : ℕ) (payload : Lis
 
   -- the causes that the FIFO and the mode are, in document 01's order
   pub by_give : (P : Delivered → Type 0) (hit : ℕ)
-      → (m.fixed.configuring ≡ true → P (delivered Delivery.Configuration m))
-      → (m.fixed.configuring ≡ false → receives m n ≡ false → P (delivered Delivery.NotReceiving m))
-      → (m.fixed.configuring ≡ false → receives m n ≡ true → ltb (payload_of (frozen_at m n)) (length payload) ≡ true → P (delivered Delivery.TooLong m))
+      → (m.fixed.configuring ≡ true → P (delivered (Err Undelivered.Configuration) m))
+      → (m.fixed.configuring ≡ false → receives m n ≡ false → P (delivered (Err Undelivered.NotReceiving) m))
+      → (m.fixed.configuring ≡ false → receives m n ≡ true → ltb (payload_of (frozen_at m n)) (length payload) ≡ true → P (delivered (Err Undelivered.TooLong) m))
       → (m.fixed.configuring ≡ false → receives m n ≡ true → ltb (payload_of (frozen_at m n)) (length payload) ≡ false
-      → leb (depth (frozen_at m n)) (fifo_at m n).count ≡ true → P (delivered Delivery.Full (with_fifo m n (overflowed true (fifo_at m n)))))
+      → leb (depth (frozen_at m n)) (fifo_at m n).count ≡ true → P (delivered (Err Undelivered.Full) (with_fifo m n (overflowed true (fifo_at m n)))))
       → (m.fixed.configuring ≡ false → receives m n ≡ true → ltb (payload_of (frozen_at m n)) (length payload) ≡ false
       → leb (depth (frozen_at m n)) (fifo_at m n).count ≡ false
-      → P (delivered Delivery.Delivered (with_fifo (written m (slot_of m n (fifo_at m n).count) (arriving header dlc hit (stamp_for m n time) payload)) n (claimed (fifo_at m n)))))
+      → P (delivered (Ok tt) (with_fifo (written m (slot_of m n (fifo_at m n).count) (arriving header dlc hit (stamp_for m n time) payload)) n (claimed (fifo_at m n)))))
       → P (give m n hit dlc header time payload)
   unfolding give appended
   by_give P hit a b c d e =
@@ -113,8 +113,8 @@ unfolding receives
 is_receiving m n i s = rw (i, s)
 
 -- what a FIFO tells of a frame that it was given is the first cause
-pub give_told : (m : Model) (n hit d : ℕ) (header : Header) (time : ℕ) (payload : List ℕ) (Q : Delivery → ℕ → Type 0)
-    → Q Delivery.Configuration 1 → Q Delivery.NotReceiving 2 → Q Delivery.TooLong 3 → Q Delivery.Full 4 → Q Delivery.Delivered 0
+pub give_told : (m : Model) (n hit d : ℕ) (header : Header) (time : ℕ) (payload : List ℕ) (Q : Result (Unit {0}) Undelivered → ℕ → Type 0)
+    → Q (Err Undelivered.Configuration) 1 → Q (Err Undelivered.NotReceiving) 2 → Q (Err Undelivered.TooLong) 3 → Q (Err Undelivered.Full) 4 → Q (Ok tt) 0
     → Q (give m n hit d header time payload).delivery (first_cause m n payload)
 give_told m n hit d header time payload Q q₁ q₂ q₃ q₄ q₀ =
     by_give m n header d time payload (λ x. Q x.delivery (first_cause m n payload)) hit
@@ -154,22 +154,22 @@ deliver_22 m n header dlc time payload i =
       λ h. absurd (h.not_both (agree header dlc payload e).0 (agree header dlc payload e).1),
     ))
 
-abbrev arrived : Delivery → Bool
-arrived Delivery.Delivered = true
-arrived Delivery.Configuration = false
-arrived Delivery.NotReceiving = false
-arrived Delivery.TooLong = false
-arrived Delivery.Full = false
-arrived (Delivery.Refused r) = false
+abbrev arrived : Result (Unit {0}) Undelivered → Bool
+arrived (Ok _) = true
+arrived (Err Undelivered.Configuration) = false
+arrived (Err Undelivered.NotReceiving) = false
+arrived (Err Undelivered.TooLong) = false
+arrived (Err Undelivered.Full) = false
+arrived (Err (Undelivered.Refused r)) = false
 
-pub never : {X : Type 0} (x : Delivery) → arrived x ≡ false → x ≡ Delivery.Delivered → X
+pub never : {X : Type 0} (x : Result (Unit {0}) Undelivered) → arrived x ≡ false → x ≡ Ok tt → X
 never x f q = clash f (ap arrived q)
 
 pub give_iff : (m : Model) (n hit d : ℕ) (header : Header) (time : ℕ) (payload : List ℕ)
     → ltb (top_id header.extended) header.id ≡ false → means_payload header d payload ≡ true
-    → ((give m n hit d header time payload).delivery ≡ Delivery.Delivered) ↔ Deliverable m n header d payload
+    → ((give m n hit d header time payload).delivery ≡ Ok tt) ↔ Deliverable m n header d payload
 give_iff m n hit d header time payload t e =
-    by_give m n header d time payload (λ x. (x.delivery ≡ Delivery.Delivered) ↔ Deliverable m n header d payload) hit
+    by_give m n header d time payload (λ x. (x.delivery ≡ Ok tt) ↔ Deliverable m n header d payload) hit
     (λ a. (never _ refl, λ h. clash h.outside a))
     (λ a b. (never _ refl, λ h. clash b (is_receiving m n h.fifo h.receives)))
     (λ a b c. (never _ refl, λ h. absurd (omega (arith, h.fits, ltb-true))))
@@ -190,7 +190,7 @@ give_iff m n hit d header time payload t e =
 
 pub delivered_iff_lem : DeliveredIff
 delivered_iff_lem m n header dlc time payload =
-    by_deliver m n header dlc time payload (λ x. (x.delivery ≡ Delivery.Delivered) ↔ Deliverable m n header dlc payload)
+    by_deliver m n header dlc time payload (λ x. (x.delivery ≡ Ok tt) ↔ Deliverable m n header dlc payload)
     (λ i. (never _ refl, λ h. clash i h.fifo))
     (λ i t. (never _ refl, λ h. absurd (omega (arith, h.identifier, ltb-true))))
     (λ i t f. (never _ refl, λ h. clash f (agreed header dlc payload h.dlc_fits h.meant)))

@@ -3,7 +3,6 @@ mod Answers
 pub mod Winner
 pub mod Laws
 pub mod QueueLaws
-pub mod Causes
 pub mod Fitting
 pub mod Arriving
 pub mod Sorts

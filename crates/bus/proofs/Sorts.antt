@@ -19,7 +19,6 @@ use Rattle.header.specs.Header.{top_id}
 use Rattle.message.specs.Message.{arrival_check}
 use Rattle.filters.specs.Filters.{filter_count}
 use Rattle.state.specs.declared.Model.{Model}
-use Rattle.bus.specs.declared.arrival.Delivery.{Delivery}
 use Rattle.bus.specs.declared.sorting.Sorted.{Sorted}
 use Rattle.bus.specs.Sort.{filter_for, target_for, unsorted, taken_by, sorted_by, sort_of}
 use Rattle.bus.specs.Numbers.{delivery_numbers, sorting_numbers, sorted_numbers}
@@ -78,7 +77,7 @@ pub sorted_iff_lem : SortedIff
 sorted_iff_lem m header dlc time payload =
     let f : ℕ = filter_for m header in
     let n : ℕ = target_for m f in
-    by_sort m header dlc time payload (λ x. (x.delivery ≡ Delivery.Delivered) ↔ Sortable m header dlc payload)
+    by_sort m header dlc time payload (λ x. (x.delivery ≡ Ok tt) ↔ Sortable m header dlc payload)
     (λ t. (never _ refl, λ h. absurd (omega (arith, h.deliverable.identifier, ltb-true))))
     (λ t e. (never _ refl, λ h. clash e (agreed header dlc payload h.deliverable.dlc_fits h.deliverable.meant)))
     (λ t e z. (never _ refl, λ h. clash z (eq-eqb _ _ h.dncnt)))

@@ -13,7 +13,7 @@ use Rattle.state.specs.declared.Model.{Model}
 use Rattle.state.specs.Model.{fifo_at, frozen_at, with_fifo, written}
 use Rattle.bus.specs.declared.departure.Unsent.{Unsent}
 use Rattle.bus.specs.declared.departure.Sent.{Sent}
-use Rattle.bus.specs.declared.arrival.Delivery.{Delivery}
+use Rattle.bus.specs.declared.arrival.Undelivered.{Undelivered}
 use Rattle.bus.specs.declared.arrival.Delivered.{Delivered}
 use Rattle.bus.specs.Held.{slot_of, item_at}
 
@@ -62,7 +62,7 @@ unfoldable pub incoming : Model → (n hit : ℕ) → Header → (dlc time : ℕ
 incoming m n hit header dlc time payload =
     record { header = header; dlc = dlc; filter = hit; seq = 0; stamp = stamp_for m n time; payload = payload }
 
-abbrev pub delivered : Delivery → Model → Delivered
+abbrev pub delivered : Result (Unit {0}) Undelivered → Model → Delivered
 delivered answer m = record { delivery = answer; model = m }
 
 -- FIFO n receives; 0 is no FIFO and counts as not receiving
@@ -72,11 +72,11 @@ receives m n = is_fifo n && not (sending (frozen_at m n))
 -- an object of a payload of so many bytes, for FIFO n: turned down by the first cause, or appended in the slot behind those held
 unfoldable pub appended : Model → ℕ → ℕ → List ℕ → Delivered
 appended m n len object =
-    if m.fixed.configuring then delivered Delivery.Configuration m
-    else if not (receives m n) then delivered Delivery.NotReceiving m
-    else if ltb (payload_of (frozen_at m n)) len then delivered Delivery.TooLong m
-    else if leb (depth (frozen_at m n)) (fifo_at m n).count then delivered Delivery.Full (with_fifo m n (overflowed true (fifo_at m n)))
-    else delivered Delivery.Delivered (with_fifo (written m (slot_of m n (fifo_at m n).count) object) n (claimed (fifo_at m n)))
+    if m.fixed.configuring then delivered (Err Undelivered.Configuration) m
+    else if not (receives m n) then delivered (Err Undelivered.NotReceiving) m
+    else if ltb (payload_of (frozen_at m n)) len then delivered (Err Undelivered.TooLong) m
+    else if leb (depth (frozen_at m n)) (fifo_at m n).count then delivered (Err Undelivered.Full) (with_fifo m n (overflowed true (fifo_at m n)))
+    else delivered (Ok tt) (with_fifo (written m (slot_of m n (fifo_at m n).count) object) n (claimed (fifo_at m n)))
 
 -- FIFO n is given a frame that filter `hit` took
 unfoldable pub give : Model → (n hit dlc : ℕ) → Header → ℕ → List ℕ → Delivered
@@ -84,11 +84,11 @@ give m n hit dlc header time payload = appended m n (length payload) (arriving h
 
 -- 21 and 22; a frame that names its FIFO has filter 0
 abbrev pub by_check : Result (Unit {0}) Refusal → Model → ℕ → Header → (dlc time : ℕ) → List ℕ → Delivered
-by_check (Err r) m n header dlc time payload = delivered (Delivery.Refused r) m
+by_check (Err r) m n header dlc time payload = delivered (Err (Undelivered.Refused r)) m
 by_check (Ok _) m n header dlc time payload = give m n 0 dlc header time payload
 
 -- a frame arrives for FIFO n
 unfoldable pub deliver_of : Model → ℕ → Header → (dlc time : ℕ) → List ℕ → Delivered
 deliver_of m n header dlc time payload =
     if is_fifo n then by_check (arrival_check header dlc (length payload)) m n header dlc time payload
-    else delivered (Delivery.Refused Refusal.BadNumber) m
+    else delivered (Err (Undelivered.Refused Refusal.BadNumber)) m

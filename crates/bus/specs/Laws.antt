@@ -1,6 +1,6 @@
 -- What is proved of the bus steps and of the messages held, as statements.
 -- Assumes nothing.
-use Rattle.std.specs.Prelude.{ℕ, ◌+◌, ◌≤◌, ◌<◌, ◌≡◌, Bool, true, false, not, ◌&&◌, ◌↔◌, List, [], ◌∷◌, length, get_or, ltb, leb, eqb, if◌then◌else◌}
+use Rattle.std.specs.Prelude.{ℕ, ◌+◌, ◌≤◌, ◌<◌, ◌≡◌, Bool, true, false, not, ◌&&◌, ◌↔◌, List, [], ◌∷◌, length, get_or, ltb, leb, eqb, if◌then◌else◌, Ok}
 use Rattle.field.specs.Field.{read}
 use Rattle.configuration.specs.CanControl.{DNCNT}
 use Rattle.fifo.specs.Control.{payload_of, is_fifo}
@@ -15,7 +15,6 @@ use Rattle.ring.specs.Queue.{is_held}
 use Rattle.ring.specs.QueueLaws.{Best}
 use Rattle.state.specs.declared.Model.{Model}
 use Rattle.state.specs.Model.{fifo_at, frozen_at, with_fifo, written}
-use Rattle.bus.specs.declared.arrival.Delivery.{Delivery}
 use Rattle.bus.specs.Held.{slot_of, item_at, row, held}
 use Rattle.bus.specs.Bus.{Output, frame, no_frame, nothing, refused, sends, send_output, send_model, receives, deliver_of}
 use Rattle.bus.specs.Queue.{queue_depth, queue_item, held_queue, queue_rank, winner, queue_sends, queue_output, queue_model}
@@ -134,7 +133,7 @@ pub record Deliverable (m : Model) (n : ℕ) (header : Header) (dlc : ℕ) (payl
 abbrev pub DeliveredIff : Type 0
 DeliveredIff =
     (m : Model) (n : ℕ) (header : Header) (dlc time : ℕ) (payload : List ℕ)
-    → ((deliver_of m n header dlc time payload).delivery ≡ Delivery.Delivered) ↔ Deliverable m n header dlc payload
+    → ((deliver_of m n header dlc time payload).delivery ≡ Ok tt) ↔ Deliverable m n header dlc payload
 
 -- FIFO n took an object, and nothing else changed: it stands in the slot behind those held, and one more is counted
 pub record Took (m after : Model) (n : ℕ) : Type 0 where
@@ -185,7 +184,7 @@ pub record Sortable (m : Model) (header : Header) (dlc : ℕ) (payload : List �
 abbrev pub SortedIff : Type 0
 SortedIff =
     (m : Model) (header : Header) (dlc time : ℕ) (payload : List ℕ)
-    → ((sort_of m header dlc time payload).delivery ≡ Delivery.Delivered) ↔ Sortable m header dlc payload
+    → ((sort_of m header dlc time payload).delivery ≡ Ok tt) ↔ Sortable m header dlc payload
 
 -- it touches its target only, and for a refusal nothing
 abbrev pub SortLeaves : Type 0

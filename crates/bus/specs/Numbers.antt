@@ -1,11 +1,11 @@
 -- The answers of the bus steps by document 01's numbers and values. A refusal has its number; an answer that is none has 0 in the number's
 -- place, which document 01 gives to no refusal.
 -- Assumes nothing.
-use Rattle.std.specs.Prelude.{ℕ, List, [], ◌∷◌, ◌++◌, length}
+use Rattle.std.specs.Prelude.{ℕ, List, [], ◌∷◌, ◌++◌, length, Result, Ok, Err}
 use Rattle.spi.specs.Refusals.{numbered}
 use Rattle.message.specs.Message.{Message}
 use Rattle.call.specs.Numbers.{header_numbers, stamp_numbers}
-use Rattle.bus.specs.declared.arrival.Delivery.{Delivery}
+use Rattle.bus.specs.declared.arrival.Undelivered.{Undelivered}
 use Rattle.bus.specs.declared.sorting.Sorted.{Sorted}
 use Rattle.bus.specs.Bus.{Output, frame, no_frame, nothing, refused}
 
@@ -21,22 +21,22 @@ output_numbers (frame m) = 0 ∷ 1 ∷ message_numbers m
 output_numbers (refused r) = numbered r
 
 -- a delivery: 0, or the place of the cause in document 01's order
-abbrev pub delivery_numbers : Delivery → List ℕ
-delivery_numbers Delivery.Delivered = 0 ∷ 0 ∷ []
-delivery_numbers Delivery.Configuration = 0 ∷ 1 ∷ []
-delivery_numbers Delivery.NotReceiving = 0 ∷ 2 ∷ []
-delivery_numbers Delivery.TooLong = 0 ∷ 3 ∷ []
-delivery_numbers Delivery.Full = 0 ∷ 4 ∷ []
-delivery_numbers (Delivery.Refused r) = numbered r
+abbrev pub delivery_numbers : Result (Unit {0}) Undelivered → List ℕ
+delivery_numbers (Ok _) = 0 ∷ 0 ∷ []
+delivery_numbers (Err Undelivered.Configuration) = 0 ∷ 1 ∷ []
+delivery_numbers (Err Undelivered.NotReceiving) = 0 ∷ 2 ∷ []
+delivery_numbers (Err Undelivered.TooLong) = 0 ∷ 3 ∷ []
+delivery_numbers (Err Undelivered.Full) = 0 ∷ 4 ∷ []
+delivery_numbers (Err (Undelivered.Refused r)) = numbered r
 
 -- a frame that was sorted: for one that a filter took also the FIFO and the filter
-abbrev pub sorting_numbers : Delivery → (fifo filter : ℕ) → List ℕ
-sorting_numbers Delivery.Delivered n f = 0 ∷ 0 ∷ n ∷ f ∷ []
-sorting_numbers Delivery.Configuration n f = 0 ∷ 1 ∷ n ∷ f ∷ []
-sorting_numbers Delivery.NotReceiving n f = 0 ∷ 2 ∷ n ∷ f ∷ []
-sorting_numbers Delivery.TooLong n f = 0 ∷ 3 ∷ n ∷ f ∷ []
-sorting_numbers Delivery.Full n f = 0 ∷ 4 ∷ n ∷ f ∷ []
-sorting_numbers (Delivery.Refused r) n f = numbered r
+abbrev pub sorting_numbers : Result (Unit {0}) Undelivered → (fifo filter : ℕ) → List ℕ
+sorting_numbers (Ok _) n f = 0 ∷ 0 ∷ n ∷ f ∷ []
+sorting_numbers (Err Undelivered.Configuration) n f = 0 ∷ 1 ∷ n ∷ f ∷ []
+sorting_numbers (Err Undelivered.NotReceiving) n f = 0 ∷ 2 ∷ n ∷ f ∷ []
+sorting_numbers (Err Undelivered.TooLong) n f = 0 ∷ 3 ∷ n ∷ f ∷ []
+sorting_numbers (Err Undelivered.Full) n f = 0 ∷ 4 ∷ n ∷ f ∷ []
+sorting_numbers (Err (Undelivered.Refused r)) n f = numbered r
 
 abbrev pub sorted_numbers : Sorted → List ℕ
 sorted_numbers s = sorting_numbers s.delivery s.fifo s.filter

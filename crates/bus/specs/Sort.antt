@@ -9,7 +9,7 @@ use Rattle.header.specs.Header.{sid_of, eid_of}
 use Rattle.message.specs.Message.{arrival_check}
 use Rattle.filters.specs.Filters.{target_of, filter_count, filter_of}
 use Rattle.state.specs.declared.Model.{Model}
-use Rattle.bus.specs.declared.arrival.Delivery.{Delivery}
+use Rattle.bus.specs.declared.arrival.Undelivered.{Undelivered}
 use Rattle.bus.specs.declared.arrival.Delivered.{Delivered}
 use Rattle.bus.specs.declared.sorting.Sorted.{Sorted}
 use Rattle.bus.specs.Bus.{give}
@@ -28,7 +28,7 @@ by_filter d n f = record { delivery = d.delivery; fifo = n; filter = f; model = 
 
 -- refused: there is no FIFO and no filter
 abbrev pub unsorted : Refusal → Model → Sorted
-unsorted r m = record { delivery = Delivery.Refused r; fifo = 0; filter = 0; model = m }
+unsorted r m = record { delivery = Err (Undelivered.Refused r); fifo = 0; filter = 0; model = m }
 
 -- filter f took the frame: its target gets it, and no other filter is asked
 abbrev pub taken_by : Model → (f dlc : ℕ) → Header → ℕ → List ℕ → Sorted

@@ -1,11 +1,9 @@
 // A frame arrives for a FIFO.
-ghost use Rattle.std.specs.Prelude.{◌≡◌, not, ◌<◌, ◌≤◌, ltb, leb, length, if◌then◌else◌};
-ghost use Rattle.fifo.specs.Control.{payload_of};
+ghost use Rattle.std.specs.Prelude.{◌≡◌, ◌<◌, ◌≤◌, length};
 ghost use Rattle.field.specs.Field.{Fits};
 ghost use Rattle.header.specs.Header.{DLC, FILHIT, top_id};
-ghost use Rattle.ring.specs.Ring.{claimed, depth};
+ghost use Rattle.ring.specs.Ring.{claimed};
 ghost use Rattle.state.specs.Model.{fifo_at, with_fifo, written};
-ghost use Rattle.bus.specs.declared.arrival.Delivery.{Delivery};
 ghost use Rattle.bus.specs.Held.{slot_of};
 ghost use Rattle.bus.specs.Bus.{stamp_for, delivered, receives, appended, give, deliver_of};
 
@@ -15,11 +13,10 @@ use header::Header;
 use spi::Refusal;
 use state::{Model, fifo_at, frozen_at};
 
+// Why a frame is not delivered: it is refused, or its FIFO turns it down.
 #[derive(Clone, Copy)]
-pub enum Delivery {
-    Delivered,
+pub enum Undelivered {
     Refused(Refusal),
-    // Turned down.
     Configuration,
     NotReceiving,
     TooLong,
@@ -28,11 +25,11 @@ pub enum Delivery {
 
 #[derive(Clone, Copy)]
 pub struct Delivered {
-    pub delivery: Delivery,
+    pub delivery: Result<(), Undelivered>,
     pub model: Model,
 }
 
-fn told(delivery: Delivery, m: Model) -> Delivered
+fn told(delivery: Result<(), Undelivered>, m: Model) -> Delivered
     ensures { result ≡ delivered delivery m }
 {
     Delivered {
@@ -45,9 +42,10 @@ fn stamp_of(m: Model, n: u8, time: u32) -> Option<u32>
     ensures { result ≡ stamp_for m n time }
 {
     if ring::stamped(frozen_at(m, n)) {
-        return Some(time);
+        Some(time)
+    } else {
+        None
     }
-    None
 }
 
 // The object behind those held.
@@ -60,53 +58,38 @@ fn placed(m: Model, n: u8, object: &[u8]) -> Model
     state::with_fifo(state::written(m, at, object), n, ring::claimed(f))
 }
 
+#[tactic(auto, unfolding(crate::specs::Bus::receives))]
 fn receives(m: Model, n: u8) -> bool
     ensures { result ≡ receives m n }
 {
-    if !fifo::is_fifo(n as u32) {
-        return false;
-    }
-    !ring::sending(frozen_at(m, n))
+    fifo::is_fifo(n as u32) && !ring::sending(frozen_at(m, n))
 }
 
-// What a frame for a FIFO comes to: the first cause to turn it down, or none.
-fn cause(configuring: bool, receives: bool, w: u32, count: u8, len: usize) -> Delivery
-    ensures { result ≡ (if configuring then Delivery.Configuration else if not receives then Delivery.NotReceiving else if ltb (payload_of w) len then Delivery.TooLong else if leb (depth w) count then Delivery.Full else Delivery.Delivered) }
-{
-    if configuring {
-        return Delivery::Configuration;
-    }
-    if !receives {
-        return Delivery::NotReceiving;
-    }
-    if FifoControl(w).payload_size() < len {
-        return Delivery::TooLong;
-    }
-    if ring::depth(w) <= count as u32 {
-        return Delivery::Full;
-    }
-    Delivery::Delivered
-}
-
+// An object of a payload of `len` bytes: turned down by the first cause, or appended behind those held.
+#[tactic(auto, unfolding(crate::specs::Bus::appended))]
 fn appended(m: Model, n: u8, len: usize, object: &[u8]) -> Delivered
     ensures { result ≡ appended m n len object.now }
 {
+    let w = frozen_at(m, n);
     let f = fifo_at(m, n);
-    let c = cause(
-        m.fixed.configuring,
-        receives(m, n),
-        frozen_at(m, n),
-        f.count,
-        len,
-    );
-    match c {
-        Delivery::Delivered => told(c, placed(m, n, object)),
-        Delivery::Full => told(c, state::with_fifo(m, n, ring::overflowed(true, f))),
-        _ => told(c, m),
+    if m.fixed.configuring {
+        return told(Err(Undelivered::Configuration), m);
     }
+    if !receives(m, n) {
+        return told(Err(Undelivered::NotReceiving), m);
+    }
+    if FifoControl(w).payload_size() < len {
+        return told(Err(Undelivered::TooLong), m);
+    }
+    if ring::depth(w) <= f.count as u32 {
+        let full = state::with_fifo(m, n, ring::overflowed(true, f));
+        return told(Err(Undelivered::Full), full);
+    }
+    told(Ok(()), placed(m, n, object))
 }
 
 // A FIFO is given a frame that filter `hit` took.
+#[tactic(auto, using(crate::proofs::Answers::arriving_most, crate::proofs::Answers::fits, crate::proofs::Answers::front), unfolding(crate::specs::Bus::give))]
 pub fn give(
     m: Model,
     n: u8,
@@ -129,10 +112,10 @@ pub fn deliver(m: Model, n: u32, header: Header, dlc: u32, time: u32, payload: &
     ensures { result ≡ deliver_of m n header dlc time payload.now }
 {
     if !fifo::is_fifo(n) {
-        return told(Delivery::Refused(Refusal::BadNumber), m);
+        return told(Err(Undelivered::Refused(Refusal::BadNumber)), m);
     }
     match message::check_arrival(header, dlc, payload.len()) {
         Ok(()) => give(m, n as u8, 0, dlc, header, time, payload),
-        Err(r) => told(Delivery::Refused(r), m),
+        Err(r) => told(Err(Undelivered::Refused(r)), m),
     }
 }

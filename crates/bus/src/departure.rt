@@ -24,21 +24,16 @@ pub struct Sent {
     pub model: Model,
 }
 
+#[tactic(auto, unfolding(crate::specs::Bus::sends))]
 fn sends(m: Model, n: u8) -> bool
     ensures { result ≡ sends m n }
 {
     let f = fifo_at(m, n);
     let w = frozen_at(m, n);
-    if !ring::sending(w) {
-        return false;
-    }
-    if !FifoControl(f.control).txreq() {
-        return false;
-    }
-    0 < f.count
+    ring::sending(w) && FifoControl(f.control).txreq() && 0 < f.count
 }
 
-pub fn unsent(why: Unsent, m: Model) -> Sent
+pub fn not_sent(why: Unsent, m: Model) -> Sent
     ensures { result ≡ record { sent = Err why; model = m } }
 {
     Sent {
@@ -57,15 +52,16 @@ pub fn taken(item: Result<Frame, Undecoded>, m: Model) -> Sent
     }
 }
 
+#[tactic(auto, using(crate::proofs::Laws::fifo_fits_lem, crate::proofs::Laws::sends_one), unfolding(crate::specs::Bus::send_output, crate::specs::Bus::send_model))]
 pub fn send(m: Model, n: u32) -> Sent
     ensures { result ≡ sent_as (send_output m n) (send_model m n) }
 {
     if !fifo::is_fifo(n) {
-        return unsent(Unsent::Refused(Refusal::BadNumber), m);
+        return not_sent(Unsent::Refused(Refusal::BadNumber), m);
     }
     let n = n as u8;
     if !sends(m, n) {
-        return unsent(Unsent::Nothing, m);
+        return not_sent(Unsent::Nothing, m);
     }
     let item = held::item_at(m, n, 0);
     let next = state::with_fifo(m, n, ring::sent(frozen_at(m, n), fifo_at(m, n)));

@@ -1,8 +1,6 @@
 // The messages that the transmit queue holds, and the chip sends one.
-ghost use Rattle.std.specs.Prelude.{◌≡◌, ◌&&◌, ◌*◌, ◌≤◌, ltb, get_or};
+ghost use Rattle.std.specs.Prelude.{◌≡◌, ◌*◌, ◌≤◌, ◌<◌, get_or, unwrap_or, IfSome};
 ghost use Rattle.words.specs.Words.{le_at};
-ghost use Rattle.field.specs.Field.{flag};
-ghost use Rattle.fifo.specs.Control.{TXREQ};
 ghost use Rattle.message.specs.Structs.{decoded_as};
 ghost use Rattle.ring.specs.Queue.{no_slot, better};
 ghost use Rattle.bus.specs.Bus.{sent_as};
@@ -12,37 +10,30 @@ use crate::departure::{Sent, Unsent};
 use crate::{departure, held};
 use fifo::{ControlWord, TxQueueControl};
 use message::{Frame, Undecoded};
-use ring::queue::NO_SLOT;
 use state::{Model, frozen_at};
 
+#[tactic(auto, unfolding(crate::specs::Queue::queue_slot))]
 fn queue_slot(m: Model, k: u8) -> usize
     ensures { (result ≡ queue_slot m k) × (result ≤ 1000000) }
 {
-    let frozen = m.fixed.frozen;
-    ring::slot_at(m.fixed.queue, frozen, 0, k as u32)
+    ring::slot_at(m.fixed.queue, &m.fixed.frozen, 0, k as u32)
 }
 
+#[tactic(auto, unfolding(crate::specs::Queue::queue_holds))]
 pub fn queue_holds(m: Model, k: u8) -> bool
     ensures { result ≡ queue_holds m k }
 {
-    if !m.fixed.queue {
-        return false;
-    }
-    if ring::depth(frozen_at(m, 0)) <= k as u32 {
-        return false;
-    }
-    let q = m.queue;
-    q.held[k as usize] == 1
+    m.fixed.queue && (k as u32) < ring::depth(frozen_at(m, 0)) && m.queue.held[k as usize] == 1
 }
 
+#[tactic(auto, unfolding(crate::specs::Queue::queue_item))]
 pub fn queue_item(m: Model, k: u8) -> Result<Frame, Undecoded>
     ensures { result ≡ decoded_as (queue_item m k) }
 {
-    let ram = m.ram;
     held::decoded(
         true,
         false,
-        ram,
+        &m.ram,
         queue_slot(m, k),
         ring::size(frozen_at(m, 0)),
     )
@@ -52,12 +43,10 @@ pub fn queue_item(m: Model, k: u8) -> Result<Frame, Undecoded>
 fn byte_at(ram: &[u8], at: usize) -> u8
     ensures { result ≡ get_or ram.now at 0 }
 {
-    if at < ram.len() {
-        return ram[at];
-    }
-    0
+    ram.get(at).copied().unwrap_or(0)
 }
 
+#[tactic(auto, unfolding(words::specs::Words::le_at))]
 fn word_at(ram: &[u8], at: usize) -> u32
     requires { at ≤ 1000000 }
     ensures { result ≡ le_at ram.now at }
@@ -81,11 +70,11 @@ fn rank(ram: &[u8], size: usize, k: u8) -> u32
 }
 
 // Slot a, but a later slot b of smaller rank.
-fn better(ram: &[u8], size: usize, a: u8, b: u8) -> u8
-    requires { size ≤ 76 }
-    ensures { result ≡ better (λ k. rank_at ram.now (k * size)) a b }
+fn better(ram: &[u8], size: usize, a: u8, later: Option<u8>) -> u8
+    requires { (size ≤ 76) × (a < no_slot) × IfSome later (λ k. k < no_slot) }
+    ensures { (result ≡ better (λ k. rank_at ram.now (k * size)) a (unwrap_or later no_slot)) × (result < no_slot) }
 {
-    if b < NO_SLOT {
+    if let Some(b) = later {
         if rank(ram, size, b) < rank(ram, size, a) {
             return b;
         }
@@ -93,44 +82,35 @@ fn better(ram: &[u8], size: usize, a: u8, b: u8) -> u8
     a
 }
 
-fn winner(m: Model) -> u8
-    ensures { result ≡ winner m }
+// The slot held whose message wins arbitration.
+fn winner(m: Model) -> Option<u8>
+    ensures slot { unwrap_or result no_slot ≡ winner m }
+    ensures there { IfSome result (λ k. k < no_slot) }
 {
     let frozen = frozen_at(m, 0);
     let size = ring::size(frozen);
-    let q = m.queue;
-    let mut best = NO_SLOT;
-    let mut i = ring::depth(frozen);
-    while 0 < i {
-        i -= 1;
-        if q.held[i as usize] == 1 {
-            best = better(&m.ram, size, i as u8, best);
+    let mut best = None;
+    for i in (0..ring::depth(frozen)).rev() {
+        if m.queue.held[i as usize] == 1 {
+            best = Some(better(&m.ram, size, i as u8, best));
         }
     }
     best
 }
 
-fn sends(on: bool, control: u32, k: u8) -> bool
-    ensures { result ≡ (on && flag TXREQ control && ltb k no_slot) }
-{
-    if !on {
-        return false;
-    }
-    if !TxQueueControl(control).txreq() {
-        return false;
-    }
-    k < NO_SLOT
-}
-
+#[tactic(auto, unfolding(crate::specs::Queue::queue_sends, crate::specs::Queue::queue_output, crate::specs::Queue::queue_model))]
 pub fn send_queue(m: Model) -> Sent
     ensures { result ≡ sent_as (queue_output m) (queue_model m) }
 {
-    let k = winner(m);
-    if !sends(m.fixed.queue, m.queue.control, k) {
-        return departure::unsent(Unsent::Nothing, m);
-    }
-    let item = queue_item(m, k);
     let q = m.queue;
-    let next = state::with_queue(m, ring::queue::sent(frozen_at(m, 0), k, q));
-    departure::taken(item, next)
+    if !m.fixed.queue || !TxQueueControl(q.control).txreq() {
+        return departure::not_sent(Unsent::Nothing, m);
+    }
+    match winner(m) {
+        Some(k) => {
+            let next = state::with_queue(m, ring::queue::sent(frozen_at(m, 0), k, q));
+            departure::taken(queue_item(m, k), next)
+        }
+        None => departure::not_sent(Unsent::Nothing, m),
+    }
 }

@@ -4,7 +4,7 @@ ghost use Rattle.field.specs.Field.{Fits};
 ghost use Rattle.header.specs.Header.{DLC, top_id};
 ghost use Rattle.bus.specs.Sort.{filter_for, target_for, by_filter, unsorted, filtered, sort_of};
 
-use crate::{Delivered, Delivery, arrival};
+use crate::{Delivered, Undelivered, arrival};
 use configuration::CanControl;
 use filters::{Filters, Identifier};
 use header::Header;
@@ -14,7 +14,7 @@ use state::{Model, Setup};
 // The FIFO and the filter that a frame was for; 0 where it was refused.
 #[derive(Clone, Copy)]
 pub struct Sorted {
-    pub delivery: Delivery,
+    pub delivery: Result<(), Undelivered>,
     pub fifo: u32,
     pub filter: u32,
     pub model: Model,
@@ -24,7 +24,7 @@ fn unsorted(r: Refusal, m: Model) -> Sorted
     ensures { result ≡ unsorted r m }
 {
     Sorted {
-        delivery: Delivery::Refused(r),
+        delivery: Err(Undelivered::Refused(r)),
         fifo: 0,
         filter: 0,
         model: m,
@@ -34,13 +34,11 @@ fn unsorted(r: Refusal, m: Model) -> Sorted
 fn by_filter(d: Delivered, n: u32, f: u32) -> Sorted
     ensures { result ≡ by_filter d n f }
 {
-    let delivery = d.delivery;
-    let model = d.model;
     Sorted {
-        delivery: delivery,
+        delivery: d.delivery,
         fifo: n,
         filter: f,
-        model: model,
+        model: d.model,
     }
 }
 

@@ -10,7 +10,7 @@ use native.Mathlib.Omega.{arith}
 use lib.ListN.{length}
 use lib.Dec.{ltb, eqb}
 use borrow.Author.Tests.{ltb-false, leb-false}
-use Rattle.std.specs.Prelude.{if◌then◌else◌, Ok}
+use Rattle.std.specs.Prelude.{if◌then◌else◌, Ok, Result}
 use Rattle.laws.proofs.Choice.{by_if}
 use Rattle.laws.proofs.Table.{both}
 use Rattle.parts.specs.Parts.{part}
@@ -30,7 +30,7 @@ use Rattle.ring.proofs.Queues.{shows}
 use Rattle.state.specs.declared.Model.{Model}
 use Rattle.state.specs.Model.{fifo_at, frozen_at, with_fifo, with_queue, written}
 use Rattle.bank.specs.Registers.{queue_shown}
-use Rattle.bus.specs.declared.arrival.Delivery.{Delivery}
+use Rattle.bus.specs.declared.arrival.Undelivered.{Undelivered}
 use Rattle.bus.specs.declared.arrival.Delivered.{Delivered}
 use Rattle.bus.specs.Held.{slot_of, item_at, held}
 use Rattle.bus.specs.Bus.{nothing, refused, output_of, sends, send_output, send_model, incoming, delivered, give, deliver_of}
@@ -303,13 +303,13 @@ module _ (c : Model) (s : Sound c) where
     Answered r = Step c (arrived n (incoming c n hit header dlc time payload) r.delivery) r.model
 
     -- one that says that nothing changed
-    pub unmoved : (d : Delivery) → ((j : ℕ) → accepted_in j (arrived n (incoming c n hit header dlc time payload) d) ≡ []) → Answered (delivered d c)
+    pub unmoved : (d : Result (Unit {0}) Undelivered) → ((j : ℕ) → accepted_in j (arrived n (incoming c n hit header dlc time payload) d) ≡ []) → Answered (delivered d c)
     unmoved d e = quiet_step c c _ e (λ j. refl) (λ j. refl) (later_same c)
 
     delivered_step : is_fifo n ≡ true → sending (frozen_at c n) ≡ false → (fifo_at c n).count < depth (frozen_at c n)
         → (bs : List ℕ) → length bs ≤ size (frozen_at c n)
         → ((r : List ℕ) → decoding (sending (frozen_at c n)) (stamped (frozen_at c n)) (bs ++ r) ≡ holds (incoming c n hit header dlc time payload))
-        → Answered (delivered Delivery.Delivered (with_fifo (written c (slot_of c n (fifo_at c n).count) bs) n (claimed (fifo_at c n))))
+        → Answered (delivered (Ok tt) (with_fifo (written c (slot_of c n (fifo_at c n).count) bs) n (claimed (fifo_at c n))))
     unfolding claimed
     delivered_step h r free bs fits back = record {
       later = later_delivered c s n h r free bs fits;
@@ -337,7 +337,7 @@ module _ (c : Model) (s : Sound c) where
   deliver_step : (n : ℕ) (header : Header) (dlc time : ℕ) (payload : List ℕ) → time < 2 ^ 32
       → Answered n 0 header dlc time payload (deliver_of c n header dlc time payload)
   deliver_step n header dlc time payload small =
-      let none : (d : Delivery) → ((j : ℕ) → accepted_in j (arrived n (incoming c n 0 header dlc time payload) d) ≡ []) → Answered n 0 header dlc time payload (delivered d c)
+      let none : (d : Result (Unit {0}) Undelivered) → ((j : ℕ) → accepted_in j (arrived n (incoming c n 0 header dlc time payload) d) ≡ []) → Answered n 0 header dlc time payload (delivered d c)
       = unmoved n 0 header dlc time payload in
       by_deliver c n header dlc time payload (Answered n 0 header dlc time payload)
       (λ i. none _ (λ j. only_none j n)) (λ i t. none _ (λ j. only_none j n)) (λ i t d. none _ (λ j. only_none j n))

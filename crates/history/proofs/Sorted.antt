@@ -7,6 +7,7 @@ use mathlib.Core.Bool.{true}
 use mathlib.Core.List.{List, [], ◌∷◌, ◌++◌, map, map-append, append-nil, append_assoc, head-eq_of_cons-eq, tail-eq_of_cons-eq}
 use borrow.Author.Tests.{eq-eqb}
 use lib.ListN.{length, length-map}
+use Rattle.std.specs.Prelude.{Result, Ok}
 use Rattle.laws.proofs.Choice.{by_if}
 use Rattle.fifo.specs.Control.{is_fifo}
 use Rattle.header.specs.declared.Header.{Header}
@@ -17,7 +18,7 @@ use Rattle.rx_fifo.specs.Outcome.{message_of}
 use Rattle.driver.specs.Call.{Call}
 use Rattle.driver.specs.Step.{outcome_of}
 use Rattle.state.specs.declared.Model.{Model}
-use Rattle.bus.specs.declared.arrival.Delivery.{Delivery}
+use Rattle.bus.specs.declared.arrival.Undelivered.{Undelivered}
 use Rattle.bus.specs.Bus.{incoming}
 use Rattle.bus.specs.Held.{held}
 use Rattle.bus.specs.Sort.{filter_for, target_for, sort_of}
@@ -96,10 +97,10 @@ meet n d t t₁ t₂ u₁ u₂ x y m k l e a f b i =
 
 -- a frame that was sorted has a FIFO
 sorted_fifo : (c : Model) (header : Header) (dlc time : ℕ) (payload : List ℕ)
-    → (sort_of c header dlc time payload).delivery ≡ Delivery.Delivered → is_fifo (sort_of c header dlc time payload).fifo ≡ true
+    → (sort_of c header dlc time payload).delivery ≡ Ok tt → is_fifo (sort_of c header dlc time payload).fifo ≡ true
 sorted_fifo c header dlc time payload =
     let f : ℕ = filter_for c header in
-    by_sort c header dlc time payload (λ s. s.delivery ≡ Delivery.Delivered → is_fifo s.fifo ≡ true)
+    by_sort c header dlc time payload (λ s. s.delivery ≡ Ok tt → is_fifo s.fifo ≡ true)
     (λ t. never _ refl) (λ t e. never _ refl) (λ t e z. never _ refl) (λ t e z g. never _ refl)
     (λ t e z g k q. ((give_iff c (target_for c f) f dlc header time payload t e).0 q).fifo)
 
@@ -119,7 +120,7 @@ filter_told_lem c w g es ds header dlc time payload f buffer r q h =
     let (u, grown) = after_grown ds (event (On b) v.doing v.chip v.said) in
     let split : z.said ≡ v.said ++ (says b v.chip ∷ u)
     = ap (λ (x : World). x.said) (after_append es (On b ∷ ds) (start c w)) ∙ grown ∙ append_assoc v.said (says b v.chip ∷ []) u in
-    let took : accepted_in n (says b v.chip) ≡ m ∷ [] = own n _ ∙ ap (λ (d : Delivery). taken d m) q in
+    let took : accepted_in n (says b v.chip) ≡ m ∷ [] = own n _ ∙ ap (λ (d : Result (Unit {0}) Undelivered). taken d m) q in
     let same : m ≡ message_of f buffer
     = meet n (held z.chip n) z.said v.said u h.before h.behind (says b v.chip) (called (Get n h.lent) (Outcome.Message f) buffer) m (message_of f buffer)
     ((holds_always c w g (es ++ (On b ∷ ds)) r).lists n (sorted_fifo v.chip header dlc (time % 2 ^ 32) payload q))

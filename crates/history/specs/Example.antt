@@ -1,7 +1,7 @@
 -- One history, written out: a torque command goes out and an answer comes in, with every exchange answered and with the push's write
 -- to RAM failed.
 -- Assumes nothing.
-use Rattle.std.specs.Prelude.{ℕ, ◌≡◌, true, false, List, [], ◌∷◌, replicate, Some}
+use Rattle.std.specs.Prelude.{ℕ, ◌≡◌, true, false, List, [], ◌∷◌, replicate, Some, Ok}
 use Rattle.fifo.specs.Control.{CiFIFOCON}
 use Rattle.filter.specs.Control.{CiFLTCON}
 use Rattle.parts.specs.Parts.{put}
@@ -15,7 +15,6 @@ use Rattle.tx_fifo.specs.Step.{to_send}
 use Rattle.rx_fifo.specs.Outcome.{found_of}
 use Rattle.state.specs.declared.Model.{Model}
 use Rattle.state.specs.Model.{reset}
-use Rattle.bus.specs.declared.arrival.Delivery.{Delivery}
 use Rattle.bus.specs.Bus.{Output, frame, nothing}
 use Rattle.bus.specs.Held.{held}
 use Rattle.reach.specs.Bus.{Send, Sort}
@@ -87,7 +86,7 @@ received = record { header = feedback; dlc = feedback_dlc; filter = 3; seq = 0; 
 abbrev pub saying : Outcome → Output → List Said
 saying o out =
     left 1 nothing ∷ called (Push 1 torque 5 torque_bytes) o [] ∷ called (Request 1) Outcome.Done [] ∷ left 1 out
-    ∷ arrived 2 received Delivery.Delivered ∷ called (Get 2 buffer) (Outcome.Message (found_of received)) (put buffer 0 feedback_bytes) ∷ []
+    ∷ arrived 2 received (Ok tt) ∷ called (Get 2 buffer) (Outcome.Message (found_of received)) (put buffer 0 feedback_bytes) ∷ []
 
 -- what was pushed is what is sent, and what arrived is what is handed out
 abbrev pub Sends : Type 0

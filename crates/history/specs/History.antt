@@ -1,6 +1,6 @@
 -- A history: calls one at a time, each exchange answered by the modelled chip or failed and not carried out, bus steps anywhere.
 -- Assumes nothing.
-use Rattle.std.specs.Prelude.{ℕ, ◌%◌, ◌^◌, Bool, true, false, List, [], ◌∷◌, ◌++◌, if◌then◌else◌}
+use Rattle.std.specs.Prelude.{ℕ, ◌%◌, ◌^◌, Bool, true, false, List, [], ◌∷◌, ◌++◌, if◌then◌else◌, Result}
 use Rattle.spi.specs.declared.ask.Ask.{Ask}
 use Rattle.spi.specs.declared.ask.Answer.{Answer}
 use Rattle.spi.specs.Ask.{sent, wanted}
@@ -12,7 +12,7 @@ use Rattle.driver.specs.Step.{ask_of, step_of, outcome_of, filled_by}
 use Rattle.driver.specs.Send.{body_of}
 use Rattle.state.specs.declared.Model.{Model}
 use Rattle.model.specs.Exchange.{Reply, failed, received, no_layout, exchange}
-use Rattle.bus.specs.declared.arrival.Delivery.{Delivery}
+use Rattle.bus.specs.declared.arrival.Undelivered.{Undelivered}
 use Rattle.bus.specs.Bus.{Output, send_output, incoming, deliver_of}
 use Rattle.bus.specs.Sort.{sort_of}
 use Rattle.bus.specs.Queue.{queue_output}
@@ -31,7 +31,7 @@ pub data Said : Type 0 where
   called : Command → Outcome → List ℕ → Said
   left : ℕ → Output → Said
   left_queue : Output → Said
-  arrived : ℕ → Message → Delivery → Said
+  arrived : ℕ → Message → Result (Unit {0}) Undelivered → Said
 
 -- no call is under way, or one is and the driver stands there
 pub data Doing : Type 0 where

@@ -1,11 +1,11 @@
 -- The lists of a history: from calls, bus steps and what they answered alone.
 -- Assumes nothing.
-use Rattle.std.specs.Prelude.{ℕ, List, [], ◌∷◌, ◌++◌, eqb, if◌then◌else◌}
+use Rattle.std.specs.Prelude.{ℕ, List, [], ◌∷◌, ◌++◌, eqb, if◌then◌else◌, Result, Ok, Err}
 use Rattle.message.specs.Message.{Message}
 use Rattle.call.specs.declared.Outcome.{Outcome}
 use Rattle.tx_fifo.specs.Step.{to_send}
 use Rattle.rx_fifo.specs.Outcome.{message_of}
-use Rattle.bus.specs.declared.arrival.Delivery.{Delivery}
+use Rattle.bus.specs.declared.arrival.Undelivered.{Undelivered}
 use Rattle.bus.specs.Bus.{Output, frame, no_frame, nothing, refused}
 use Rattle.history.specs.Command.{Command, Push, Transmit, QueuePush, QueueUnchecked, QueueRequest, Request, HasNext, Peek, Get, Reading, Configuring}
 use Rattle.history.specs.History.{Said, called, left, left_queue, arrived}
@@ -44,13 +44,13 @@ pushed n (Reading x) o = []
 pushed n (Configuring x) o = []
 
 -- a frame that was delivered
-abbrev pub taken : Delivery → Message → List Message
-taken Delivery.Delivered m = m ∷ []
-taken Delivery.Configuration m = []
-taken Delivery.NotReceiving m = []
-taken Delivery.TooLong m = []
-taken Delivery.Full m = []
-taken (Delivery.Refused r) m = []
+abbrev pub taken : Result (Unit {0}) Undelivered → Message → List Message
+taken (Ok _) m = m ∷ []
+taken (Err Undelivered.Configuration) m = []
+taken (Err Undelivered.NotReceiving) m = []
+taken (Err Undelivered.TooLong) m = []
+taken (Err Undelivered.Full) m = []
+taken (Err (Undelivered.Refused r)) m = []
 
 abbrev pub accepted_in : ℕ → Said → List Message
 accepted_in n (called k o buf) = pushed n k o

@@ -1,12 +1,11 @@
 -- Document 02, request 8, in histories: a frame that the filters sorted is handed out with the number of the filter that took it.
 -- Assumes nothing.
-use Rattle.std.specs.Prelude.{ℕ, ◌%◌, ◌^◌, ◌≡◌, List, ◌∷◌, ◌++◌, length}
+use Rattle.std.specs.Prelude.{ℕ, ◌%◌, ◌^◌, ◌≡◌, List, ◌∷◌, ◌++◌, length, Ok}
 use Rattle.header.specs.declared.Header.{Header}
 use Rattle.call.specs.declared.Found.{Found}
 use Rattle.call.specs.declared.Outcome.{Outcome}
 use Rattle.rx_fifo.specs.Outcome.{message_of}
 use Rattle.state.specs.declared.Model.{Model}
-use Rattle.bus.specs.declared.arrival.Delivery.{Delivery}
 use Rattle.bus.specs.Bus.{incoming}
 use Rattle.bus.specs.Sort.{sort_of}
 use Rattle.reach.specs.Bus.{Sort}
@@ -31,6 +30,6 @@ FilterTold =
     → let all = es ++ (On (Sort header dlc time payload) ∷ ds) in
     let v = world c w es in
     let s = sort_of v.chip header dlc (time % 2 ^ 32) payload in
-    Lasts all (start c w) → s.delivery ≡ Delivery.Delivered
+    Lasts all (start c w) → s.delivery ≡ Ok tt
     → HandsOut s.fifo (length (accepted s.fifo v.said)) (world c w all).said f buffer
     → (f.filter ≡ s.filter) × (message_of f buffer ≡ incoming v.chip s.fifo s.filter header dlc (time % 2 ^ 32) payload)

@@ -9,7 +9,7 @@ use borrow.Author.Tests.{ltb-true, lt-ltb, ltb-false, leb-false, eqb-true, eq-eq
 use lib.Dec.{ltb, leb, eqb}
 use lib.ListN.{length}
 use lib.Seq.{get_or-set_same}
-use Rattle.std.specs.Prelude.{if◌then◌else◌, Ok}
+use Rattle.std.specs.Prelude.{if◌then◌else◌, Ok, Result, Err}
 use Rattle.laws.proofs.Choice.{by_if}
 use Rattle.laws.proofs.Table.{both}
 use Rattle.field.specs.Field.{read, flag, digit}
@@ -34,7 +34,7 @@ use Rattle.bank.specs.declared.writing.Written.{Written}
 use Rattle.bank.specs.Registers.{mode_of, word_of, con_set, settled, turned_all, con_written, register_written}
 use Rattle.bank.proofs.Laws.{opmod_is}
 use Rattle.model.specs.Exchange.{performed, exchange}
-use Rattle.bus.specs.declared.arrival.Delivery.{Delivery}
+use Rattle.bus.specs.declared.arrival.Undelivered.{Undelivered}
 use Rattle.bus.specs.declared.arrival.Delivered.{Delivered}
 use Rattle.bus.specs.Held.{item_at, row, held}
 use Rattle.filters.specs.Filters.{filter_count}
@@ -150,21 +150,21 @@ send_takes_lem m r n i q x rest e =
 -- ---- deliver
 
 -- an answer that is not the one asked about
-abbrev cause : Delivery → ℕ
-cause Delivery.Delivered = 0
-cause Delivery.Configuration = 1
-cause Delivery.NotReceiving = 2
-cause Delivery.TooLong = 3
-cause Delivery.Full = 4
-cause (Delivery.Refused r) = 5
+abbrev cause : Result (Unit {0}) Undelivered → ℕ
+cause (Ok _) = 0
+cause (Err Undelivered.Configuration) = 1
+cause (Err Undelivered.NotReceiving) = 2
+cause (Err Undelivered.TooLong) = 3
+cause (Err Undelivered.Full) = 4
+cause (Err (Undelivered.Refused r)) = 5
 
-other : (X : Type 0) (x y : Delivery) → (cause x ≡ cause y → ⊥) → x ≡ y → X
+other : (X : Type 0) (x y : Result (Unit {0}) Undelivered) → (cause x ≡ cause y → ⊥) → x ≡ y → X
 other X x y ne e = absurd (ne (ap cause e))
 
 module _ (m : Model) (r : Reached m) (n hit : ℕ) (header : Header) (dlc time : ℕ) (payload : List ℕ) (small : time < 2 ^ 32) (k : ℕ) where
   abbrev Appends : Delivered → Type 0
   Appends x =
-      x.delivery ≡ Delivery.Delivered → held x.model k ≡ held m k ++ (if eqb n k then holds (incoming m n hit header dlc time payload) ∷ [] else [])
+      x.delivery ≡ Ok tt → held x.model k ≡ held m k ++ (if eqb n k then holds (incoming m n hit header dlc time payload) ∷ [] else [])
 
   -- a frame that is delivered is put behind those held
   gives : hit < 32 → arrival_check header dlc (length payload) ≡ Ok tt → Appends (give m n hit dlc header time payload)
@@ -193,7 +193,7 @@ deliver_appends_lem m r n header dlc time payload small e k =
 pub sort_appends_lem : SortAppends
 sort_appends_lem m r header dlc time payload small e k =
     by_sort m header dlc time payload
-    (λ s. s.delivery ≡ Delivery.Delivered → held s.model k ≡ held m k ++ (if eqb s.fifo k then holds (incoming m s.fifo s.filter header dlc time payload) ∷ [] else []))
+    (λ s. s.delivery ≡ Ok tt → held s.model k ≡ held m k ++ (if eqb s.fifo k then holds (incoming m s.fifo s.filter header dlc time payload) ∷ [] else []))
     (λ t. other _ _ _ (λ z. omega arith)) (λ t f. other _ _ _ (λ z. omega arith)) (λ t f z. other _ _ _ (λ z. omega arith))
     (λ t f z g. other _ _ _ (λ z. omega arith))
     (λ t f z g. gives m r (target_for m (filter_for m header)) (filter_for m header) header dlc time payload small k (leb-false filter_count (filter_for m header) g))
@@ -212,7 +212,7 @@ over_reads v f e o =
 
 module _ (m : Model) (r : Reached m) (n : ℕ) (header : Header) (dlc time : ℕ) (payload : List ℕ) where
   abbrev Overflows : Delivered → Type 0
-  Overflows x = x.delivery ≡ Delivery.Full → read RXOVIF (word_of x.model (Register.Status n)) ≡ 1
+  Overflows x = x.delivery ≡ Err Undelivered.Full → read RXOVIF (word_of x.model (Register.Status n)) ≡ 1
 
   give_full : (hit : ℕ) → Overflows (give m n hit dlc header time payload)
   unfolding word_of overflowed
@@ -234,7 +234,7 @@ full_overflows_lem m r n header dlc time payload =
 
 pub sort_overflows_lem : SortOverflows
 sort_overflows_lem m r header dlc time payload =
-    by_sort m header dlc time payload (λ s. s.delivery ≡ Delivery.Full → read RXOVIF (word_of s.model (Register.Status s.fifo)) ≡ 1)
+    by_sort m header dlc time payload (λ s. s.delivery ≡ Err Undelivered.Full → read RXOVIF (word_of s.model (Register.Status s.fifo)) ≡ 1)
     (λ t. other _ _ _ (λ z. omega arith)) (λ t f. other _ _ _ (λ z. omega arith)) (λ t f z. other _ _ _ (λ z. omega arith))
     (λ t f z g. other _ _ _ (λ z. omega arith))
     (λ t f z g w. give_full m r (target_for m (filter_for m header)) header dlc time payload (filter_for m header))

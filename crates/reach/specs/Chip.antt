@@ -1,6 +1,6 @@
 -- Document 01's sentences about the modelled chip, as statements: of every chip that is reached or, where they hold so, of every state.
 -- Assumes nothing.
-use Rattle.std.specs.Prelude.{ℕ, ◌+◌, ◌*◌, ◌^◌, ◌<◌, ◌≡◌, Bool, true, false, ◌↔◌, length, ltb, leb, eqb, if◌then◌else◌}
+use Rattle.std.specs.Prelude.{ℕ, ◌+◌, ◌*◌, ◌^◌, ◌<◌, ◌≡◌, Bool, true, false, ◌↔◌, length, ltb, leb, eqb, if◌then◌else◌, Ok, Err}
 use mathlib.Core.List.{List, [], ◌∷◌, ◌++◌, Perm}
 use Rattle.field.specs.Field.{read, flag, digit}
 use Rattle.configuration.specs.CanControl.{TXQEN, OPMOD, REQOP}
@@ -17,7 +17,7 @@ use Rattle.state.specs.declared.Model.{Model}
 use Rattle.state.specs.Model.{fifo_at}
 use Rattle.bank.specs.Registers.{word_of}
 use Rattle.model.specs.Exchange.{exchange}
-use Rattle.bus.specs.declared.arrival.Delivery.{Delivery}
+use Rattle.bus.specs.declared.arrival.Undelivered.{Undelivered}
 use Rattle.bus.specs.Held.{held}
 use Rattle.bus.specs.Bus.{nothing, output_of, send_output, send_model, incoming, deliver_of}
 use Rattle.bus.specs.Sort.{sort_of}
@@ -87,13 +87,13 @@ QueueSendKeeps = (m : Model) → (QueueRequested m → held_queue m ≡ []) → 
 abbrev pub DeliverAppends : Type 0
 DeliverAppends =
     (m : Model) → Reached m → (n : ℕ) (header : Header) (dlc time : ℕ) (payload : List ℕ) → time < 2 ^ 32
-    → (deliver_of m n header dlc time payload).delivery ≡ Delivery.Delivered → (k : ℕ)
+    → (deliver_of m n header dlc time payload).delivery ≡ Ok tt → (k : ℕ)
     → held (deliver_of m n header dlc time payload).model k ≡ held m k ++ (if eqb n k then holds (incoming m n 0 header dlc time payload) ∷ [] else [])
 
 -- one turned down by a full FIFO sets overflow: status bit 3 reads 1
 abbrev pub FullOverflows : Type 0
 FullOverflows =
-    (m : Model) → Reached m → (n : ℕ) (header : Header) (dlc time : ℕ) (payload : List ℕ) → (deliver_of m n header dlc time payload).delivery ≡ Delivery.Full
+    (m : Model) → Reached m → (n : ℕ) (header : Header) (dlc time : ℕ) (payload : List ℕ) → (deliver_of m n header dlc time payload).delivery ≡ Err Undelivered.Full
     → read RXOVIF (word_of (deliver_of m n header dlc time payload).model (Register.Status n)) ≡ 1
 
 -- ---- sort
@@ -103,7 +103,7 @@ abbrev pub SortAppends : Type 0
 SortAppends =
     (m : Model) → Reached m → (header : Header) (dlc time : ℕ) (payload : List ℕ) → time < 2 ^ 32
     → let s = sort_of m header dlc time payload in
-    s.delivery ≡ Delivery.Delivered → (k : ℕ)
+    s.delivery ≡ Ok tt → (k : ℕ)
     → held s.model k ≡ held m k ++ (if eqb s.fifo k then holds (incoming m s.fifo s.filter header dlc time payload) ∷ [] else [])
 
 -- one turned down by a full FIFO sets that FIFO's overflow
@@ -111,7 +111,7 @@ abbrev pub SortOverflows : Type 0
 SortOverflows =
     (m : Model) → Reached m → (header : Header) (dlc time : ℕ) (payload : List ℕ)
     → let s = sort_of m header dlc time payload in
-    s.delivery ≡ Delivery.Full → read RXOVIF (word_of s.model (Register.Status s.fifo)) ≡ 1
+    s.delivery ≡ Err Undelivered.Full → read RXOVIF (word_of s.model (Register.Status s.fifo)) ≡ 1
 
 -- ---- Configuration
 

@@ -10,5 +10,5 @@ overflow_cast-n c = record { fits = fifo_fits_lem _ (sym c.is_fifo.ensures ∙ c
 
 pub give-requires : goal.give-requires
 give-requires c =
-    let p = asked_for _ _ _ (sym c.in-Good.ensures) in
+    let p = asked_for _ _ _ (sym c.in-Ok.ensures) in
     (p.0, p.1, omega arith, p.2)

@@ -9,5 +9,5 @@ use Rattle.bus.proofs.held.decoded.Goals as goal
 pub returns : goal.returns
 returns c =
     let a = c.args in
-    let e : length a.ram ≡ 2048 = search rules in
-    c.decode.ensures ∙ rw (c.within-end.ensures, c.within-start.ensures) (ap (λ (l : List ℕ). decoded_as (decoding a.sending a.stamped l)) (rw e at (part_within a.ram a.at a.size)))
+    let e : length a.ram.now ≡ 2048 = search rules in
+    c.decode.ensures ∙ rw (c.min-end.ensures, c.min-start.ensures) (ap (λ (l : List ℕ). decoded_as (decoding a.sending a.stamped l)) (rw e at (part_within a.ram.now a.at a.size)))
