@@ -3,9 +3,8 @@ use crate::mcp::{Failed, Line};
 use crate::proved::{bus, fifo as fifos, model, state};
 use crate::{Header, Refusal};
 
-/// What a frame that arrived came to: `Delivered`, refused (named for a FIFO: 20, 21, 22; sorted: 21, 22, 31, 30), or turned down by a
-/// cause.
-pub use crate::proved::bus::Delivery;
+/// Why a frame that arrived was not delivered: refused (named for a FIFO: 20, 21, 22; sorted: 21, 22, 31, 30), or turned down by a cause.
+pub use crate::proved::bus::Undelivered;
 /// Why a send gave no frame: the message is none, there was nothing to send, or it was refused (20).
 pub use crate::proved::bus::Unsent;
 /// A message: header, DLC, SEQ (0 in one received), timestamp and payload.
@@ -20,7 +19,7 @@ pub use crate::proved::state::Model;
 /// What a frame that the filters sorted came to.
 #[derive(Clone, Copy, Debug, PartialEq, Eq)]
 pub struct Sorted {
-    pub delivery: Delivery,
+    pub delivery: Result<(), Undelivered>,
     /// The FIFO that it was for, also where that turned it down; 0 where it was refused.
     pub fifo: u32,
     /// The filter that took it; 0 where it was refused.
@@ -63,7 +62,7 @@ impl Chip {
 
     /// A frame arrives for a FIFO, at this time. Its payload is as long as its DLC means: DLC 0 to 8 as many bytes, 9 to 15 in an FD frame
     /// 12, 16, 20, 24, 32, 48 or 64, in a classic one 8. Another length is 22, and so is a DLC above 15.
-    pub fn deliver(&mut self, fifo: u32, header: Header, dlc: u32, time: u32, payload: &[u8]) -> Delivery {
+    pub fn deliver(&mut self, fifo: u32, header: Header, dlc: u32, time: u32, payload: &[u8]) -> Result<(), Undelivered> {
         let delivered = bus::deliver(self.model, fifo, header, dlc, time, payload);
         self.model = delivered.model;
         delivered.delivery

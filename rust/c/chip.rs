@@ -2,7 +2,7 @@
 use crate::{bytes, layout, lent, there, CHeader, NULL};
 use core::ffi::{c_int, c_void};
 use core::mem::{align_of, offset_of, size_of};
-use masevuru::chip::{Chip, Delivery, Frame, Undecoded, Unsent};
+use masevuru::chip::{Chip, Frame, Undecoded, Undelivered, Unsent};
 use masevuru::{number, Line, Refusal};
 
 #[repr(C)]
@@ -151,14 +151,14 @@ pub unsafe extern "C" fn mcp_chip_send_queue(p: *mut CChip, frame: *mut CFrame) 
 }
 
 /// MCP_DELIVERED and the causes, or a refusal.
-fn why(delivery: Delivery) -> Result<u32, Refusal> {
+fn why(delivery: Result<(), Undelivered>) -> Result<u32, Refusal> {
     match delivery {
-        Delivery::Delivered => Ok(0),
-        Delivery::Configuration => Ok(1),
-        Delivery::NotReceiving => Ok(2),
-        Delivery::TooLong => Ok(3),
-        Delivery::Full => Ok(4),
-        Delivery::Refused(r) => Err(r),
+        Ok(()) => Ok(0),
+        Err(Undelivered::Configuration) => Ok(1),
+        Err(Undelivered::NotReceiving) => Ok(2),
+        Err(Undelivered::TooLong) => Ok(3),
+        Err(Undelivered::Full) => Ok(4),
+        Err(Undelivered::Refused(r)) => Err(r),
     }
 }
 

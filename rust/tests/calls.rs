@@ -3,7 +3,7 @@
 //! that are scrubbed, mismatches that are counted, messages that overtake others in the transmit queue. What is expected was written down
 //! from documents 01 and 02.
 use masevuru::calls::*;
-use masevuru::chip::{Chip, Delivery, Frame, Payload, Sorted, Undecoded, Unsent};
+use masevuru::chip::{Chip, Frame, Payload, Sorted, Undecoded, Undelivered, Unsent};
 use masevuru::*;
 
 /// The chip, with one exchange that fails and some whose answers are changed.
@@ -102,8 +102,8 @@ fn with_queue(c: Option<TxQueueConfiguration>) -> Driver {
     mcp.configure_fifo(2, receiver(7, true)).unwrap();
     mcp.configure_fifo(3, receiver(0, false)).unwrap();
     mcp.set_op_mode(0).unwrap();
-    assert_eq!(mcp.line.chip.deliver(2, HEADER, 5, 0xA1B2_C3D4, &BYTES[..5]), Delivery::Delivered);
-    assert_eq!(mcp.line.chip.deliver(3, HEADER, 5, 0xA1B2_C3D4, &BYTES[..5]), Delivery::Delivered);
+    assert_eq!(mcp.line.chip.deliver(2, HEADER, 5, 0xA1B2_C3D4, &BYTES[..5]), Ok(()));
+    assert_eq!(mcp.line.chip.deliver(3, HEADER, 5, 0xA1B2_C3D4, &BYTES[..5]), Ok(()));
     mcp.line.exchanges = 0;
     mcp.line.waits = 0;
     mcp
@@ -478,7 +478,7 @@ fn refusals() {
         let to = FilterConfiguration { fifo: n, ..filter() };
         assert_eq!((told(m.transmit(n, HEADER, 5, &BYTES)), told(m.configure_filter(0, to))), (20, 20));
         assert_eq!(m.line.chip.send(n), Err(Unsent::Refused(Refusal::BadNumber)));
-        assert_eq!(m.line.chip.deliver(n, HEADER, 8, 0, &BYTES), Delivery::Refused(Refusal::BadNumber));
+        assert_eq!(m.line.chip.deliver(n, HEADER, 8, 0, &BYTES), Err(Undelivered::Refused(Refusal::BadNumber)));
         assert_eq!((told(m.line.chip.held(n)), told(m.line.chip.held_at(n, 0))), (20, 20));
     }
     for n in [32, 255, 256, 257, u32::MAX] {
@@ -525,24 +525,24 @@ fn sorting() {
         m.line.chip.sort(Header { id, fdf: bytes.len() > 9, ..HEADER }, dlc, 7, bytes)
     };
     let for_fifo = |delivery, fifo, filter| Sorted { delivery, fifo, filter };
-    let refused = |r| Sorted { delivery: Delivery::Refused(r), fifo: 0, filter: 0 };
+    let refused = |r| Sorted { delivery: Err(Undelivered::Refused(r)), fifo: 0, filter: 0 };
     let mut m = prepared();
     assert_eq!(sort(&mut m, 0x123, &BYTES), refused(Refusal::NoMatch));
     m.configure_filter(0, filter()).unwrap();
     m.configure_filter(9, to(3, 0x200)).unwrap();
     m.configure_filter(31, to(1, 0x300)).unwrap();
-    assert_eq!(sort(&mut m, 0x123, &BYTES), for_fifo(Delivery::Delivered, 2, 0));
-    assert_eq!(sort(&mut m, 0x223, &BYTES[..5]), for_fifo(Delivery::Delivered, 3, 9));
+    assert_eq!(sort(&mut m, 0x123, &BYTES), for_fifo(Ok(()), 2, 0));
+    assert_eq!(sort(&mut m, 0x223, &BYTES[..5]), for_fifo(Ok(()), 3, 9));
     assert_eq!(slot(&m, 3, 1).header.id, 0x223);
     // FIFO 3 is behind 4 x 16 and 2 x 76 bytes; the frame is in its second slot
     let mut word = [0; 4];
     m.read_ram(0x400 + 64 + 152 + 16 + 4, &mut word).unwrap();
     assert_eq!(u32::from_le_bytes(word), 9 << 11 | 5);
-    assert_eq!(sort(&mut m, 0x223, &BYTES), for_fifo(Delivery::Full, 3, 9));
-    assert_eq!(sort(&mut m, 0x223, &[0; 12]), for_fifo(Delivery::TooLong, 3, 9));
-    assert_eq!(sort(&mut m, 0x323, &[0; 12]), for_fifo(Delivery::NotReceiving, 1, 31));
+    assert_eq!(sort(&mut m, 0x223, &BYTES), for_fifo(Err(Undelivered::Full), 3, 9));
+    assert_eq!(sort(&mut m, 0x223, &[0; 12]), for_fifo(Err(Undelivered::TooLong), 3, 9));
+    assert_eq!(sort(&mut m, 0x323, &[0; 12]), for_fifo(Err(Undelivered::NotReceiving), 1, 31));
     m.set_op_mode(4).unwrap();
-    assert_eq!(sort(&mut m, 0x323, &[0; 12]), for_fifo(Delivery::Configuration, 1, 31));
+    assert_eq!(sort(&mut m, 0x323, &[0; 12]), for_fifo(Err(Undelivered::Configuration), 1, 31));
     assert_eq!(sort(&mut m, 0x423, &[0; 12]), refused(Refusal::NoMatch));
     m.modify_register(0x000, 0x1F, 0x10).unwrap();
     assert_eq!(sort(&mut m, 0x423, &[0; 12]), refused(Refusal::DeviceNet));
@@ -559,8 +559,8 @@ fn every_filter() {
             let (mut m, mut buf) = (prepared(), [0x5A; 72]);
             m.configure_filter(f, FilterConfiguration { fifo, ..filter() }).unwrap();
             assert_eq!(m.get(fifo, &mut buf).unwrap().unwrap().filter, 0);
-            assert_eq!(m.line.chip.sort(HEADER, 5, 7, &BYTES[..5]), Sorted { delivery: Delivery::Delivered, fifo, filter: f });
-            assert_eq!(m.line.chip.deliver(fifo, HEADER, 5, 7, &BYTES[..5]), Delivery::Delivered);
+            assert_eq!(m.line.chip.sort(HEADER, 5, 7, &BYTES[..5]), Sorted { delivery: Ok(()), fifo, filter: f });
+            assert_eq!(m.line.chip.deliver(fifo, HEADER, 5, 7, &BYTES[..5]), Ok(()));
             let filters = [0, 1].map(|k| slot(&m, fifo, k).filter);
             assert_eq!(filters, [f as u8, 0]);
             m.disable_filter(f).unwrap(); // the message keeps the one that took it
@@ -602,7 +602,7 @@ fn every_dlc() {
     let (mut ready, bytes) = (prepared(), core::array::from_fn::<u8, 72, _>(|i| i as u8 + 1));
     assert!(ready.configure_filter(0, filter()).is_ok() && ready.get(2, &mut [0; 64]).is_ok());
     let ready = ready.line.chip;
-    let refused = Delivery::Refused(Refusal::BadPayload);
+    let refused = Err(Undelivered::Refused(Refusal::BadPayload));
     // 264 is 8 in a byte
     let dlcs = (0..=17).chain([31, 255, 256, 264, 0x1_0008, u32::MAX]);
     for (dlc, fdf, len) in dlcs.flat_map(|dlc| (0..146).map(move |k| (dlc, k % 2 == 1, k / 2))) {
@@ -614,7 +614,7 @@ fn every_dlc() {
             assert!(named == ready && sorted == ready);
             continue;
         }
-        assert_eq!(deliveries, (Delivery::Delivered, Delivery::Delivered), "DLC {dlc}, {len} bytes, FD: {fdf}");
+        assert_eq!(deliveries, (Ok(()), Ok(())), "DLC {dlc}, {len} bytes, FD: {fdf}");
         for chip in [named, sorted] {
             let (mut m, mut held) = (on(chip), Payload { len, bytes: [0; 64] });
             held.bytes[..len].copy_from_slice(payload);
@@ -641,11 +641,11 @@ fn classic_dlcs() {
     // 20, 21, 22 in this order; FIFO 3 has slots for 8 bytes
     let (mut m, far) = (prepared(), Header { id: 0x800, ..HEADER });
     for (fifo, header, refusal) in [(0, far, Refusal::BadNumber), (3, far, Refusal::BadIdentifier), (3, HEADER, Refusal::BadPayload)] {
-        assert_eq!(m.line.chip.deliver(fifo, header, 16, 0, &BYTES), Delivery::Refused(refusal));
+        assert_eq!(m.line.chip.deliver(fifo, header, 16, 0, &BYTES), Err(Undelivered::Refused(refusal)));
     }
-    assert_eq!(m.line.chip.deliver(3, Header { fdf: true, ..HEADER }, 9, 0, &[0; 12]), Delivery::TooLong);
-    assert_eq!(m.line.chip.deliver(3, HEADER, 15, 0, &BYTES), Delivery::Delivered);
-    assert_eq!(m.line.chip.deliver(3, HEADER, 15, 0, &BYTES), Delivery::Full);
+    assert_eq!(m.line.chip.deliver(3, Header { fdf: true, ..HEADER }, 9, 0, &[0; 12]), Err(Undelivered::TooLong));
+    assert_eq!(m.line.chip.deliver(3, HEADER, 15, 0, &BYTES), Ok(()));
+    assert_eq!(m.line.chip.deliver(3, HEADER, 15, 0, &BYTES), Err(Undelivered::Full));
     let mut buf = [0x5A; 72];
     assert_eq!((m.get(3, &mut buf), m.get(3, &mut buf)), (found(5, 5), found(15, 8)));
     assert_eq!((&buf[..8], &buf[8..]), (&BYTES[..], &[0x5A; 64][..]));
@@ -1217,12 +1217,12 @@ fn every_flipped_bit() {
 fn a_filter_mended() {
     let (mut m, mut s) = (filtering(), FIRST);
     let other = Header { id: 0x501, ..HEADER };
-    assert_eq!(m.line.chip.sort(other, 8, 0, &BYTES).delivery, Delivery::Refused(Refusal::NoMatch));
+    assert_eq!(m.line.chip.sort(other, 8, 0, &BYTES).delivery, Err(Undelivered::Refused(Refusal::NoMatch)));
     m.write_register(0x1F4, 0x4000_0300).unwrap();
-    assert_eq!(m.line.chip.sort(other, 8, 0, &BYTES).delivery, Delivery::Delivered);
+    assert_eq!(m.line.chip.sort(other, 8, 0, &BYTES).delivery, Ok(()));
     let steps = [m.scrub(&mut s, &FILTER, true), m.scrub(&mut s, &FILTER, true), m.scrub(&mut s, &FILTER, true)];
     assert_eq!(steps, [agree(0x1D0, 0), agree(0x1F0, 0), differ(0x1F4, 0x4000_0300, 0x4000_0700, 0, Rewrite::Back(0x4000_0700, 0))]);
-    assert_eq!(m.line.chip.sort(other, 8, 0, &BYTES).delivery, Delivery::Refused(Refusal::NoMatch));
+    assert_eq!(m.line.chip.sort(other, 8, 0, &BYTES).delivery, Err(Undelivered::Refused(Refusal::NoMatch)));
     let steps = [m.scrub(&mut s, &FILTER, true), m.scrub(&mut s, &FILTER, true), m.scrub(&mut s, &FILTER, true)];
     assert_eq!((steps, s.place), ([agree(0x1D0, 0), agree(0x1F0, 0), agree(0x1F4, 0)], 3));
 }

@@ -3,7 +3,7 @@
 //! find a message whose length is not what its DLC means, leave a scrubber where it does not belong, count other mismatches than the
 //! answers had, or take more turns than it said. What the transmit queue sends it has held.
 use masevuru::calls::*;
-use masevuru::chip::{Chip, Delivery, Frame, Sorted, Undecoded, Unsent};
+use masevuru::chip::{Chip, Frame, Sorted, Undecoded, Undelivered, Unsent};
 use masevuru::*;
 
 #[derive(Clone)]
@@ -398,9 +398,9 @@ fn a_hundred_thousand() {
         let _ = chip.send(g.fifo);
         queued[sent_from_queue(chip)] += 1;
         let delivery = chip.deliver(g.fifo, g.header, g.dlc, g.c, frame);
-        assert!(delivery != Delivery::Delivered || is_brought(newest(chip, g.fifo), &g, 0, frame));
+        assert!(delivery != Ok(()) || is_brought(newest(chip, g.fifo), &g, 0, frame));
         let s = chip.sort(g.header, g.dlc, g.c, frame);
-        assert!(s.delivery != Delivery::Delivered || is_brought(newest(chip, s.fifo), &g, s.filter, frame));
+        assert!(s.delivery != Ok(()) || is_brought(newest(chip, s.fifo), &g, s.filter, frame));
         sorted[sorted_number(s)] += 1;
         assert!(chip.held(g.fifo).map_or(!(1..32).contains(&g.fifo), |held| held <= 32));
     }
@@ -463,15 +463,15 @@ fn report_number(report: Report) -> usize {
 fn sorted_number(s: Sorted) -> usize {
     assert!(s.fifo < 32 && s.filter < 32);
     match s.delivery {
-        Delivery::Refused(r) => {
+        Err(Undelivered::Refused(r)) => {
             assert!(s.fifo == 0 && s.filter == 0);
             number(r) as usize
         }
-        Delivery::Delivered => 32,
-        Delivery::Configuration => 33,
-        Delivery::NotReceiving => 34,
-        Delivery::TooLong => 35,
-        Delivery::Full => 36,
+        Ok(()) => 32,
+        Err(Undelivered::Configuration) => 33,
+        Err(Undelivered::NotReceiving) => 34,
+        Err(Undelivered::TooLong) => 35,
+        Err(Undelivered::Full) => 36,
     }
 }
 
