@@ -4,7 +4,6 @@
 
 mod arguments;
 mod messages;
-mod ram;
 mod scrubbing;
 mod setup;
 
@@ -19,6 +18,12 @@ pub const ROOM: usize = 2048;
 // Which number of a call is the place that a scrub starts at. No row has so many arguments: it is 0 where nobody puts another there.
 pub const PLACE: usize = 23;
 
+// A part that is longer than the RAM is refused whatever buffer is lent, and by its range.
+fn read_call(a: Arguments<'_>) -> Call {
+    let n = a.number(1) as usize;
+    driver::read_ram(a.word(0), n.max(ROOM), 0, n)
+}
+
 // The call of this name.
 pub fn start(name: CallName, a: Arguments<'_>) -> Call {
     match name {
@@ -28,7 +33,7 @@ pub fn start(name: CallName, a: Arguments<'_>) -> Call {
         CallName::CheckedRead => driver::checked_read(a.word(0)),
         CallName::WriteRegister => driver::write_register(a.word(0), a.word(1)),
         CallName::VerifyLong => driver::verify_long(),
-        CallName::ReadRam => ram::read_call(a),
+        CallName::ReadRam => read_call(a),
         CallName::WriteRam => driver::write_ram(a.word(0), a.bytes.len()),
         CallName::Verify => driver::verify(),
         CallName::ModifyRegister => driver::modify_register(a.word(0), a.word(1), a.word(2)),
