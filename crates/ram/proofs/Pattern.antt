@@ -13,7 +13,7 @@ use Rattle.laws.proofs.Table.{at}
 use Rattle.words.specs.Words.{le_bytes, le_at}
 use Rattle.words.proofs.Laws.{le_length, le_again, le_drop}
 use Rattle.parts.specs.Parts.{put, zeroed}
-use Rattle.parts.proofs.Laws.{put_next, length_zeroed}
+use Rattle.parts.proofs.Laws.{put_next}
 use Rattle.ram.specs.Echo.{bit_words, echo_bytes}
 
 pub length_words : (n : ℕ) → length (bit_words n) ≡ 4 * n
@@ -30,9 +30,6 @@ pub next_word : (n : ℕ) {p q b : List ℕ} {w : ℕ} → p ≡ zeroed 128 (bit
     → q ≡ zeroed 128 (bit_words (n + 1))
 unfolding bit_words
 next_word n e k f g = rw (g, e, f, k, add-one n, sym (length_words n)) (put_next 128 (bit_words n) (le_bytes (2 ^ n)))
-
-pub length_pattern : (n : ℕ) → n ≤ 32 → length (zeroed 128 (bit_words n)) ≡ 128
-length_pattern n h = length_zeroed 128 (bit_words n) (omega (arith, length_words n))
 
 -- nothing is left behind 32
 pub all_words : zeroed 128 (bit_words 32) ≡ echo_bytes

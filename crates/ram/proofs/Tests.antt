@@ -1,13 +1,12 @@
 -- What the tests of the code say.
 -- Assumes nothing.
-use Prim.Native.Nat.{ℕ, ◌+◌, ◌-◌, ◌≤◌, ◌<◌, ◌%◌, ◌^◌}
+use Prim.Native.Nat.{ℕ, ◌<◌, ◌%◌, ◌^◌}
 use mathlib.Core.Path.{◌≡◌, refl, sym}
 use mathlib.Core.Bool.{Bool, true, false, false≢true}
 use mathlib.Core.List.{List}
 use native.Mathlib.Omega.{arith}
-use lib.Dec.{leb, eqb}
-use borrow.Author.Tests.{leb-true, le-leb}
-use Rattle.std.specs.Prelude.{if◌then◌else◌, Ok, Err}
+use lib.Dec.{eqb}
+use Rattle.std.specs.Prelude.{if◌then◌else◌, Result, Ok, Err}
 use Rattle.spi.specs.declared.refusal.Refusal.{Refusal}
 use Rattle.spi.specs.Ram.{in_range, access_of}
 use Rattle.spi.proofs.Laws.{range_told}
@@ -20,19 +19,12 @@ agree true b f g = sym (f refl)
 agree false true f g = g refl
 agree false false f g = refl
 
--- the test that cannot wrap
-pub no_wrap : (place count room : ℕ) → place ≤ room → leb count (room - place) ≡ leb (place + count) room
-no_wrap place count room h =
-    agree (leb count (room - place)) (leb (place + count) room)
-    (λ e. le-leb (place + count) room (omega (arith, leb-true count (room - place) e)))
-    (λ e. le-leb count (room - place) (omega (arith, leb-true (place + count) room e)))
-
 -- what is not the pattern is not the same
 pub no_echo : (rx : List ℕ) → (rx ≡ echo_bytes → ⊥) → false ≡ same rx echo_bytes
 no_echo rx h = agree false (same rx echo_bytes) (λ e. absurd (false≢true e)) (λ e. absurd (h ((same_law rx echo_bytes).0 e)))
 
 -- an address in range has 16 bits
-good : (b c : Bool) (r s : Refusal) → (if b then if c then Ok tt else Err r else Err s) ≡ Ok tt → b ≡ true
+good : (b c : Bool) (r s : Refusal) → ◌≡◌ {A = Result (Unit {0}) Refusal} (if b then if c then Ok tt else Err r else Err s) (Ok tt) → b ≡ true
 good true c r s e = refl
 good false c r s e = cc
 

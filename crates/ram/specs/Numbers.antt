@@ -1,6 +1,6 @@
 -- A call on RAM as plain numbers, and the state of which the definitions speak.
 -- Assumes nothing.
-use Rattle.std.specs.Prelude.{ℕ}
+use Rattle.std.specs.Prelude.{ℕ, Result, Ok, Err}
 use Rattle.spi.specs.declared.refusal.Refusal.{Refusal}
 use Rattle.ram.specs.RamCall.{RamCall}
 use Rattle.ram.specs.declared.RamStage.{RamStage}
@@ -18,3 +18,8 @@ at_stage RamStage.Refused m place count why = RamCall.Refused why
 
 abbrev pub ram_of : RamNumbers → RamCall
 ram_of c = at_stage c.stage c.m c.place c.count c.why
+
+-- after an answer: other numbers, or a refusal
+abbrev pub gone : Result RamNumbers Refusal → RamCall
+gone (Ok n) = ram_of n
+gone (Err why) = RamCall.Refused why

@@ -3,10 +3,9 @@
 
 ghost use Rattle.std.specs.Prelude.{◌≡◌, ◌<◌, ◌^◌, length};
 ghost use Rattle.spi.specs.Reply.{done_reply};
-ghost use Rattle.spi.specs.Talk.{on_done};
 ghost use Rattle.spi.specs.declared.refusal.Refusal.{Refusal};
 ghost use Rattle.ram.specs.Echo.{echo_bytes, same};
-ghost use Rattle.ram.specs.Numbers.{at_stage, ram_of};
+ghost use Rattle.ram.specs.Numbers.{at_stage, ram_of, gone};
 ghost use Rattle.ram.specs.Step.{inside, read_start, write_start, after_echo, step_of, ask_of, outcome_of, filled_part, filled_by, finished_part, finished_as};
 ghost use Rattle.ram.specs.RamCall.{RamCall};
 
@@ -69,10 +68,7 @@ fn at_stage(stage: RamStage, m: u16, place: usize, count: usize) -> RamNumbers
 fn is_inside(place: usize, count: usize, room: usize) -> bool
     ensures { result ≡ inside place count room }
 {
-    if room < place {
-        return false;
-    }
-    count <= room - place
+    place <= room && count <= room - place
 }
 
 // The buffer is tested before the address.
@@ -80,13 +76,12 @@ fn is_inside(place: usize, count: usize, room: usize) -> bool
 pub fn read_ram_start(address: u32, room: usize, place: usize, count: usize) -> RamNumbers
     ensures { ram_of result ≡ read_start address room place count }
 {
-    if is_inside(place, count, room) {
-        match spi::read_access(address, count) {
-            Ok(()) => at_stage(RamStage::Read, address as u16, place, count),
-            Err(r) => refused(r),
-        }
-    } else {
-        refused(Refusal::BufferTooSmall)
+    if !is_inside(place, count, room) {
+        return refused(Refusal::BufferTooSmall);
+    }
+    match spi::read_access(address, count) {
+        Ok(()) => at_stage(RamStage::Read, address as u16, place, count),
+        Err(r) => refused(r),
     }
 }
 
@@ -120,11 +115,8 @@ pub fn echo_pattern() -> [u8; 128]
     ensures { result ≡ echo_bytes }
 {
     let mut p = [0u8; 128];
-    let mut i = 0;
-    while i < 32 {
-        let w = words::le_bytes(echo_word(i));
-        parts::put_at(&mut p, 4 * i, &w);
-        i += 1;
+    for i in 0..32 {
+        parts::put_at(&mut p, 4 * i, &words::le_bytes(echo_word(i)));
     }
     p
 }
@@ -133,8 +125,7 @@ pub fn echo_pattern() -> [u8; 128]
 pub fn ram_ask(c: RamNumbers) -> Ask
     ensures { result ≡ ask_of (ram_of c) }
 {
-    let stage = c.stage;
-    match stage {
+    match c.stage {
         RamStage::Read => Ask::Read {
             address: c.m,
             count: c.count,
@@ -162,23 +153,25 @@ fn is_echo(rx: &[u8]) -> bool
     if rx.len() != ECHO_LEN {
         return false;
     }
-    let mut i = 0;
-    while i < 32 {
+    for i in 0..32 {
         if words::le_at(rx, 4 * i) != echo_word(i) {
             return false;
         }
-        i += 1;
     }
     true
 }
 
-fn after_echo(rx: &[u8]) -> RamNumbers
-    ensures { ram_of result ≡ after_echo rx.now }
+#[tactic(auto, unfolding(crate::specs::Step::after_echo))]
+fn after_echo(c: RamNumbers, rx: &[u8]) -> Result<RamNumbers, Refusal>
+    ensures { gone result ≡ after_echo rx.now }
 {
     if is_echo(rx) {
-        at_stage(RamStage::Done, 0, 0, 0)
+        Ok(RamNumbers {
+            stage: RamStage::Done,
+            ..c
+        })
     } else {
-        refused(Refusal::SpiFailedRamEcho)
+        Err(Refusal::SpiFailedRamEcho)
     }
 }
 
@@ -189,46 +182,39 @@ fn echo_reply(answer: Answer, got: usize, want: usize) -> Result<(), Refusal>
     spi::done_reply(Refusal::ConfigurationModeTimeout, answer, got, want)
 }
 
-fn when_done(reply: Result<(), Refusal>, stage: RamStage, place: usize, count: usize) -> RamNumbers
-    ensures { ram_of result ≡ on_done RamCall.Refused reply (at_stage stage 0 place count Refusal.WrongAnswer) }
-{
-    match reply {
-        Ok(()) => at_stage(stage, 0, place, count),
-        Err(r) => refused(r),
-    }
-}
-
-fn when_echoed(reply: Result<(), Refusal>, rx: &[u8]) -> RamNumbers
-    ensures { ram_of result ≡ on_done RamCall.Refused reply (after_echo rx.now) }
-{
-    match reply {
-        Ok(()) => after_echo(rx),
-        Err(r) => refused(r),
-    }
-}
-
-// A failed read is told as 1, a failed write as 2.
+// Where an answer leads, or what the call is refused with. A failed read is told as 1, a failed write as 2.
 #[tactic(auto, unfolding(crate::specs::Step::step_of))]
+fn reached(c: RamNumbers, answer: Answer, rx: &[u8]) -> Result<RamNumbers, Refusal>
+    ensures { gone result ≡ step_of (ram_of c) answer rx.now }
+{
+    let stage = match c.stage {
+        RamStage::Read => {
+            spi::done_reply(Refusal::SpiRead, answer, rx.len(), c.count)?;
+            RamStage::Received
+        }
+        RamStage::Write => {
+            spi::done_reply(Refusal::SpiWrite, answer, rx.len(), 0)?;
+            RamStage::Done
+        }
+        RamStage::EchoWrite => {
+            echo_reply(answer, rx.len(), 0)?;
+            RamStage::EchoRead
+        }
+        RamStage::EchoRead => {
+            echo_reply(answer, rx.len(), ECHO_LEN)?;
+            return after_echo(c, rx);
+        }
+        _ => return Err(Refusal::WrongAnswer),
+    };
+    Ok(RamNumbers { stage, ..c })
+}
+
 pub fn ram_step(c: RamNumbers, answer: Answer, rx: &[u8]) -> RamNumbers
     ensures { ram_of result ≡ step_of (ram_of c) answer rx.now }
 {
-    let stage = c.stage;
-    match stage {
-        RamStage::Read => when_done(
-            spi::done_reply(Refusal::SpiRead, answer, rx.len(), c.count),
-            RamStage::Received,
-            c.place,
-            c.count,
-        ),
-        RamStage::Write => when_done(
-            spi::done_reply(Refusal::SpiWrite, answer, rx.len(), 0),
-            RamStage::Done,
-            0,
-            0,
-        ),
-        RamStage::EchoWrite => when_done(echo_reply(answer, rx.len(), 0), RamStage::EchoRead, 0, 0),
-        RamStage::EchoRead => when_echoed(echo_reply(answer, rx.len(), ECHO_LEN), rx),
-        _ => refused(Refusal::WrongAnswer),
+    match reached(c, answer, rx) {
+        Ok(n) => n,
+        Err(why) => refused(why),
     }
 }
 
@@ -237,29 +223,26 @@ pub fn ram_outcome(c: RamNumbers) -> Outcome
     ensures { result ≡ outcome_of (ram_of c) }
 {
     let stage = c.stage;
-    let why = c.why;
     match stage {
-        RamStage::Received => Outcome::Done,
-        RamStage::Done => Outcome::Done,
-        RamStage::Refused => Outcome::Refused(why),
+        RamStage::Received | RamStage::Done => Outcome::Done,
+        RamStage::Refused => Outcome::Refused(c.why),
         _ => Outcome::Running,
     }
 }
 
 // The buffer is tested again, as it is lent again, and then the bytes, as they are shown again.
+#[tactic(auto, unfolding(crate::specs::Step::filled_part, crate::specs::Step::finished_part))]
 fn finish_part(place: usize, count: usize, rx: &[u8], buf: &mut [u8]) -> Outcome
     ensures { (result ≡ finished_part place count (length rx.now) (length buf.old)) × (buf.new ≡ filled_part place count rx.now buf.old) }
 {
-    if is_inside(place, count, buf.len()) {
-        if rx.len() == count {
-            parts::put_at(buf, place, rx);
-            Outcome::Done
-        } else {
-            Outcome::Refused(Refusal::WrongAnswer)
-        }
-    } else {
-        Outcome::Refused(Refusal::BufferTooSmall)
+    if !is_inside(place, count, buf.len()) {
+        return Outcome::Refused(Refusal::BufferTooSmall);
     }
+    if rx.len() != count {
+        return Outcome::Refused(Refusal::WrongAnswer);
+    }
+    parts::put_at(buf, place, rx);
+    Outcome::Done
 }
 
 // What a read received goes to its part of the lent buffer; any other call changes no byte.
@@ -267,8 +250,7 @@ fn finish_part(place: usize, count: usize, rx: &[u8], buf: &mut [u8]) -> Outcome
 pub fn ram_finish(c: RamNumbers, rx: &[u8], buf: &mut [u8]) -> Outcome
     ensures { (result ≡ finished_as (ram_of c) (length rx.now) (length buf.old)) × (buf.new ≡ filled_by (ram_of c) rx.now buf.old) }
 {
-    let stage = c.stage;
-    match stage {
+    match c.stage {
         RamStage::Received => finish_part(c.place, c.count, rx, buf),
         _ => ram_outcome(c),
     }

@@ -1,6 +1,6 @@
 -- A call on a register as plain numbers, and the state of which the definitions speak.
 -- Assumes nothing.
-use Rattle.std.specs.Prelude.{ℕ}
+use Rattle.std.specs.Prelude.{ℕ, Result, Ok, Err}
 use Rattle.spi.specs.declared.refusal.Refusal.{Refusal}
 use Rattle.register.specs.RegisterCall.{RegisterCall}
 use Rattle.register.specs.declared.RegisterStage.{RegisterStage}
@@ -21,3 +21,8 @@ at_stage RegisterStage.Refused m w seen why = RegisterCall.Refused why
 
 abbrev pub register_of : RegisterNumbers → RegisterCall
 register_of c = at_stage c.stage c.m c.w c.seen c.why
+
+-- after an answer: other numbers, or a refusal
+abbrev pub gone : Result RegisterNumbers Refusal → RegisterCall
+gone (Ok n) = register_of n
+gone (Err why) = RegisterCall.Refused why

@@ -2,10 +2,10 @@
 #![tactic(auto)]
 
 ghost use Rattle.std.specs.Prelude.{◌≡◌};
-ghost use Rattle.spi.specs.Talk.{on_done, on_word, on_checked};
+ghost use Rattle.spi.specs.Talk.{on_checked};
 ghost use Rattle.spi.specs.declared.refusal.Refusal.{Refusal};
-ghost use Rattle.register.specs.Numbers.{at_stage, register_of};
-ghost use Rattle.register.specs.Step.{addressed, after_mismatch, after_mode, step_of, ask_of, outcome_of, read_start, write_start, checked_start};
+ghost use Rattle.register.specs.Numbers.{at_stage, register_of, gone};
+ghost use Rattle.register.specs.Step.{addressed, after_mismatch, step_of, ask_of, outcome_of, read_start, write_start, checked_start};
 ghost use Rattle.register.specs.RegisterCall.{RegisterCall};
 
 use call::Outcome;
@@ -110,8 +110,7 @@ pub fn get_op_mode_start() -> RegisterNumbers
 pub fn register_ask(c: RegisterNumbers) -> Ask
     ensures { result ≡ ask_of (register_of c) }
 {
-    let stage = c.stage;
-    match stage {
+    match c.stage {
         RegisterStage::Reset => Ask::Reset,
         RegisterStage::Read => Ask::Read {
             address: c.m,
@@ -130,72 +129,69 @@ pub fn register_ask(c: RegisterNumbers) -> Ask
     }
 }
 
-// Three tries: two mismatches are followed by another.
+// A mismatch is followed by another try, the third by a refusal.
 #[tactic(auto, unfolding(crate::specs::Step::after_mismatch))]
-fn after_mismatch(m: u16, seen: u8) -> RegisterNumbers
-    ensures { register_of result ≡ after_mismatch m seen }
-{
-    if seen < 2 {
-        at_stage(RegisterStage::Checked, m, 0, seen + 1)
-    } else {
-        refused(Refusal::CrcMismatch)
-    }
-}
-
-fn ended(reply: Result<(), Refusal>) -> RegisterNumbers
-    ensures { register_of result ≡ on_done RegisterCall.Refused reply RegisterCall.Done }
+fn when_checked(c: RegisterNumbers, reply: CheckedWord) -> Result<RegisterNumbers, Refusal>
+    ensures { gone result ≡ on_checked RegisterCall.Refused reply (after_mismatch c.m c.seen) (λ w. RegisterCall.Matched w c.seen) }
 {
     match reply {
-        Ok(()) => at_stage(RegisterStage::Done, 0, 0, 0),
-        Err(r) => refused(r),
+        CheckedWord::Word(w) => Ok(RegisterNumbers {
+            stage: RegisterStage::Matched,
+            w,
+            ..c
+        }),
+        CheckedWord::Mismatch => {
+            if c.seen < 2 {
+                Ok(RegisterNumbers {
+                    stage: RegisterStage::Checked,
+                    seen: c.seen + 1,
+                    ..c
+                })
+            } else {
+                Err(Refusal::CrcMismatch)
+            }
+        }
+        CheckedWord::Bad(r) => Err(r),
     }
 }
 
-fn when_read(reply: Result<u32, Refusal>) -> RegisterNumbers
-    ensures { register_of result ≡ on_word RegisterCall.Refused reply RegisterCall.Word }
-{
-    match reply {
-        Ok(w) => at_stage(RegisterStage::Word, 0, w, 0),
-        Err(r) => refused(r),
-    }
-}
-
-fn when_mode_read(reply: Result<u32, Refusal>) -> RegisterNumbers
-    ensures { register_of result ≡ on_word RegisterCall.Refused reply after_mode }
-{
-    match reply {
-        Ok(w) => at_stage(RegisterStage::OpMode, 0, CanControl(w).opmod(), 0),
-        Err(r) => refused(r),
-    }
-}
-
-fn when_checked(m: u16, seen: u8, reply: CheckedWord) -> RegisterNumbers
-    ensures { register_of result ≡ on_checked RegisterCall.Refused reply (after_mismatch m seen) (λ w. RegisterCall.Matched w seen) }
-{
-    match reply {
-        CheckedWord::Word(w) => at_stage(RegisterStage::Matched, 0, w, seen),
-        CheckedWord::Mismatch => after_mismatch(m, seen),
-        CheckedWord::Bad(r) => refused(r),
-    }
-}
-
-// A failed reset is told as 2, every other failed exchange as 1: a register write too.
+// Where an answer leads, or what the call is refused with. A failed reset is told as 2, every other failed exchange as 1: a register write too.
 #[tactic(auto, unfolding(crate::specs::Step::step_of))]
+fn reached(c: RegisterNumbers, answer: Answer, rx: &[u8]) -> Result<RegisterNumbers, Refusal>
+    ensures { gone result ≡ step_of (register_of c) answer rx.now }
+{
+    let (stage, w) = match c.stage {
+        RegisterStage::Reset => {
+            spi::done_reply(Refusal::SpiWrite, answer, rx.len(), 0)?;
+            (RegisterStage::Done, c.w)
+        }
+        RegisterStage::Read => {
+            let w = spi::word_reply(Refusal::SpiRead, answer, rx)?;
+            (RegisterStage::Word, w)
+        }
+        RegisterStage::Write => {
+            spi::done_reply(Refusal::SpiRead, answer, rx.len(), 0)?;
+            (RegisterStage::Done, c.w)
+        }
+        RegisterStage::Checked => return when_checked(
+            c,
+            spi::crc_reply(Refusal::SpiRead, c.m, answer, rx),
+        ),
+        RegisterStage::Mode => {
+            let con = spi::word_reply(Refusal::SpiRead, answer, rx)?;
+            (RegisterStage::OpMode, CanControl(con).opmod())
+        }
+        _ => return Err(Refusal::WrongAnswer),
+    };
+    Ok(RegisterNumbers { stage, w, ..c })
+}
+
 pub fn register_step(c: RegisterNumbers, answer: Answer, rx: &[u8]) -> RegisterNumbers
     ensures { register_of result ≡ step_of (register_of c) answer rx.now }
 {
-    let stage = c.stage;
-    match stage {
-        RegisterStage::Reset => ended(spi::done_reply(Refusal::SpiWrite, answer, rx.len(), 0)),
-        RegisterStage::Read => when_read(spi::word_reply(Refusal::SpiRead, answer, rx)),
-        RegisterStage::Write => ended(spi::done_reply(Refusal::SpiRead, answer, rx.len(), 0)),
-        RegisterStage::Checked => when_checked(
-            c.m,
-            c.seen,
-            spi::crc_reply(Refusal::SpiRead, c.m, answer, rx),
-        ),
-        RegisterStage::Mode => when_mode_read(spi::word_reply(Refusal::SpiRead, answer, rx)),
-        _ => refused(Refusal::WrongAnswer),
+    match reached(c, answer, rx) {
+        Ok(n) => n,
+        Err(why) => refused(why),
     }
 }
 
@@ -204,13 +200,12 @@ pub fn register_outcome(c: RegisterNumbers) -> Outcome
     ensures { result ≡ outcome_of (register_of c) }
 {
     let stage = c.stage;
-    let why = c.why;
     match stage {
         RegisterStage::Done => Outcome::Done,
         RegisterStage::Word => Outcome::Word(c.w),
         RegisterStage::Matched => Outcome::Checked(c.w, c.seen),
         RegisterStage::OpMode => Outcome::Mode(c.w),
-        RegisterStage::Refused => Outcome::Refused(why),
+        RegisterStage::Refused => Outcome::Refused(c.why),
         _ => Outcome::Running,
     }
 }
