@@ -69,7 +69,7 @@ impl TransmitterDelayCompensation {
     pub fn tdcmod(self) -> u32
         ensures { result ≡ min (read TDCMOD self.0) 2 }
     {
-        field::at_most(field::get(self.0, 16, 2), 2)
+        field::get(self.0, 16, 2).min(2)
     }
 
     pub fn with_tdcmod(self, v: u32) -> TransmitterDelayCompensation

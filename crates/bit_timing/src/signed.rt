@@ -6,10 +6,7 @@ ghost use Rattle.bit_timing.specs.Signed.{seven_of, number_of, Small, is_small};
 pub fn is_small(t: i32) -> bool
     ensures { result ≡ is_small t }
 {
-    if t < -64 {
-        return false;
-    }
-    t < 64
+    matches!(t, -64..=63)
 }
 
 // A number as seven bits.

@@ -1,7 +1,7 @@
 // The register field codec: a field is `width` bits of a word from bit `pos` on, read and set with shifts and masks.
 #![tactic(auto)]
 
-ghost use Rattle.std.specs.Prelude.{◌≡◌, ◌+◌, ◌-◌, ◌^◌, ◌≤◌, ◌<◌, min, eqb};
+ghost use Rattle.std.specs.Prelude.{◌≡◌, ◌+◌, ◌-◌, ◌^◌, ◌≤◌, ◌<◌, eqb};
 ghost use Rattle.field.specs.Field.{field_of, with_field, digit};
 
 mod register;
@@ -42,16 +42,5 @@ pub fn set_bit(word: u32, pos: u32, on: bool) -> u32
     requires { pos < 32 }
     ensures { result ≡ with_field word pos 1 (digit on) }
 {
-    if on {
-        set(word, pos, 1, 1)
-    } else {
-        set(word, pos, 1, 0)
-    }
-}
-
-// The smaller of two numbers: some fields read or store no more than a largest value.
-pub fn at_most(n: u32, most: u32) -> u32
-    ensures { result ≡ min n most }
-{
-    if n < most { n } else { most }
+    set(word, pos, 1, on as u32)
 }
