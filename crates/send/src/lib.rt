@@ -1,7 +1,7 @@
 // The bytes of an ask, put together in a lent buffer: its head, and the first bytes of the call's body.
 #![tactic(auto)]
 
-ghost use Rattle.std.specs.Prelude.{◌≡◌, length, leb, if◌then◌else◌};
+ghost use Rattle.std.specs.Prelude.{◌≡◌, ◌+◌, length, leb, if◌then◌else◌};
 ghost use Rattle.parts.specs.Parts.{put};
 ghost use Rattle.spi.specs.declared.ask.Ask.{Ask};
 ghost use Rattle.send.specs.declared.next.Next.TheVariants.{Transfer, Short};
@@ -22,25 +22,24 @@ fn put_head(head: &[u8], want: usize, tx: &mut [u8]) -> Next
         return Next::Short;
     }
     parts::put_at(tx, 0, head);
-    Next::Transfer { n: n, want: want }
+    Next::Transfer { n, want }
 }
 
-// A command, and the first bytes of the body behind it. The sum of their lengths could wrap before it is known to be small.
+// Whether a command and `n` bytes behind it lie in a buffer of `room` bytes; the sum of the two could wrap.
+fn has_room(n: usize, room: usize) -> bool
+    ensures { result ≡ leb (2 + n) room }
+{
+    2 <= room && n <= room - 2
+}
+
+// A command, and the first bytes of the body behind it.
 fn put_body(address: u16, n: usize, body: &[u8], tx: &mut [u8]) -> Next
     ensures { (result ≡ transfer_of (Ask.Body address n) body.now tx.old) × (tx.new ≡ put_into (Ask.Body address n) body.now tx.old) }
 {
-    let room = tx.len();
-    if body.len() < n {
+    if body.len() < n || !has_room(n, tx.len()) {
         return Next::Short;
     }
-    if room < 2 {
-        return Next::Short;
-    }
-    if room - 2 < n {
-        return Next::Short;
-    }
-    let head = spi::command(OpCode::Write, address);
-    parts::put_at(tx, 0, &head);
+    parts::put_at(tx, 0, &spi::command(OpCode::Write, address));
     parts::put_at(tx, 2, &body[..n]);
     Next::Transfer { n: 2 + n, want: 0 }
 }
