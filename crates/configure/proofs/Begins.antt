@@ -7,7 +7,7 @@ use mathlib.Core.List.{List, [], ◌∷◌}
 use native.Mathlib.Omega.{arith}
 use lib.Dec.{eqb, leb, lit<}
 use borrow.Author.Tests.{lt-ltb, le-ltb, ltb-true, leb-true}
-use Rattle.std.specs.Prelude.{if◌then◌else◌, Some, Ok, Err}
+use Rattle.std.specs.Prelude.{if◌then◌else◌, Some, Result, Ok, Err}
 use Rattle.laws.proofs.Table.{both}
 use Rattle.field.specs.Field.{with_field, flag, mark}
 use Rattle.field.specs.Settings.{Setting, fields_of}
@@ -83,10 +83,10 @@ unfolding filter_check
 filter_number f c = go (is_filter f) refl
   where
     go : (b : Bool) → is_filter f ≡ b
-        → (if not (b && is_fifo c.fifo) then Err Refusal.BadNumber else if not (is_identifier c.object && is_identifier c.mask) then Err Refusal.BadIdentifier else Ok tt) ≡ Ok tt
+        → ◌≡◌ {A = Result (Unit {0}) Refusal} (if not (b && is_fifo c.fifo) then Err Refusal.BadNumber else if not (is_identifier c.object && is_identifier c.mask) then Err Refusal.BadIdentifier else Ok tt) (Ok tt)
         → f < 32
     go true e h = ltb-true f 32 e
-    go false e h = let z : ◌≡◌ {A = ℕ} 0 1 = cc in absurd (omega arith)
+    go false e h = cc
 
 -- two tests, one after the other, are one
 pub one_test : {A : Type 0} (a b : Bool) (x y : A) → (if a then if b then x else y else y) ≡ (if a && b then x else y)

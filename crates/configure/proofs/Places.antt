@@ -1,6 +1,8 @@
 -- The items of a plan: one that begins leaves them as they are; where the next one stands.
 -- Assumes nothing.
 use Prim.Native.Nat.{ℕ, zero, suc, ◌+◌, ◌-◌, ◌≤◌, ◌<◌}
+use Rattle.std.proofs.Common.{max, inl, inr}
+use Rattle.std.proofs.lemmas.Bool.{cases_lt}
 use mathlib.Core.Path.{◌≡◌, refl, sym, ap, ◌∙◌}
 use mathlib.Core.Bool.{Bool, true, false}
 use mathlib.Core.List.{List, [], ◌∷◌, ◌++◌}
@@ -19,7 +21,7 @@ use Rattle.plan.specs.Step.{begun, place_from, arrived_at, filled}
 use Rattle.plan.proofs.Places.{place_at_lem, place_end, arrive_here, arrive_end}
 use Rattle.configure.specs.declared.planned.PlanKind.{PlanKind}
 use Rattle.configure.specs.declared.planned.PlanNumbers.{PlanNumbers}
-use Rattle.configure.specs.Numbers.{failed_in, late_in, change_in, items_for, items_in, plan_in}
+use Rattle.configure.specs.Numbers.{failed_in, late_in, items_for, items_in, plan_in}
 use Rattle.configure.specs.Moves.{at_item}
 
 -- ---- a short list by its places
@@ -81,7 +83,7 @@ module _ (n : ℕ) (x : Change) (body : List ℕ) where
   all_own PlanKind.Configure = search either depth 20
 
 -- so the plan at its beginning has the items that it had
-begins : (c : PlanNumbers) (body : List ℕ) (next : ℕ) (item : Item) → Own c.n (change_in c) body c.kind item
+begins : (c : PlanNumbers) (body : List ℕ) (next : ℕ) (item : Item) → Own c.n c.change body c.kind item
     → plan_in (at_item c next item) body ≡ record { failed = failed_in c.kind; items = filled (items_in c body); next = next; at = begun item }
 unfolding plan_in
 begins c body next (Item.Change y) (e, d) = ap (λ l. record { failed = failed_in c.kind; items = filled l; next = next; at = PlanAt.Read y }) e
@@ -140,8 +142,8 @@ module _ (c : PlanNumbers) (body : List ℕ) where
   abbrev items : List Item
   items = items_in c body
 
-  most : length items ≤ 15
-  most = few c.kind c.n (change_in c) body
+  pub most : length items ≤ 15
+  most = few c.kind c.n c.change body
 
   -- the items passed over do nothing
   abbrev pub Passed : ℕ → Type 0
@@ -150,8 +152,8 @@ module _ (c : PlanNumbers) (body : List ℕ) where
   abbrev arrival : Plan
   arrival = arrived_at (failed_in c.kind) (filled items) c.next
 
-  own : (i : ℕ) → Own c.n (change_in c) body c.kind (get_or items i Item.Nothing)
-  own i = at (Own c.n (change_in c) body c.kind) items (refl, refl) (all_own c.n (change_in c) body c.kind) i
+  own : (i : ℕ) → Own c.n c.change body c.kind (get_or items i Item.Nothing)
+  own i = at (Own c.n c.change body c.kind) items (refl, refl) (all_own c.n c.change body c.kind) i
 
   module _ (i : ℕ) (h : Passed i) where
     pub passes : i < length items → is_there (get_or items i Item.Nothing) ≡ false → Passed (i + 1)
@@ -164,13 +166,13 @@ module _ (c : PlanNumbers) (body : List ℕ) where
         ∙ arrive_here (filled items) i (failed_in c.kind) c.next nothing (sym (place items most i true (omega (arith, most)) e) ∙ h) (omega (arith, most, length_filled items most))
 
     -- at the end, where none is left
-    ended : (j : ℕ) → from items i ≡ j → 15 ≤ j → plan_in (at_item c j Item.Nothing) body ≡ arrival
-    ended j e l =
-        begins c body j Item.Nothing (refl, refl)
-        ∙ arrive_end (filled items) j (failed_in c.kind) c.next (sym e ∙ h) (omega (arith, length_filled items most))
-
-    pub ends : length items ≤ i → i < 15 → plan_in (at_item c 15 Item.Nothing) body ≡ arrival
-    ends l m = ended 15 (behind items most (15 - i) i (omega arith) l) (omega arith)
-
-    pub ends_late : 15 ≤ i → plan_in (at_item c i Item.Nothing) body ≡ arrival
-    ends_late l = ended i (place_end (filled items) i (omega (arith, length_filled items most))) l
+    pub ends : length items ≤ i → c.next ≤ i → i ≤ max c.next 15 → plan_in (at_item c (max c.next 15) Item.Nothing) body ≡ arrival
+    ends l m n =
+        begins c body (max c.next 15) Item.Nothing (refl, refl)
+        ∙ arrive_end (filled items) (max c.next 15) (failed_in c.kind) c.next (sym none ∙ h) (omega (arith, length_filled items most))
+      where
+        none : from items i ≡ max c.next 15
+        none = elim (cases_lt i 15) [
+          | inl few ↦ behind items most (15 - i) i (omega arith) l ∙ omega arith
+          | inr late ↦ place_end (filled items) i (omega (arith, length_filled items most)) ∙ omega arith
+        ]

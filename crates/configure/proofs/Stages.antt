@@ -2,12 +2,11 @@
 -- Assumes nothing.
 use Rattle.spi.specs.declared.refusal.Refusal.{Refusal}
 use Prim.Native.Nat.{ℕ, ◌-◌}
-use mathlib.Core.Path.{◌≡◌, refl, sym, ap, ◌∙◌}
-use mathlib.Core.Bool.{true, false}
+use mathlib.Core.Path.{◌≡◌, refl, ap, ◌∙◌}
 use mathlib.Core.List.{List}
 use lib.Dec.{eqb}
 use lib.ListN.{length}
-use Rattle.std.specs.Prelude.{if◌then◌else◌, Result, Ok, Err}
+use Rattle.std.specs.Prelude.{Option, Some, None, Result, Ok, Err}
 use Rattle.laws.proofs.Choice.{by_if}
 use Rattle.spi.specs.declared.ask.Answer.{Answer}
 use Rattle.spi.specs.Reply.{word_reply, done_reply, wait_reply}
@@ -21,67 +20,52 @@ use Rattle.plan.specs.Step.{after_poll, after_echo, stopped, next_at, arrived_at
 use Rattle.configure.specs.declared.planned.PlanStage.{PlanStage}
 use Rattle.configure.specs.declared.planned.PlanNumbers.{PlanNumbers}
 use Rattle.configure.specs.Numbers.{failed_in, poll_in, items_in, place_at, plan_in}
-use Rattle.configure.specs.Moves.{at_place, at_move, is_next}
+use Rattle.configure.specs.Moves.{moved}
 
--- a move after an exchange or a wait, in numbers
-pub done_into : (c : PlanNumbers) (reply : Result (Unit {0}) Refusal) (m : Move) → on_done (λ why. at_place c (PlanAt.Refused why)) reply (at_move c m) ≡ at_move c (on_done stopped reply m)
-done_into c (Ok _) m = refl
-done_into c (Err r) m = refl
+module _ (body : List ℕ) (c : PlanNumbers) where
+  -- the plan that a result stands for: where the item under way is done, at the next one
+  abbrev after : Result (Option PlanNumbers) Refusal → Plan
+  after (Ok (Some p)) = plan_in p body
+  after (Ok None) = arrived_at (failed_in c.kind) (filled (items_in c body)) c.next
+  after (Err why) = plan_in (record c { stage = PlanStage.Refused; why = why }) body
 
-module _ (body : List ℕ) where
-  -- the plan at the next item
-  abbrev onward : PlanNumbers → Plan
-  onward p = arrived_at (failed_in p.kind) (filled (items_in p body)) p.next
+  -- the numbers after a move stand where the plan stands after it
+  abbrev Kept : Move → Type 0
+  Kept m = after (moved c m) ≡ moved_to (plan_in c body) m
 
-  -- the plan of numbers, once the next item is begun where the one under way is done
-  abbrev settled : PlanNumbers → Plan
-  settled p = if is_next p.stage then onward p else plan_in p body
+  on_word_lem : (reply : Result ℕ Refusal) (k : ℕ → Move) → ((w : ℕ) → Kept (k w)) → Kept (on_word stopped reply k)
+  unfolding plan_in
+  on_word_lem (Ok w) k h = h w
+  on_word_lem (Err r) k h = refl
 
-  module _ (c : PlanNumbers) where
-    -- the numbers after a move stand where the plan stands after it
-    abbrev Kept : Move → Type 0
-    Kept m = settled (at_move c m) ≡ moved_to (plan_in c body) m
+  on_done_lem : (reply : Result (Unit {0}) Refusal) (m : Move) → Kept m → Kept (on_done stopped reply m)
+  unfolding plan_in
+  on_done_lem (Ok _) m h = h
+  on_done_lem (Err r) m h = refl
 
-    on_word_lem : (reply : Result ℕ Refusal) (k : ℕ → Move) → ((w : ℕ) → Kept (k w)) → Kept (on_word stopped reply k)
-    unfolding plan_in
-    on_word_lem (Ok w) k h = h w
-    on_word_lem (Err r) k h = refl
+  poll_kept : (p : Poll) (w : ℕ) → ((n : ℕ) → Kept (Move.To (PlanAt.Wait p n))) → Kept (after_poll p c.more w)
+  unfolding plan_in after_poll
+  poll_kept p w h = by_if Kept (shown p w) (λ e. refl) (λ e. by_if Kept (eqb c.more 0) (λ d. refl) (λ d. h (c.more - 1)))
 
-    on_done_lem : (reply : Result (Unit {0}) Refusal) (m : Move) → Kept m → Kept (on_done stopped reply m)
-    unfolding plan_in
-    on_done_lem (Ok _) m h = h
-    on_done_lem (Err r) m h = refl
+  echo_kept : (w : ℕ) → Kept (after_echo c.more w)
+  unfolding plan_in after_echo
+  echo_kept w = by_if Kept (eqb w (echo_word c.more)) (λ e. by_if Kept (eqb c.more 0) (λ d. refl) (λ d. refl)) (λ e. refl)
 
-    poll_kept : (p : Poll) (w : ℕ) → ((n : ℕ) → Kept (Move.To (PlanAt.Wait p n))) → Kept (after_poll p c.more w)
-    unfolding plan_in after_poll
-    poll_kept p w h = by_if Kept (shown p w) (λ e. refl) (λ e. by_if Kept (eqb c.more 0) (λ d. refl) (λ d. h (c.more - 1)))
+  kept : (s : PlanStage) (a : Answer) (rx : List ℕ) → Kept (next_at (failed_in c.kind) (place_at s c) a rx)
+  unfolding plan_in
+  kept PlanStage.Read a rx = on_word_lem (word_reply _ a rx) _ (λ w. refl)
+  kept PlanStage.Write a rx = on_done_lem (done_reply _ a (length rx) 0) _ refl
+  kept PlanStage.ModePoll a rx = on_word_lem (word_reply _ a rx) _ (λ w. poll_kept (poll_in c) w (λ n. refl))
+  kept PlanStage.ModeWait a rx = on_done_lem (wait_reply a (length rx)) _ refl
+  kept PlanStage.PllPoll a rx = on_word_lem (word_reply _ a rx) _ (λ w. poll_kept Poll.Pll w (λ n. refl))
+  kept PlanStage.PllWait a rx = on_done_lem (wait_reply a (length rx)) _ refl
+  kept PlanStage.EchoWrite a rx = on_done_lem (done_reply _ a (length rx) 0) _ refl
+  kept PlanStage.EchoRead a rx = on_word_lem (word_reply _ a rx) _ echo_kept
+  kept PlanStage.Done a rx = refl
+  kept PlanStage.Refused a rx = refl
 
-    echo_kept : (w : ℕ) → Kept (after_echo c.more w)
-    unfolding plan_in after_echo
-    echo_kept w = by_if Kept (eqb w (echo_word c.more)) (λ e. by_if Kept (eqb c.more 0) (λ d. refl) (λ d. refl)) (λ e. refl)
-
-    kept : (s : PlanStage) (a : Answer) (rx : List ℕ) → Kept (next_at (failed_in c.kind) (place_at s c) a rx)
-    unfolding plan_in
-    kept PlanStage.Read a rx = on_word_lem (word_reply _ a rx) _ (λ w. refl)
-    kept PlanStage.Write a rx = on_done_lem (done_reply _ a (length rx) 0) _ refl
-    kept PlanStage.ModePoll a rx = on_word_lem (word_reply _ a rx) _ (λ w. poll_kept (poll_in c) w (λ n. refl))
-    kept PlanStage.ModeWait a rx = on_done_lem (wait_reply a (length rx)) _ refl
-    kept PlanStage.PllPoll a rx = on_word_lem (word_reply _ a rx) _ (λ w. poll_kept Poll.Pll w (λ n. refl))
-    kept PlanStage.PllWait a rx = on_done_lem (wait_reply a (length rx)) _ refl
-    kept PlanStage.EchoWrite a rx = on_done_lem (done_reply _ a (length rx) 0) _ refl
-    kept PlanStage.EchoRead a rx = on_word_lem (word_reply _ a rx) _ echo_kept
-    kept PlanStage.Next a rx = refl
-    kept PlanStage.Done a rx = refl
-    kept PlanStage.Refused a rx = refl
-
-    -- a step, by where the numbers are after the answer
-    module _ (a : Answer) (rx : List ℕ) (p : PlanNumbers) (e : p ≡ at_move c (next_at (failed_in c.kind) (place_at c.stage c) a rx)) where
-      steps : settled p ≡ step_of (plan_in c body) a rx
-      unfolding plan_in step_of
-      steps = ap settled e ∙ kept c.stage a rx
-
-      pub step_next : is_next p.stage ≡ true → onward p ≡ step_of (plan_in c body) a rx
-      step_next h = sym (ap (λ b. if b then onward p else plan_in p body) h) ∙ steps
-
-      pub step_rests : is_next p.stage ≡ false → plan_in p body ≡ step_of (plan_in c body) a rx
-      step_rests h = sym (ap (λ b. if b then onward p else plan_in p body) h) ∙ steps
+  -- a step, by what came of the answer
+  pub steps : (a : Answer) (rx : List ℕ) (r : Result (Option PlanNumbers) Refusal) → r ≡ moved c (next_at (failed_in c.kind) (place_at c.stage c) a rx)
+      → after r ≡ step_of (plan_in c body) a rx
+  unfolding plan_in step_of
+  steps a rx r e = ap after e ∙ kept c.stage a rx

@@ -1,6 +1,6 @@
 -- The numbers of a plan at another place of it.
 -- Assumes nothing.
-use Rattle.std.specs.Prelude.{ℕ, ◌+◌, ◌≡◌, Bool, true, false, List, eqb, length, if◌then◌else◌}
+use Rattle.std.specs.Prelude.{ℕ, ◌+◌, ◌≡◌, List, eqb, length, if◌then◌else◌, Option, Some, None, Result, Ok, Err}
 use Rattle.spi.specs.declared.refusal.Refusal.{Refusal}
 use Rattle.plan.specs.declared.change.Change.{Change}
 use Rattle.plan.specs.declared.item.Poll.{Poll}
@@ -13,14 +13,6 @@ use Rattle.configure.specs.declared.planned.PlanStage.{PlanStage}
 use Rattle.configure.specs.declared.planned.PlanNumbers.{PlanNumbers}
 use Rattle.configure.specs.Numbers.{word, items_in}
 
--- another phase of the item under way
-abbrev pub phase : PlanNumbers → PlanStage → (more w : ℕ) → Refusal → PlanNumbers
-phase c stage more w why = record { kind = c.kind; stage = stage; n = c.n; more = more; next = c.next; m = c.m; w = w; a = c.a; b = c.b; why = why }
-
--- one that leaves the word and the refusal
-abbrev pub turned : PlanNumbers → PlanStage → ℕ → PlanNumbers
-turned c stage more = phase c stage more c.w c.why
-
 -- the stage of a poll, and of the wait before the next one
 abbrev pub polls : Poll → PlanStage
 polls (Poll.Mode m late) = PlanStage.ModePoll
@@ -32,46 +24,38 @@ waits Poll.Pll = PlanStage.PllWait
 
 -- the numbers at a place
 abbrev pub at_place : PlanNumbers → PlanAt → PlanNumbers
-at_place c (PlanAt.Read x) =
-    record { kind = c.kind; stage = PlanStage.Read; n = c.n; more = c.more; next = c.next; m = x.address; w = c.w; a = x.keep; b = x.set; why = c.why }
-at_place c (PlanAt.Write address word) = phase c PlanStage.Write c.more word c.why
-at_place c (PlanAt.Poll p more) = turned c (polls p) more
-at_place c (PlanAt.Wait p more) = turned c (waits p) more
-at_place c (PlanAt.EchoWrite left) = turned c PlanStage.EchoWrite left
-at_place c (PlanAt.EchoRead left) = turned c PlanStage.EchoRead left
-at_place c PlanAt.Done = turned c PlanStage.Done c.more
-at_place c (PlanAt.Refused r) = phase c PlanStage.Refused c.more c.w r
+at_place c (PlanAt.Read x) = record c { stage = PlanStage.Read; change = x }
+at_place c (PlanAt.Write address word) = record c { stage = PlanStage.Write; w = word }
+at_place c (PlanAt.Poll p more) = record c { stage = polls p; more = more }
+at_place c (PlanAt.Wait p more) = record c { stage = waits p; more = more }
+at_place c (PlanAt.EchoWrite left) = record c { stage = PlanStage.EchoWrite; more = left }
+at_place c (PlanAt.EchoRead left) = record c { stage = PlanStage.EchoRead; more = left }
+at_place c PlanAt.Done = record c { stage = PlanStage.Done }
+at_place c (PlanAt.Refused r) = record c { stage = PlanStage.Refused; why = r }
 
--- after an answer
-abbrev pub at_move : PlanNumbers → Move → PlanNumbers
-at_move c (Move.To at) = at_place c at
-at_move c Move.Next = turned c PlanStage.Next c.more
+-- those that the item under way goes on with, none where it is done, or what the plan is refused for
+abbrev pub goes_on : PlanNumbers → PlanAt → Result (Option PlanNumbers) Refusal
+goes_on c (PlanAt.Refused r) = Err r
+goes_on c (PlanAt.Read x) = Ok (Some (at_place c (PlanAt.Read x)))
+goes_on c (PlanAt.Write address word) = Ok (Some (at_place c (PlanAt.Write address word)))
+goes_on c (PlanAt.Poll p more) = Ok (Some (at_place c (PlanAt.Poll p more)))
+goes_on c (PlanAt.Wait p more) = Ok (Some (at_place c (PlanAt.Wait p more)))
+goes_on c (PlanAt.EchoWrite left) = Ok (Some (at_place c (PlanAt.EchoWrite left)))
+goes_on c (PlanAt.EchoRead left) = Ok (Some (at_place c (PlanAt.EchoRead left)))
+goes_on c PlanAt.Done = Ok (Some (at_place c PlanAt.Done))
+
+abbrev pub moved : PlanNumbers → Move → Result (Option PlanNumbers) Refusal
+moved c (Move.To at) = goes_on c at
+moved c Move.Next = Ok None
 
 -- at the beginning of an item, with the place of the one after it
-abbrev pub passed : PlanNumbers → ℕ → PlanNumbers
-passed c next = record { kind = c.kind; stage = c.stage; n = c.n; more = c.more; next = next; m = c.m; w = c.w; a = c.a; b = c.b; why = c.why }
-
 abbrev pub at_item : PlanNumbers → ℕ → Item → PlanNumbers
-at_item c next item = at_place (passed c next) (begun item)
+at_item c next item = at_place (record c { next = next }) (begun item)
 
 -- a plan that begins with a change
 abbrev pub begun_with : PlanKind → ℕ → Change → PlanNumbers
 begun_with kind n x =
-    record { kind = kind; stage = PlanStage.Read; n = n; more = 0; next = 1; m = x.address; w = 0; a = x.keep; b = x.set; why = Refusal.SpiRead }
-
--- the item under way is done
-abbrev pub is_next : PlanStage → Bool
-is_next PlanStage.Read = false
-is_next PlanStage.Write = false
-is_next PlanStage.ModePoll = false
-is_next PlanStage.ModeWait = false
-is_next PlanStage.PllPoll = false
-is_next PlanStage.PllWait = false
-is_next PlanStage.EchoWrite = false
-is_next PlanStage.EchoRead = false
-is_next PlanStage.Next = true
-is_next PlanStage.Done = false
-is_next PlanStage.Refused = false
+    record { kind = kind; stage = PlanStage.Read; n = n; more = 0; next = 1; change = x; w = 0; why = Refusal.SpiRead }
 
 -- how many items a plan has, whatever lies in the body
 abbrev pub Counts : PlanNumbers → ℕ → Type 0

@@ -45,10 +45,7 @@ late_in PlanKind.Filter = Refusal.ChangeOpModeTimeout
 late_in PlanKind.Queue = Refusal.ChangeOpModeTimeout
 late_in PlanKind.Configure = Refusal.ConfigurationModeTimeout
 
--- the change under way, and the poll of a mode
-abbrev pub change_in : PlanNumbers → Change
-change_in c = record { address = c.m; keep = c.a; set = c.b }
-
+-- the poll of a mode
 abbrev pub poll_in : PlanNumbers → Poll
 poll_in c = Poll.Mode c.n (late_in c.kind)
 
@@ -97,21 +94,20 @@ items_for PlanKind.Configure n x body =
     ∷ []
 
 abbrev pub items_in : PlanNumbers → List ℕ → List Item
-items_in c body = items_for c.kind c.n (change_in c) body
+items_in c body = items_for c.kind c.n c.change body
 
 -- ---- the plan
 
--- where it stands. No call rests at `Next`
+-- where it stands
 abbrev pub place_at : PlanStage → PlanNumbers → PlanAt
-place_at PlanStage.Read c = PlanAt.Read (change_in c)
-place_at PlanStage.Write c = PlanAt.Write c.m c.w
+place_at PlanStage.Read c = PlanAt.Read c.change
+place_at PlanStage.Write c = PlanAt.Write c.change.address c.w
 place_at PlanStage.ModePoll c = PlanAt.Poll (poll_in c) c.more
 place_at PlanStage.ModeWait c = PlanAt.Wait (poll_in c) c.more
 place_at PlanStage.PllPoll c = PlanAt.Poll Poll.Pll c.more
 place_at PlanStage.PllWait c = PlanAt.Wait Poll.Pll c.more
 place_at PlanStage.EchoWrite c = PlanAt.EchoWrite c.more
 place_at PlanStage.EchoRead c = PlanAt.EchoRead c.more
-place_at PlanStage.Next c = PlanAt.Refused c.why
 place_at PlanStage.Done c = PlanAt.Done
 place_at PlanStage.Refused c = PlanAt.Refused c.why
 

@@ -18,42 +18,43 @@ use fifo::is_fifo;
 use plan::Change;
 use spi::Refusal;
 
+// Of a plan that has none under way.
+const NO_CHANGE: Change = Change {
+    address: 0,
+    keep: 0,
+    set: 0,
+};
+
 // A plan that was refused before it asked for anything.
+#[tactic(auto, unfolding(crate::specs::Numbers::plan_in, crate::specs::Numbers::items_for, plan::specs::Step::arrived_at))]
 pub fn refused_plan(why: Refusal) -> PlanNumbers
     ensures { Stands result (refused_plan why) }
 {
     PlanNumbers {
-        kind: PlanKind::Nothing,
         stage: PlanStage::Refused,
-        n: 0,
-        more: 0,
         next: 0,
-        m: 0,
-        w: 0,
-        a: 0,
-        b: 0,
-        why: why,
+        why,
+        ..plan_with(PlanKind::Nothing, 0, NO_CHANGE)
     }
 }
 
 // A plan whose first item is a change.
-pub fn plan_with(kind: PlanKind, n: u8, x: Change) -> PlanNumbers
-    ensures { result ≡ begun_with kind n x }
+pub fn plan_with(kind: PlanKind, n: u8, change: Change) -> PlanNumbers
+    ensures { result ≡ begun_with kind n change }
 {
     PlanNumbers {
-        kind: kind,
+        kind,
         stage: PlanStage::Read,
-        n: n,
+        n,
         more: 0,
         next: 1,
-        m: x.address,
+        change,
         w: 0,
-        a: x.keep,
-        b: x.set,
         why: Refusal::SpiRead,
     }
 }
 
+#[tactic(auto, unfolding(crate::specs::Numbers::plan_in, crate::specs::Numbers::items_for, plan::specs::Step::arrived_at, plan::specs::Prepared::modify))]
 pub fn modify(address: u32, clear: u32, set: u32) -> PlanNumbers
     ensures { Stands result (plan_for (plans.modify address clear set)) }
 {
@@ -64,20 +65,14 @@ pub fn modify(address: u32, clear: u32, set: u32) -> PlanNumbers
     }
 }
 
+#[tactic(auto, unfolding(crate::specs::Numbers::plan_in, crate::specs::Numbers::items_for, plan::specs::Step::arrived_at))]
 pub fn verify() -> PlanNumbers
     ensures { Stands result (plan_for plans.verify) }
 {
     PlanNumbers {
-        kind: PlanKind::Verify,
         stage: PlanStage::EchoWrite,
-        n: 0,
         more: 31,
-        next: 1,
-        m: 0,
-        w: 0,
-        a: 0,
-        b: 0,
-        why: Refusal::SpiRead,
+        ..plan_with(PlanKind::Verify, 0, NO_CHANGE)
     }
 }
 
@@ -93,6 +88,7 @@ pub fn set_op_mode(m: u32) -> PlanNumbers
     }
 }
 
+#[tactic(auto, using(crate::proofs::Begins::made, crate::proofs::Begins::pll_asked), unfolding(crate::specs::Numbers::plan_in, crate::specs::Numbers::items_for, plan::specs::Step::arrived_at))]
 pub fn configure_osc(o: OscillatorConfiguration) -> PlanNumbers
     ensures { Stands result (plan_for (configure_osc o)) }
 {
@@ -100,6 +96,7 @@ pub fn configure_osc(o: OscillatorConfiguration) -> PlanNumbers
     plan_with(PlanKind::Oscillator, 0, x)
 }
 
+#[tactic(auto, using(crate::proofs::Begins::made), unfolding(crate::specs::Numbers::plan_in, crate::specs::Numbers::items_for, plan::specs::Step::arrived_at))]
 pub fn configure_io(c: IoConfiguration) -> PlanNumbers
     ensures { Stands result (plan_for (configure_io c)) }
 {
@@ -110,19 +107,18 @@ fn timing_plan(b: BitTimeConfiguration, body: &mut [u8; 76]) -> PlanNumbers
     requires { timing_fits b ≡ true }
     ensures { plan_in result body.new ≡ plan_of failed (timing_items b) }
 {
-    let n = b.nominal;
-    let d = b.data;
-    let first = changes::nominal_bits(n);
+    let first = changes::nominal_bits(b.nominal);
     put_words(
         body,
         0,
         first,
-        changes::data_bits(d),
-        changes::delay_bits(d),
+        changes::data_bits(b.data),
+        changes::delay_bits(b.data),
     );
     plan_with(PlanKind::Timing, 0, changes::nominal_change(first))
 }
 
+#[tactic(auto, unfolding(adjust::specs::Calls::configure_bit_timing))]
 pub fn configure_bit_timing(b: BitTimeConfiguration, body: &mut [u8; 76]) -> PlanNumbers
     ensures { plan_in result body.new ≡ plan_for (configure_bit_timing b) }
 {
@@ -133,18 +129,17 @@ pub fn configure_bit_timing(b: BitTimeConfiguration, body: &mut [u8; 76]) -> Pla
     }
 }
 
+#[tactic(auto, using(crate::proofs::Begins::fifo_number_lem), unfolding(crate::specs::Numbers::plan_in, crate::specs::Numbers::items_for, plan::specs::Step::arrived_at, adjust::specs::Calls::configure_fifo))]
 pub fn configure_fifo(n: u32, c: FifoConfiguration) -> PlanNumbers
     ensures { Stands result (plan_for (configure_fifo n c)) }
 {
-    if is_fifo(n) {
-        if areas::fifo_fits(c) {
-            plan_with(PlanKind::One, 0, areas::fifo_change(n as u8, c))
-        } else {
-            refused_plan(Refusal::BadSetting)
-        }
-    } else {
-        refused_plan(Refusal::BadNumber)
+    if !is_fifo(n) {
+        return refused_plan(Refusal::BadNumber);
     }
+    if !areas::fifo_fits(c) {
+        return refused_plan(Refusal::BadSetting);
+    }
+    plan_with(PlanKind::One, 0, areas::fifo_change(n as u8, c))
 }
 
 fn queue_plan(c: TxQueueConfiguration, body: &mut [u8; 76]) -> PlanNumbers
@@ -155,21 +150,21 @@ fn queue_plan(c: TxQueueConfiguration, body: &mut [u8; 76]) -> PlanNumbers
     plan_with(PlanKind::Queue, 0, areas::enable_change(true))
 }
 
+#[tactic(auto, unfolding(crate::specs::Numbers::plan_in, crate::specs::Numbers::items_for, plan::specs::Step::arrived_at, adjust::specs::Calls::configure_tx_queue))]
 pub fn configure_tx_queue(q: Option<TxQueueConfiguration>, body: &mut [u8; 76]) -> PlanNumbers
     ensures { plan_in result body.new ≡ plan_for (configure_tx_queue q) }
 {
-    match q {
-        None => plan_with(PlanKind::Io, 0, areas::enable_change(false)),
-        Some(c) => {
-            if areas::queue_fits(c) {
-                queue_plan(c, body)
-            } else {
-                refused_plan(Refusal::BadSetting)
-            }
-        }
+    let Some(c) = q else {
+        return plan_with(PlanKind::Io, 0, areas::enable_change(false));
+    };
+    if areas::queue_fits(c) {
+        queue_plan(c, body)
+    } else {
+        refused_plan(Refusal::BadSetting)
     }
 }
 
+#[tactic(auto, unfolding(crate::specs::Numbers::plan_in, crate::specs::Numbers::items_for, plan::specs::Step::arrived_at, adjust::specs::Calls::disable_filter))]
 pub fn disable_filter(f: u32) -> PlanNumbers
     ensures { Stands result (plan_for (disable_filter f)) }
 {
@@ -185,19 +180,17 @@ fn filter_plan(f: u32, c: FilterConfiguration, body: &mut [u8; 76]) -> PlanNumbe
     ensures { plan_in result body.new ≡ plan_of Refusal.SpiRead (filter_items f c) }
 {
     let n = f as u8;
-    let object = c.object;
-    let mask = c.mask;
-    let mode = c.mode;
     put_words(
         body,
         0,
-        areas::object_bits(object, mode),
-        areas::mask_bits(mask, mode),
+        areas::object_bits(c.object, c.mode),
+        areas::mask_bits(c.mask, c.mode),
         areas::on_bits(n, c.fifo),
     );
     plan_with(PlanKind::Filter, n, areas::off_change(n))
 }
 
+#[tactic(auto, unfolding(adjust::specs::Calls::configure_filter))]
 pub fn configure_filter(f: u32, c: FilterConfiguration, body: &mut [u8; 76]) -> PlanNumbers
     ensures { plan_in result body.new ≡ plan_for (configure_filter f c) }
 {

@@ -9,16 +9,17 @@ ghost use Rattle.plan.specs.declared.item.Item.{Item};
 ghost use Rattle.changes.specs.Changes.{when_asked, counter_change, dncnt_to};
 ghost use Rattle.areas.specs.Areas.{enable_change, queue_to};
 ghost use Rattle.configure.specs.declared.planned.PlanKind.{PlanKind};
-ghost use Rattle.configure.specs.Numbers.{word, pll_for, items_for, items_in, change_in};
+ghost use Rattle.configure.specs.Numbers.{word, pll_for, items_for, items_in};
 ghost use Rattle.configure.specs.Moves.{Counts, Stored, StoredAll};
 
 use crate::{PlanKind, PlanNumbers};
 use chip::OscillatorControl;
 use interrupt::{Cause, Interrupt};
-use plan::{Change, Item, Poll};
+use plan::{Item, Poll};
 use spi::Refusal;
 
 // A word of the body.
+#[tactic(auto, unfolding(crate::specs::Numbers::word))]
 fn word(body: &[u8; 76], k: usize) -> u32
     requires { k < 19 }
     ensures { result ≡ word k body.now }
@@ -49,28 +50,13 @@ pub fn put_words(body: &mut [u8; 76], k: usize, u: u32, v: u32, w: u32)
 pub fn count_of(c: PlanNumbers) -> u8
     ensures { Counts c result }
 {
-    let kind = c.kind;
-    match kind {
+    match c.kind {
         PlanKind::Nothing => 0,
-        PlanKind::One => 1,
-        PlanKind::Io => 1,
-        PlanKind::Verify => 1,
-        PlanKind::Mode => 2,
-        PlanKind::Oscillator => 2,
+        PlanKind::One | PlanKind::Io | PlanKind::Verify => 1,
+        PlanKind::Mode | PlanKind::Oscillator | PlanKind::Queue => 2,
         PlanKind::Timing => 3,
         PlanKind::Filter => 4,
-        PlanKind::Queue => 2,
         PlanKind::Configure => 15,
-    }
-}
-
-pub fn change_of(c: PlanNumbers) -> Change
-    ensures { result ≡ change_in c }
-{
-    Change {
-        address: c.m,
-        keep: c.a,
-        set: c.b,
     }
 }
 
@@ -85,29 +71,29 @@ fn pll_poll(bits: u32) -> Item
 }
 
 fn mode_item(c: PlanNumbers, i: u8) -> Item
-    ensures { result ≡ (if eqb i 0 then Item.Change (change_in c) else Item.Poll (Poll.Mode c.n Refusal.ChangeOpModeTimeout) 4) }
+    ensures { result ≡ (if eqb i 0 then Item.Change c.change else Item.Poll (Poll.Mode c.n Refusal.ChangeOpModeTimeout) 4) }
 {
     if i == 0 {
-        Item::Change(change_of(c))
+        Item::Change(c.change)
     } else {
         Item::Poll(Poll::Mode(c.n as u32, Refusal::ChangeOpModeTimeout), 4)
     }
 }
 
 fn oscillator_item(c: PlanNumbers, i: u8) -> Item
-    ensures { result ≡ (if eqb i 0 then Item.Change (change_in c) else pll_for c.b) }
+    ensures { result ≡ (if eqb i 0 then Item.Change c.change else pll_for c.change.set) }
 {
     if i == 0 {
-        Item::Change(change_of(c))
+        Item::Change(c.change)
     } else {
-        pll_poll(c.b)
+        pll_poll(c.change.set)
     }
 }
 
 #[tactic(auto, unfolding(crate::specs::Numbers::items_for))]
 fn timing_item(c: PlanNumbers, i: u8, body: &[u8; 76]) -> Item
     requires { i < 3 }
-    ensures { result ≡ get_or (items_for PlanKind.Timing c.n (change_in c) body.now) i Item.Nothing }
+    ensures { result ≡ get_or (items_for PlanKind.Timing c.n c.change body.now) i Item.Nothing }
 {
     match i {
         0 => Item::Change(changes::nominal_change(word(body, 0))),
@@ -119,7 +105,7 @@ fn timing_item(c: PlanNumbers, i: u8, body: &[u8; 76]) -> Item
 #[tactic(auto, unfolding(crate::specs::Numbers::items_for))]
 fn filter_item(c: PlanNumbers, i: u8, body: &[u8; 76]) -> Item
     requires { i < 4 }
-    ensures { result ≡ get_or (items_for PlanKind.Filter c.n (change_in c) body.now) i Item.Nothing }
+    ensures { result ≡ get_or (items_for PlanKind.Filter c.n c.change body.now) i Item.Nothing }
 {
     match i {
         0 => Item::Change(areas::off_change(c.n)),
@@ -164,7 +150,7 @@ fn dncnt_item(bits: u32) -> Item
 #[tactic(auto, unfolding(crate::specs::Numbers::items_for))]
 fn last_item(c: PlanNumbers, i: u8, body: &[u8; 76]) -> Item
     requires { (11 ≤ i) × (i < 15) }
-    ensures { result ≡ get_or (items_for PlanKind.Configure c.n (change_in c) body.now) i Item.Nothing }
+    ensures { result ≡ get_or (items_for PlanKind.Configure c.n c.change body.now) i Item.Nothing }
 {
     match i {
         11 => counter_item(word(body, 6)),
@@ -178,7 +164,7 @@ fn last_item(c: PlanNumbers, i: u8, body: &[u8; 76]) -> Item
 #[tactic(auto, unfolding(crate::specs::Numbers::items_for))]
 fn later_item(c: PlanNumbers, i: u8, body: &[u8; 76]) -> Item
     requires { (6 ≤ i) × (i < 15) }
-    ensures { result ≡ get_or (items_for PlanKind.Configure c.n (change_in c) body.now) i Item.Nothing }
+    ensures { result ≡ get_or (items_for PlanKind.Configure c.n c.change body.now) i Item.Nothing }
 {
     match i {
         6 => Item::Change(changes::nominal_change(word(body, 2))),
@@ -194,7 +180,7 @@ fn later_item(c: PlanNumbers, i: u8, body: &[u8; 76]) -> Item
 #[tactic(auto, unfolding(crate::specs::Numbers::items_for, field::specs::Field::with_field))]
 fn configure_item(c: PlanNumbers, i: u8, body: &[u8; 76]) -> Item
     requires { i < 15 }
-    ensures { result ≡ get_or (items_for PlanKind.Configure c.n (change_in c) body.now) i Item.Nothing }
+    ensures { result ≡ get_or (items_for PlanKind.Configure c.n c.change body.now) i Item.Nothing }
 {
     match i {
         0 => Item::Change(changes::mode_change(changes::mode_bits(4))),
@@ -213,11 +199,9 @@ pub fn item_of(c: PlanNumbers, i: u8, body: &[u8; 76]) -> Item
     requires { i < length (items_in c body.now) }
     ensures { result ≡ get_or (items_in c body.now) i Item.Nothing }
 {
-    let kind = c.kind;
-    match kind {
+    match c.kind {
         PlanKind::Nothing => Item::Nothing,
-        PlanKind::One => Item::Change(change_of(c)),
-        PlanKind::Io => Item::Change(change_of(c)),
+        PlanKind::One | PlanKind::Io => Item::Change(c.change),
         PlanKind::Verify => Item::Echo,
         PlanKind::Mode => mode_item(c, i),
         PlanKind::Oscillator => oscillator_item(c, i),

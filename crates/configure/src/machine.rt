@@ -1,15 +1,11 @@
 // The machine that carries out a plan.
 ghost use Rattle.std.specs.Prelude.{◌≡◌, []};
-ghost use Rattle.spi.specs.Talk.{on_word, on_done};
-ghost use Rattle.plan.specs.PlanAt.{PlanAt};
-ghost use Rattle.plan.specs.Move.{Move};
-ghost use Rattle.plan.specs.Change.{modified};
-ghost use Rattle.plan.specs.Step.{stopped, after_poll, after_echo, next_at, arrived_at, filled, step_of, ask_of, outcome_of};
-ghost use Rattle.configure.specs.Numbers.{failed_in, change_in, items_in, place_in, plan_in};
-ghost use Rattle.configure.specs.Moves.{turned, at_place, at_move};
+ghost use Rattle.plan.specs.Step.{after_poll, after_echo, next_at, arrived_at, filled, step_of, ask_of, outcome_of};
+ghost use Rattle.configure.specs.Numbers.{failed_in, items_in, place_in, plan_in};
+ghost use Rattle.configure.specs.Moves.{moved};
 
-use crate::listed::{change_of, count_of, item_of};
-use crate::moves::{begin, is_next, phase, refuse, turned, waits};
+use crate::listed::{count_of, item_of};
+use crate::moves::{begin, waits};
 use crate::planned::{failed_in, mode_poll};
 use crate::{PlanNumbers, PlanStage};
 use call::Outcome;
@@ -25,185 +21,130 @@ const ECHO: u16 = 0x400;
 // How many items a plan has room for.
 const ITEMS: u8 = 15;
 
+fn read_word(address: u16) -> Ask
+    ensures { result ≡ Ask.Read address 4 }
+{
+    Ask::Read { address, count: 4 }
+}
+
 #[tactic(auto, unfolding(crate::specs::Numbers::plan_in))]
 pub fn plan_ask(c: PlanNumbers) -> Ask
     ensures { result ≡ ask_of (plan_in c []) }
 {
-    let stage = c.stage;
-    match stage {
-        PlanStage::Read => Ask::Read {
-            address: c.m,
-            count: 4,
-        },
+    match c.stage {
+        PlanStage::Read => read_word(c.change.address),
         PlanStage::Write => Ask::Word {
-            address: c.m,
+            address: c.change.address,
             word: c.w,
         },
-        PlanStage::ModePoll => Ask::Read {
-            address: CanControl::address(),
-            count: 4,
-        },
+        PlanStage::ModePoll => read_word(CanControl::address()),
         PlanStage::ModeWait => Ask::Wait,
-        PlanStage::PllPoll => Ask::Read {
-            address: OscillatorControl::address(),
-            count: 4,
-        },
+        PlanStage::PllPoll => read_word(OscillatorControl::address()),
         PlanStage::PllWait => Ask::Wait,
         PlanStage::EchoWrite => Ask::Word {
             address: ECHO,
             word: echo_word(c.more),
         },
-        PlanStage::EchoRead => Ask::Read {
-            address: ECHO,
-            count: 4,
-        },
-        PlanStage::Next => Ask::Nothing,
-        PlanStage::Done => Ask::Nothing,
-        PlanStage::Refused => Ask::Nothing,
+        PlanStage::EchoRead => read_word(ECHO),
+        PlanStage::Done | PlanStage::Refused => Ask::Nothing,
     }
 }
 
-fn after_poll(c: PlanNumbers, p: Poll, w: u32) -> PlanNumbers
-    ensures { result ≡ at_move c (after_poll p c.more w) }
+// A poll that shows w: none where it is what was waited for.
+#[tactic(auto, unfolding(plan::specs::Step::after_poll))]
+fn after_poll(c: PlanNumbers, p: Poll, w: u32) -> Result<Option<PlanNumbers>, Refusal>
+    ensures { result ≡ moved c (after_poll p c.more w) }
 {
     if is_shown(p, w) {
-        return turned(c, PlanStage::Next, c.more);
+        return Ok(None);
     }
     if c.more == 0 {
-        refuse(c, late(p))
-    } else {
-        turned(c, waits(p), c.more - 1)
+        return Err(late(p));
     }
+    Ok(Some(PlanNumbers {
+        stage: waits(p),
+        more: c.more - 1,
+        ..c
+    }))
 }
 
-fn after_echo(c: PlanNumbers, w: u32) -> PlanNumbers
-    ensures { result ≡ at_move c (after_echo c.more w) }
+#[tactic(auto, unfolding(plan::specs::Step::after_echo))]
+fn after_echo(c: PlanNumbers, w: u32) -> Result<Option<PlanNumbers>, Refusal>
+    ensures { result ≡ moved c (after_echo c.more w) }
 {
-    if w == echo_word(c.more) {
-        if c.more == 0 {
-            turned(c, PlanStage::Next, c.more)
-        } else {
-            turned(c, PlanStage::EchoWrite, c.more - 1)
+    if w != echo_word(c.more) {
+        return Err(Refusal::SpiFailedRamEcho);
+    }
+    if c.more == 0 {
+        return Ok(None);
+    }
+    Ok(Some(PlanNumbers {
+        stage: PlanStage::EchoWrite,
+        more: c.more - 1,
+        ..c
+    }))
+}
+
+// The item under way after an answer: another phase of it, none where it is done, or what the plan is refused for.
+fn advanced(c: PlanNumbers, answer: Answer, rx: &[u8]) -> Result<Option<PlanNumbers>, Refusal>
+    ensures { result ≡ moved c (next_at (failed_in c.kind) (place_in c) answer rx.now) }
+{
+    let failed = failed_in(c.kind);
+    let word = word_reply(failed, answer, rx);
+    let written = done_reply(failed, answer, rx.len(), 0);
+    let waited = wait_reply(answer, rx.len());
+    let mut next = c;
+    next.stage = match c.stage {
+        PlanStage::Read => {
+            next.w = modified_word(c.change, word?);
+            PlanStage::Write
         }
-    } else {
-        refuse(c, Refusal::SpiFailedRamEcho)
-    }
-}
-
-fn when_read(c: PlanNumbers, reply: Result<u32, Refusal>) -> PlanNumbers
-    ensures { result ≡ at_move c (on_word stopped reply (λ w. Move.To (PlanAt.Write c.m (modified (change_in c) w)))) }
-{
-    let why = c.why;
-    match reply {
-        Ok(w) => phase(
-            c,
-            PlanStage::Write,
-            c.more,
-            modified_word(change_of(c), w),
-            why,
-        ),
-        Err(r) => refuse(c, r),
-    }
-}
-
-fn when_polled(c: PlanNumbers, p: Poll, reply: Result<u32, Refusal>) -> PlanNumbers
-    ensures { result ≡ at_move c (on_word stopped reply (after_poll p c.more)) }
-{
-    match reply {
-        Ok(w) => after_poll(c, p, w),
-        Err(r) => refuse(c, r),
-    }
-}
-
-fn when_echoed(c: PlanNumbers, reply: Result<u32, Refusal>) -> PlanNumbers
-    ensures { result ≡ at_move c (on_word stopped reply (after_echo c.more)) }
-{
-    match reply {
-        Ok(w) => after_echo(c, w),
-        Err(r) => refuse(c, r),
-    }
-}
-
-fn when_done(c: PlanNumbers, reply: Result<(), Refusal>, then: PlanStage) -> PlanNumbers
-    ensures { result ≡ on_done (λ why. at_place c (PlanAt.Refused why)) reply (turned c then c.more) }
-{
-    match reply {
-        Ok(()) => turned(c, then, c.more),
-        Err(r) => refuse(c, r),
-    }
-}
-
-#[tactic(auto, using(crate::proofs::Stages::done_into))]
-fn next_phase(c: PlanNumbers, answer: Answer, rx: &[u8]) -> PlanNumbers
-    ensures { result ≡ at_move c (next_at (failed_in c.kind) (place_in c) answer rx.now) }
-{
-    let kind = c.kind;
-    let stage = c.stage;
-    let failed = failed_in(kind);
-    match stage {
-        PlanStage::Read => when_read(c, word_reply(failed, answer, rx)),
-        PlanStage::Write => when_done(c, done_reply(failed, answer, rx.len(), 0), PlanStage::Next),
-        PlanStage::ModePoll => when_polled(c, mode_poll(c), word_reply(failed, answer, rx)),
-        PlanStage::ModeWait => when_done(c, wait_reply(answer, rx.len()), PlanStage::ModePoll),
-        PlanStage::PllPoll => when_polled(c, Poll::Pll, word_reply(failed, answer, rx)),
-        PlanStage::PllWait => when_done(c, wait_reply(answer, rx.len()), PlanStage::PllPoll),
-        PlanStage::EchoWrite => when_done(
-            c,
-            done_reply(failed, answer, rx.len(), 0),
-            PlanStage::EchoRead,
-        ),
-        PlanStage::EchoRead => when_echoed(c, word_reply(failed, answer, rx)),
-        PlanStage::Next => refuse(c, Refusal::WrongAnswer),
-        PlanStage::Done => refuse(c, Refusal::WrongAnswer),
-        PlanStage::Refused => refuse(c, Refusal::WrongAnswer),
-    }
+        PlanStage::Write => return written.map(|_| None),
+        PlanStage::ModePoll => return after_poll(c, mode_poll(c), word?),
+        PlanStage::ModeWait => waited.map(|_| PlanStage::ModePoll)?,
+        PlanStage::PllPoll => return after_poll(c, Poll::Pll, word?),
+        PlanStage::PllWait => waited.map(|_| PlanStage::PllPoll)?,
+        PlanStage::EchoWrite => written.map(|_| PlanStage::EchoRead)?,
+        PlanStage::EchoRead => return after_echo(c, word?),
+        PlanStage::Done | PlanStage::Refused => return Err(Refusal::WrongAnswer),
+    };
+    Ok(Some(next))
 }
 
 // The plan at the first item from `next` on that does anything, or at its end.
 fn arrive(c: PlanNumbers, body: &[u8; 76]) -> PlanNumbers
     ensures { plan_in result body.now ≡ arrived_at (failed_in c.kind) (filled (items_in c body.now)) c.next }
 {
-    let count = count_of(c);
-    let mut i = c.next;
-    while i < count {
+    for i in c.next..count_of(c) {
         let item = item_of(c, i, body);
         if is_there(item) {
             return begin(c, i + 1, item);
         }
-        i += 1;
     }
-    if i < ITEMS {
-        begin(c, ITEMS, Item::Nothing)
-    } else {
-        begin(c, i, Item::Nothing)
-    }
+    begin(c, c.next.max(ITEMS), Item::Nothing)
 }
 
 pub fn plan_step(c: PlanNumbers, answer: Answer, rx: &[u8], body: &[u8; 76]) -> PlanNumbers
     ensures { plan_in result body.now ≡ step_of (plan_in c body.now) answer rx.now }
 {
-    let p = next_phase(c, answer, rx);
-    let stage = p.stage;
-    if is_next(stage) { arrive(p, body) } else { p }
+    match advanced(c, answer, rx) {
+        Ok(Some(next)) => next,
+        Ok(None) => arrive(c, body),
+        Err(why) => PlanNumbers {
+            stage: PlanStage::Refused,
+            why,
+            ..c
+        },
+    }
 }
 
 #[tactic(auto, unfolding(crate::specs::Numbers::plan_in))]
 pub fn plan_outcome(c: PlanNumbers) -> Outcome
     ensures { result ≡ outcome_of (plan_in c []) }
 {
-    let stage = c.stage;
-    let why = c.why;
-    match stage {
-        PlanStage::Read => Outcome::Running,
-        PlanStage::Write => Outcome::Running,
-        PlanStage::ModePoll => Outcome::Running,
-        PlanStage::ModeWait => Outcome::Running,
-        PlanStage::PllPoll => Outcome::Running,
-        PlanStage::PllWait => Outcome::Running,
-        PlanStage::EchoWrite => Outcome::Running,
-        PlanStage::EchoRead => Outcome::Running,
-        PlanStage::Next => Outcome::Refused(why),
+    match c.stage {
         PlanStage::Done => Outcome::Done,
-        PlanStage::Refused => Outcome::Refused(why),
+        PlanStage::Refused => Outcome::Refused(c.why),
+        _ => Outcome::Running,
     }
 }

@@ -3,7 +3,7 @@
 ghost use Rattle.std.specs.Prelude.{◌≡◌};
 ghost use Rattle.configure.specs.Numbers.{failed_in, late_in, poll_in};
 
-use plan::Poll;
+use plan::{Change, Poll};
 use spi::Refusal;
 
 // What a plan does. `One` and `Io` are one change; they differ in what a failed exchange means.
@@ -34,14 +34,12 @@ pub enum PlanStage {
     // An echo: the word is written; it is read back.
     EchoWrite,
     EchoRead,
-    // The item is done: the next one.
-    Next,
     Done,
     Refused,
 }
 
 // `n`: the mode waited for, or the filter's number; `more`: polls, or bits of an echo, that are left; `next`: the place of the
-// item after the one under way; `m`, `a`, `b`: address, kept bits and set bits of the change under way; `w`: the word to write.
+// item after the one under way; `change`: the one under way; `w`: the word to write.
 #[derive(Clone, Copy)]
 pub struct PlanNumbers {
     pub kind: PlanKind,
@@ -49,10 +47,8 @@ pub struct PlanNumbers {
     pub n: u8,
     pub more: u8,
     pub next: u8,
-    pub m: u16,
+    pub change: Change,
     pub w: u32,
-    pub a: u32,
-    pub b: u32,
     pub why: Refusal,
 }
 
@@ -60,16 +56,8 @@ pub fn failed_in(kind: PlanKind) -> Refusal
     ensures { result ≡ failed_in kind }
 {
     match kind {
-        PlanKind::Nothing => Refusal::SpiRead,
-        PlanKind::One => Refusal::SpiRead,
-        PlanKind::Io => Refusal::ConfigurationModeTimeout,
-        PlanKind::Verify => Refusal::ConfigurationModeTimeout,
-        PlanKind::Mode => Refusal::ConfigurationModeTimeout,
-        PlanKind::Oscillator => Refusal::ConfigurationModeTimeout,
-        PlanKind::Timing => Refusal::ConfigurationModeTimeout,
-        PlanKind::Filter => Refusal::SpiRead,
-        PlanKind::Queue => Refusal::ConfigurationModeTimeout,
-        PlanKind::Configure => Refusal::ConfigurationModeTimeout,
+        PlanKind::Nothing | PlanKind::One | PlanKind::Filter => Refusal::SpiRead,
+        _ => Refusal::ConfigurationModeTimeout,
     }
 }
 
@@ -78,16 +66,8 @@ pub fn late_in(kind: PlanKind) -> Refusal
     ensures { result ≡ late_in kind }
 {
     match kind {
-        PlanKind::Nothing => Refusal::ChangeOpModeTimeout,
-        PlanKind::One => Refusal::ChangeOpModeTimeout,
-        PlanKind::Io => Refusal::ChangeOpModeTimeout,
-        PlanKind::Verify => Refusal::ChangeOpModeTimeout,
-        PlanKind::Mode => Refusal::ChangeOpModeTimeout,
-        PlanKind::Oscillator => Refusal::ChangeOpModeTimeout,
-        PlanKind::Timing => Refusal::ChangeOpModeTimeout,
-        PlanKind::Filter => Refusal::ChangeOpModeTimeout,
-        PlanKind::Queue => Refusal::ChangeOpModeTimeout,
         PlanKind::Configure => Refusal::ConfigurationModeTimeout,
+        _ => Refusal::ChangeOpModeTimeout,
     }
 }
 
@@ -95,6 +75,5 @@ pub fn late_in(kind: PlanKind) -> Refusal
 pub fn mode_poll(c: PlanNumbers) -> Poll
     ensures { result ≡ poll_in c }
 {
-    let kind = c.kind;
-    Poll::Mode(c.n as u32, late_in(kind))
+    Poll::Mode(c.n as u32, late_in(c.kind))
 }

@@ -8,6 +8,7 @@ use crate::{PlanKind, PlanNumbers};
 use fifo::is_fifo;
 use spi::Refusal;
 
+#[tactic(auto, using(crate::proofs::Begins::fifo_number_lem), unfolding(crate::specs::Numbers::plan_in, crate::specs::Numbers::items_for, plan::specs::Step::arrived_at, transmit::specs::Transmit::request_start))]
 pub fn request(fifo: u32) -> PlanNumbers
     ensures { Stands result (request_start fifo) }
 {
@@ -19,6 +20,7 @@ pub fn request(fifo: u32) -> PlanNumbers
 }
 
 // Of the queue, FIFO 0: nothing is tested.
+#[tactic(auto, unfolding(crate::specs::Numbers::plan_in, crate::specs::Numbers::items_for, plan::specs::Step::arrived_at, transmit::specs::Transmit::queue_request_start))]
 pub fn queue_request() -> PlanNumbers
     ensures { Stands result queue_request_start }
 {

@@ -23,12 +23,9 @@ fn item_turns(item: Item) -> u32
 fn turns_behind(c: PlanNumbers, body: &[u8; 76]) -> u32
     ensures { (result ≡ all_asks (drop c.next (filled (items_in c body.now)))) × (result < 0x20000) }
 {
-    let count = count_of(c);
     let mut sum = 0;
-    let mut i = c.next;
-    while i < count {
+    for i in c.next..count_of(c) {
         sum += item_turns(item_of(c, i, body));
-        i += 1;
     }
     sum
 }
@@ -38,23 +35,17 @@ fn place_turns(c: PlanNumbers, behind: u32) -> u32
     requires { behind < 0x20000 }
     ensures { result ≡ item_left (place_in c) behind }
 {
-    let stage = c.stage;
     let more = 2 * (c.more as u32) + behind;
-    match stage {
+    match c.stage {
         PlanStage::Read => 2 + behind,
         PlanStage::Write => 1 + behind,
-        PlanStage::ModePoll => 1 + more,
-        PlanStage::ModeWait => 2 + more,
-        PlanStage::PllPoll => 1 + more,
-        PlanStage::PllWait => 2 + more,
-        PlanStage::EchoWrite => 2 + more,
-        PlanStage::EchoRead => 1 + more,
-        PlanStage::Next => 0,
-        PlanStage::Done => 0,
-        PlanStage::Refused => 0,
+        PlanStage::ModePoll | PlanStage::PllPoll | PlanStage::EchoRead => 1 + more,
+        PlanStage::ModeWait | PlanStage::PllWait | PlanStage::EchoWrite => 2 + more,
+        PlanStage::Done | PlanStage::Refused => 0,
     }
 }
 
+#[tactic(auto, unfolding(crate::specs::Numbers::plan_in))]
 pub fn plan_turns(c: PlanNumbers, body: &[u8; 76]) -> u32
     ensures { result ≡ plan_left (plan_in c body.now) }
 {

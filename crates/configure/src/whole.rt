@@ -18,17 +18,13 @@ fn whole(s: Settings, body: &mut [u8; 76]) -> PlanNumbers
     requires { (timing_fits s.bittime ≡ true) × (s.dncnt < 32) }
     ensures { plan_in result body.new ≡ plan_of failed (configure_items s) }
 {
-    let o = s.oscillator;
-    let io = s.io;
-    let b = s.bittime;
-    let n = b.nominal;
-    let d = b.data;
-    put_word(body, 0, changes::oscillator_bits(o));
-    put_word(body, 1, changes::io_bits(io));
+    let d = s.bittime.data;
+    put_word(body, 0, changes::oscillator_bits(s.oscillator));
+    put_word(body, 1, changes::io_bits(s.io));
     put_words(
         body,
         2,
-        changes::nominal_bits(n),
+        changes::nominal_bits(s.bittime.nominal),
         changes::data_bits(d),
         changes::delay_bits(d),
     );
@@ -38,6 +34,7 @@ fn whole(s: Settings, body: &mut [u8; 76]) -> PlanNumbers
     plan_with(PlanKind::Configure, 4, x)
 }
 
+#[tactic(auto, using(crate::proofs::Begins::one_test), unfolding(crate::specs::Whole::configure_all))]
 pub fn configure_all(s: Settings, body: &mut [u8; 76]) -> PlanNumbers
     ensures { plan_in result body.new ≡ plan_for (configure_all s) }
 {
