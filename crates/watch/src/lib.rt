@@ -1,9 +1,8 @@
-// A lent list of watch entries, and where a scrub step begins in it. The functions that have the slice are few and
-// thin: the addresses are tried one after the other, and a step begins. All else takes plain values.
+// A lent list of watch entries, and where a scrub step begins in it.
 #![tactic(auto)]
 
-ghost use Rattle.std.specs.Prelude.{◌≡◌, ◌<◌, ◌^◌};
-ghost use Rattle.watch.specs.Watch.{all_carried, place_in, visiting, start_of};
+ghost use Rattle.std.specs.Prelude.{◌≡◌};
+ghost use Rattle.watch.specs.Watch.{all_carried, place_in, start_of};
 
 use spi::Refusal;
 
@@ -44,19 +43,6 @@ fn all_carried(list: &[Watch]) -> bool
     list.iter().all(|w| place::is_carried(w.address))
 }
 
-// A register's address has 12 bits.
-fn visiting(next: usize, w: Watch) -> Begun
-    requires { w.address < 2 ^ 12 }
-    ensures { result ≡ visiting next w }
-{
-    Begun {
-        next,
-        address: w.address as u16,
-        wanted: w.wanted,
-        care: w.care,
-    }
-}
-
 // Where a step over a list begins: 32 for an empty list, then 33.
 #[tactic(auto, using(crate::proofs::Lists::short_at), unfolding(crate::specs::Watch::start_of))]
 pub fn scrub_start(s: Scrubber, list: &[Watch]) -> Result<Begun, Refusal>
@@ -66,9 +52,14 @@ pub fn scrub_start(s: Scrubber, list: &[Watch]) -> Result<Begun, Refusal>
     let Some(w) = list.get(place) else {
         return Err(Refusal::EmptyList);
     };
-    if all_carried(list) {
-        Ok(visiting(place + 1, *w))
-    } else {
-        Err(Refusal::NotCarried)
+    if !all_carried(list) {
+        return Err(Refusal::NotCarried);
     }
+    // A register's address has 12 bits.
+    Ok(Begun {
+        next: place + 1,
+        address: w.address as u16,
+        wanted: w.wanted,
+        care: w.care,
+    })
 }
