@@ -4,6 +4,7 @@
 mod fifos;
 mod filters;
 mod queue;
+mod shared;
 
 use fifo::{
     ControlWord, FifoControl, TxQueueControl, TxQueueUserAddress, UserAddress, UserAddressWord,

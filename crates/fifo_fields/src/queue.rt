@@ -1,5 +1,6 @@
 // CiTXQCON and CiTXQSTA.
-use fifo::{ControlWord, StatusWord, TxQueueControl, TxQueueStatus};
+use crate::shared;
+use fifo::{TxQueueControl, TxQueueStatus};
 use named::cut;
 
 pub fn control(w: u32, i: usize) -> u32 {
@@ -7,15 +8,7 @@ pub fn control(w: u32, i: usize) -> u32 {
     match i {
         0 => r.txqnie() as u32,
         1 => r.txqeie() as u32,
-        2 => r.txatie() as u32,
-        3 => r.txen() as u32,
-        4 => r.uinc() as u32,
-        5 => r.txreq() as u32,
-        6 => r.freset() as u32,
-        7 => r.txpri(),
-        8 => r.txat(),
-        9 => r.plsize(),
-        _ => r.fifo_size(),
+        _ => shared::control(r, i - 2),
     }
 }
 
@@ -26,14 +19,7 @@ pub fn with_control(w: u32, i: usize, v: u32) -> u32 {
     let set = match i {
         0 => r.with_txqnie(on),
         1 => r.with_txqeie(on),
-        2 => r.with_txatie(on),
-        3 => r.with_txen(on),
-        4 => r.with_uinc(on),
-        5 => r.with_txreq(on),
-        6 => r.with_freset(on),
-        7 => r.with_txpri(cut(v, 31)),
-        8 => r.with_txat(cut(v, 3)),
-        _ => r.with_plsize(cut(v, 7)),
+        _ => shared::with_control(r, i - 2, v),
     };
     set.0
 }
@@ -45,10 +31,7 @@ pub fn status(w: u32, i: usize) -> u32 {
     match i {
         0 => r.txqnif() as u32,
         1 => r.txqeif() as u32,
-        2 => r.txatif() as u32,
-        3 => r.txerr() as u32,
-        4 => r.txlarb() as u32,
-        5 => r.txabt() as u32,
+        2..=5 => shared::status(r, i - 2) as u32,
         _ => r.txqci(),
     }
 }
@@ -59,10 +42,7 @@ pub fn with_status(w: u32, i: usize, v: u32) -> u32 {
     let set = match i {
         0 => r.with_txqnif(on),
         1 => r.with_txqeif(on),
-        2 => r.with_txatif(on),
-        3 => r.with_txerr(on),
-        4 => r.with_txlarb(on),
-        5 => r.with_txabt(on),
+        2..=5 => shared::with_status(r, i - 2, on),
         _ => r.with_txqci(cut(v, 31)),
     };
     set.0

@@ -1,5 +1,5 @@
 // CiNBTCFG, CiDBTCFG and CiTDC.
-ghost use Rattle.std.specs.Prelude.{◌<◌};
+ghost use Rattle.std.specs.Prelude.{◌≡◌, ◌+◌, ◌*◌, ◌^◌, ◌<◌};
 
 use bit_timing::{
     BitTime, DataBitTimeConfiguration, NominalBitTimeConfiguration, TransmitterDelayCompensation,
@@ -18,46 +18,41 @@ fn with_seven_bits(r: TransmitterDelayCompensation, v: u32) -> TransmitterDelayC
     r.with_tdco(signed::number(v))
 }
 
-pub fn nominal(w: u32, i: usize) -> u32 {
-    let r = NominalBitTimeConfiguration(w);
+fn bit_time<R: BitTime>(r: R, i: usize) -> u32 {
     match i {
         0 => r.sjw(),
         1 => r.tseg2(),
         2 => r.tseg1(),
         _ => r.brp(),
     }
+}
+
+// A value up to `most` fits SJW and TSEG2.
+fn with_bit_time<R: BitTime>(r: R, i: usize, v: u32, most: u32) -> R
+    requires { most + 1 ≡ 2 ^ R.BITS }
+{
+    match i {
+        0 => r.with_sjw(cut(v, most)),
+        1 => r.with_tseg2(cut(v, most)),
+        2 => r.with_tseg1(cut(v, 2 * most + 1)),
+        _ => r.with_brp(cut(v, 255)),
+    }
+}
+
+pub fn nominal(w: u32, i: usize) -> u32 {
+    bit_time(NominalBitTimeConfiguration(w), i)
 }
 
 pub fn with_nominal(w: u32, i: usize, v: u32) -> u32 {
-    let r = NominalBitTimeConfiguration(w);
-    let set = match i {
-        0 => r.with_sjw(cut(v, 127)),
-        1 => r.with_tseg2(cut(v, 127)),
-        2 => r.with_tseg1(cut(v, 255)),
-        _ => r.with_brp(cut(v, 255)),
-    };
-    set.0
+    with_bit_time(NominalBitTimeConfiguration(w), i, v, 127).0
 }
 
 pub fn data_rate(w: u32, i: usize) -> u32 {
-    let r = DataBitTimeConfiguration(w);
-    match i {
-        0 => r.sjw(),
-        1 => r.tseg2(),
-        2 => r.tseg1(),
-        _ => r.brp(),
-    }
+    bit_time(DataBitTimeConfiguration(w), i)
 }
 
 pub fn with_data_rate(w: u32, i: usize, v: u32) -> u32 {
-    let r = DataBitTimeConfiguration(w);
-    let set = match i {
-        0 => r.with_sjw(cut(v, 15)),
-        1 => r.with_tseg2(cut(v, 15)),
-        2 => r.with_tseg1(cut(v, 31)),
-        _ => r.with_brp(cut(v, 255)),
-    };
-    set.0
+    with_bit_time(DataBitTimeConfiguration(w), i, v, 15).0
 }
 
 pub fn delay(w: u32, i: usize) -> u32 {
