@@ -30,6 +30,3 @@ timing_told b e =
     let (n, r) = both (all_fit (nominal_settings b.nominal)) (all_fit (data_settings b.data) && is_small b.data.tdco) e in
     let (d, t) = both (all_fit (data_settings b.data)) (is_small b.data.tdco) r in
     (all_fit_lem (nominal_settings b.nominal) n, all_fit_lem (data_settings b.data) d, small_told b.data.tdco t)
-
-pub settings_told : (b : BitTimeConfiguration) (n : ℕ) → (timing_fits b && fits DNCNT n) ≡ true → (timing_fits b ≡ true) × Fits DNCNT n
-settings_told b n e = let (t, d) = both (timing_fits b) (fits DNCNT n) e in (t, fits_told DNCNT n d)

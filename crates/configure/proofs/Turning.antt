@@ -37,8 +37,3 @@ module _ (items : List Item) (i : ℕ) where
 
   pub left_end : length items ≤ i → left ≡ 0
   left_end l = array items (15 - length items) i ∙ ap all_asks (drop_of_length-le items l)
-
-pub left_next : (items : List Item) (i : ℕ) → left items i ≡ asks_of (get_or items i Item.Nothing) + left items (i + 1)
-left_next items i =
-    rw (add-one i)
-    (array items (15 - length items) i ∙ next items i ∙ ap (λ (n : ℕ). asks_of (get_or items i Item.Nothing) + n) (sym (array items (15 - length items) (suc i))))

@@ -14,12 +14,13 @@ pub fn keeping(address: u16, clear: u32, set: u32) -> Change
     ensures { result ≡ record { address = address; keep = 2 ^ 32 - 1 - clear; set = set } }
 {
     Change {
-        address: address,
+        address,
         keep: !clear,
-        set: set,
+        set,
     }
 }
 
+#[tactic(auto, unfolding(crate::specs::Change::modified))]
 pub fn modified_word(c: Change, w: u32) -> u32
     ensures { result ≡ modified c w }
 {

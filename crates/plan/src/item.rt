@@ -59,10 +59,5 @@ pub fn echo_word(left: u8) -> u32
 pub fn is_there(item: Item) -> bool
     ensures { result ≡ is_there item }
 {
-    match item {
-        Item::Change(_) => true,
-        Item::Poll(_, _) => true,
-        Item::Echo => true,
-        Item::Nothing => false,
-    }
+    !matches!(item, Item::Nothing)
 }
