@@ -9,7 +9,7 @@ use model::Heard;
 use output::Streams;
 use script::{Between, Bus};
 use spi::Refusal;
-use starts::Arguments;
+use spoken::Arguments;
 use state::Model;
 
 // The modelled chip, and where it is written what becomes of it.
@@ -35,7 +35,7 @@ fn dlc_for(n: usize, fdf: bool) -> u32 {
 
 // A frame's words are the arguments from k on; its DLC is among them, where the line has it, and otherwise it is the one that its
 // payload's length has.
-fn arriving(a: Arguments<'_>, k: usize, coded: bool) -> Arrival<'_>
+fn arriving<'a>(a: &'a Arguments<'_>, k: usize, coded: bool) -> Arrival<'a>
     requires { k ≤ 1 }
 {
     let header = starts::header_of(a.number(k), a.number(k + 1));
@@ -143,7 +143,7 @@ impl Chip {
     }
 
     // A bus step, by its words and what they say.
-    pub fn bus_step(&mut self, step: Bus, words: &[u8], a: Arguments<'_>) {
+    pub fn bus_step(&mut self, step: Bus, words: &[u8], a: &Arguments<'_>) {
         match step {
             Bus::Send => self.sent(bus::send(self.model, a.word(0)), words),
             Bus::SendQueue => self.sent(bus::send_queue(self.model), words),
@@ -222,7 +222,7 @@ impl Chip {
     }
 
     // A line between calls, with the blank line behind it.
-    pub fn between(&mut self, step: Between, words: &[u8], a: Arguments<'_>) {
+    pub fn between(&mut self, step: Between, words: &[u8], a: &Arguments<'_>) {
         match step {
             Between::Bus(step) => self.bus_step(step, words, a),
             Between::Raw => self.raw(a.payload(0), a.number(1) as usize),

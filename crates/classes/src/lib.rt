@@ -4,7 +4,7 @@
 
 ghost use Rattle.std.specs.Prelude.{◌≤◌};
 
-use spoken::CallName;
+use spoken::{Arguments, CallName};
 
 mod tests;
 
@@ -46,30 +46,26 @@ pub struct Seen {
     stamped: bool,
 }
 
-fn at(a: &[u64], k: usize) -> u64 {
-    a.get(k).copied().unwrap_or(0)
-}
-
 // Whether a setting is refused (24) that the Rust takes.
-fn is_wide(name: CallName, a: &[u64]) -> bool {
+fn is_wide(name: CallName, a: &Arguments<'_>) -> bool {
     match name {
-        CallName::SetOpMode => 7 < at(a, 0),
-        CallName::ConfigureTxFifo => at(a, 1) == 0 || 31 < at(a, 4),
-        CallName::ConfigureRxFifo => at(a, 1) == 0,
-        CallName::ConfigureTxQueue => at(a, 0) == 0 || 31 < at(a, 2),
-        CallName::Push | CallName::Transmit => 0x7F_FFFF < at(a, 3),
-        CallName::QueuePush | CallName::QueuePushUnchecked => 0x7F_FFFF < at(a, 2),
+        CallName::SetOpMode => 7 < a.number(0),
+        CallName::ConfigureTxFifo => a.number(1) == 0 || 31 < a.number(4),
+        CallName::ConfigureRxFifo => a.number(1) == 0,
+        CallName::ConfigureTxQueue => a.number(0) == 0 || 31 < a.number(2),
+        CallName::Push | CallName::Transmit => 0x7F_FFFF < a.number(3),
+        CallName::QueuePush | CallName::QueuePushUnchecked => 0x7F_FFFF < a.number(2),
         _ => false,
     }
 }
 
-fn size_of(name: CallName, a: &[u64]) -> u64 {
+fn size_of(name: CallName, a: &Arguments<'_>) -> u64 {
     match name {
-        CallName::ReadRam | CallName::WriteRam => at(a, 1),
-        CallName::ConfigureBitTiming => at(a, 8),
-        CallName::Configure => at(a, 14),
-        CallName::Push | CallName::Transmit => at(a, 4),
-        CallName::QueuePush | CallName::QueuePushUnchecked => at(a, 3),
+        CallName::ReadRam | CallName::WriteRam => a.number(1),
+        CallName::ConfigureBitTiming => a.number(8),
+        CallName::Configure => a.number(14),
+        CallName::Push | CallName::Transmit => a.number(4),
+        CallName::QueuePush | CallName::QueuePushUnchecked => a.number(3),
         _ => 0,
     }
 }
@@ -125,11 +121,11 @@ fn refuses(line: &[u8], address: u32) -> bool {
 
 impl Seen {
     // A case whose call has these arguments.
-    pub fn new(name: CallName, a: &[u64]) -> Seen {
+    pub fn new(name: CallName, a: &Arguments<'_>) -> Seen {
         Seen {
             name,
             wide: is_wide(name, a),
-            address: u32::try_from(at(a, 0)).unwrap_or(u32::MAX),
+            address: a.word(0),
             size: size_of(name, a),
             asked: 0,
             delay: false,

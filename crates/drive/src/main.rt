@@ -6,8 +6,7 @@ use acts::Chip;
 use lines::Writer;
 use output::Streams;
 use script::{Between, Entry};
-use spoken::Fault;
-use starts::Arguments;
+use spoken::{Arguments, Fault};
 
 #[derive(Drop)]
 struct Drive<'a> {
@@ -20,9 +19,7 @@ struct Drive<'a> {
     open: bool,
     head: Writer<'a>,
     notes: Writer<'a>,
-    // What a line says.
-    numbers: [u64; 24],
-    lent: [u8; 32768],
+    said: Arguments<'a>,
 }
 
 impl Drive<'_> {
@@ -43,11 +40,7 @@ impl Drive<'_> {
         if let Between::New = step {
             self.place = 0;
         }
-        let a = Arguments {
-            numbers: &self.numbers,
-            bytes: &self.lent,
-        };
-        self.chip.between(step, line, a);
+        self.chip.between(step, line, &self.said);
     }
 
     fn refused(&mut self, fault: Fault, line: &[u8]) {
@@ -76,7 +69,7 @@ impl Drive<'_> {
     }
 
     fn line(&mut self, line: &[u8], long: bool) {
-        let entry = script::entry_of(line, long, &mut self.numbers, &mut self.lent);
+        let entry = script::entry_of(line, long, &mut self.said);
         self.number = self.number.saturating_add(1);
         if script::ends(entry) {
             self.run_call();
@@ -93,14 +86,11 @@ impl Drive<'_> {
 }
 
 fn main(rt: HostRuntime) {
-    let to = Streams {
-        stdin: rt.stdin(),
-        stdout: rt.stdout(),
-        stderr: rt.stderr(),
-    };
+    let to = Streams::new(rt);
     let mut buffer = io::large_buffer();
     let mut head = io::large_buffer();
     let mut notes = io::large_buffer();
+    let mut lent = [0u8; 32768];
     let mut drive = Drive {
         chip: Chip::new(to),
         place: 0,
@@ -108,8 +98,7 @@ fn main(rt: HostRuntime) {
         open: false,
         head: Writer::new(&mut head),
         notes: Writer::new(&mut notes),
-        numbers: [0u64; 24],
-        lent: [0u8; 32768],
+        said: Arguments::new(&mut lent),
     };
     reading::each_line(to, &mut buffer, |line, long| drive.line(line, long));
     drive.run_call();

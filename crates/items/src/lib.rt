@@ -1,7 +1,7 @@
 // What a line of a transcript is by itself.
 #![tactic(auto)]
 
-use spoken::{Fault, Spoken};
+use spoken::{Arguments, Fault};
 
 #[derive(Clone, Copy, PartialEq, Eq, Debug)]
 pub enum Item {
@@ -20,26 +20,16 @@ pub enum Item {
     Crc,
 }
 
-// A line by a table of rows; its bytes go to `lent`.
-fn row_of<T: Copy>(
-    line: &[u8],
-    rows: &[(&[u8], &[u8], T)],
-    lent: &mut [u8],
-) -> Result<Spoken<T>, Fault> {
-    let mut numbers = [0u64; 24];
-    spoken::row_of(line, rows, &mut numbers, lent)
-}
-
 // The bytes go to `rx`.
 fn got(line: &[u8], rx: &mut [u8]) -> Result<Item, Fault> {
-    let s = row_of(line, &[(b"<", b"b", ())], rx)?;
-    Ok(Item::Got(s.count))
+    let mut a = Arguments::new(rx);
+    spoken::row_of(line, &[(b"<", b"b", ())], &mut a)?;
+    Ok(Item::Got(a.last()))
 }
 
 fn result(line: &[u8]) -> Result<Item, Fault> {
-    let mut numbers = [0u64; 24];
     let mut scratch = [0u8; 4200];
-    spoken::result(line, &mut numbers, &mut scratch)?;
+    spoken::result(line, &mut Arguments::new(&mut scratch))?;
     Ok(Item::Result)
 }
 
@@ -51,8 +41,7 @@ const OTHERS: [(&[u8], &[u8], Item); 3] = [
 
 fn other(line: &[u8]) -> Result<Item, Fault> {
     let mut scratch = [0u8; 4200];
-    let s = row_of(line, &OTHERS, &mut scratch)?;
-    Ok(s.what)
+    spoken::row_of(line, &OTHERS, &mut Arguments::new(&mut scratch))
 }
 
 // A line that is too long is a call that is not understood, or nothing.

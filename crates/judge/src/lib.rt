@@ -8,7 +8,7 @@ use counts::Counts;
 use items::Item;
 use lines::Writer;
 use output::Streams;
-use spoken::{CallName, Fault, Spoken};
+use spoken::{Arguments, CallName, Fault};
 
 // Where the transcript's reader stands in a case.
 #[derive(Clone, Copy, PartialEq, Eq, Debug)]
@@ -38,8 +38,7 @@ pub struct Judge<'a> {
     differs: Option<u64>,
     note: Writer<'a>,
     counts: Counts,
-    // How many bytes the call's line has, and how many came last.
-    lent: usize,
+    // How many bytes came last.
     got: usize,
 }
 
@@ -69,19 +68,18 @@ fn is_done(item: Result<Item, Fault>) -> bool {
     matches!(item, Ok(Item::Sent | Item::Wait | Item::Result))
 }
 
-// What a call's line says.
+// What a call's line says; its words go to the arguments.
 pub fn hear(
     item: Result<Item, Fault>,
     line: &[u8],
     long: bool,
-    numbers: &mut [u64],
-    lent: &mut [u8],
-) -> Result<Spoken<CallName>, Fault> {
+    a: &mut Arguments<'_>,
+) -> Result<CallName, Fault> {
     if long {
         return Err(Fault::Long);
     }
     match item {
-        Ok(Item::Call) => spoken::understood(line, numbers, lent),
+        Ok(Item::Call) => spoken::understood(line, a),
         _ => Err(Fault::Name),
     }
 }
@@ -94,18 +92,13 @@ impl<'a> Judge<'a> {
             number: 0,
             start: 0,
             phase: Phase::Idle,
-            seen: Seen::new(CallName::Reset, &[]),
+            seen: Seen::new(CallName::Reset, &Arguments::new(&mut [])),
             class: None,
             differs: None,
             note: Writer::new(note),
             counts: Counts::new(),
-            lent: 0,
             got: 0,
         }
-    }
-
-    pub fn lent(&self) -> usize {
-        self.lent
     }
 
     pub fn got(&self) -> usize {
@@ -215,14 +208,13 @@ impl<'a> Judge<'a> {
         }
     }
 
-    fn begin(&mut self, heard: Result<Spoken<CallName>, Fault>, line: &[u8]) {
+    fn begin(&mut self, heard: Result<CallName, Fault>, line: &[u8]) {
         self.start = self.number;
         self.phase = Phase::Turn;
         self.class = None;
         self.differs = None;
-        match heard {
-            Ok(spoken) => self.lent = spoken.count,
-            Err(f) => self.lose(f, line),
+        if let Err(f) = heard {
+            self.lose(f, line);
         }
     }
 
@@ -245,17 +237,17 @@ impl<'a> Judge<'a> {
         }
     }
 
-    // What is seen of the case, `numbers` being those of the call's line and `rx` the bytes that came.
+    // What is seen of the case, `a` being the arguments of the call's line and `rx` the bytes that came.
     fn see(
         &mut self,
         item: Result<Item, Fault>,
-        heard: Result<Spoken<CallName>, Fault>,
+        heard: Result<CallName, Fault>,
         line: &[u8],
-        numbers: &[u64],
+        a: &Arguments<'_>,
         rx: &[u8],
     ) {
         match (heard, item) {
-            (Ok(spoken), _) => self.seen = Seen::new(spoken.what, numbers),
+            (Ok(name), _) => self.seen = Seen::new(name, a),
             (_, Ok(Item::Sent)) => self.seen.ask(line),
             (_, Ok(Item::Got(n))) => self.seen.answer(text::front(rx, n)),
             _ => {}
@@ -266,9 +258,9 @@ impl<'a> Judge<'a> {
     pub fn after(
         &mut self,
         item: Result<Item, Fault>,
-        heard: Result<Spoken<CallName>, Fault>,
+        heard: Result<CallName, Fault>,
         line: &[u8],
-        numbers: &[u64],
+        a: &Arguments<'_>,
         rx: &[u8],
     ) {
         match item {
@@ -280,7 +272,7 @@ impl<'a> Judge<'a> {
         if let Ok(Item::Result) = item {
             self.class = self.seen.class(line);
         }
-        self.see(item, heard, line, numbers, rx);
+        self.see(item, heard, line, a, rx);
     }
 
     pub fn tell(&self) {

@@ -7,7 +7,6 @@ use field::Numbered;
 use fifo::{ControlWord, FifoControl};
 use lines::Writer;
 use output::Streams;
-use starts::Arguments;
 
 // How a call that was started ended, with no buffer lent: it is refused, or has still to ask.
 fn begun(call: Call) -> Outcome {
@@ -148,23 +147,6 @@ fn taken(to: Streams, what: &[u8], call: Call) {
     left(to, what, call, b"", &mut [0xAAu8; 70]);
 }
 
-// A scrub by its line, from the second entry on.
-fn scrub_of(line: &[u8]) -> Call {
-    let mut numbers = [0u64; 24];
-    let mut lent = [0u8; 64];
-    numbers[starts::PLACE] = 1;
-    match spoken::understood(line, &mut numbers, &mut lent) {
-        Ok(s) => {
-            let a = Arguments {
-                numbers: &numbers,
-                bytes: text::front(&lent, s.count),
-            };
-            starts::start(s.what, a)
-        }
-        Err(_) => driver::reset(),
-    }
-}
-
 // How a step stands, and where its scrubber is.
 fn stands(to: Streams, what: &[u8], call: Call) {
     let mut line = [0u8; 128];
@@ -180,7 +162,9 @@ fn stands(to: Streams, what: &[u8], call: Call) {
 // The word read is 460, with the CRC of be 00 04 60 04 00 00.
 fn scrubs(to: Streams) {
     let word = [0x60u8, 4, 0, 0, 0x6C, 0x41];
-    let first = scrub_of(b"call scrub rewrite e04:3000003:ffffffff e00:461:1");
+    // From the second entry on.
+    let line = b"call scrub rewrite e04:3000003:ffffffff e00:461:1";
+    let first = starts::call_of(line, 1).unwrap_or(driver::reset());
     stands(to, b"R4.4 a scrub, not answered yet: ", first);
     stands(
         to,
@@ -204,11 +188,7 @@ fn scrubs(to: Streams) {
 }
 
 fn main(rt: HostRuntime) {
-    let to = Streams {
-        stdin: rt.stdin(),
-        stdout: rt.stdout(),
-        stderr: rt.stderr(),
-    };
+    let to = Streams::new(rt);
     parts(to);
     rooms(to);
     reads(to);

@@ -1,7 +1,7 @@
 // The streams of a program, and what is written to them. What can not be written is left out.
 #![tactic(auto)]
 
-use std::rt::{Stderr, Stdin, Stdout};
+use std::rt::{HostRuntime, Stderr, Stdin, Stdout};
 
 #[derive(Clone, Copy)]
 pub struct Streams {
@@ -11,6 +11,14 @@ pub struct Streams {
 }
 
 impl Streams {
+    pub fn new(rt: HostRuntime) -> Streams {
+        Streams {
+            stdin: rt.stdin(),
+            stdout: rt.stdout(),
+            stderr: rt.stderr(),
+        }
+    }
+
     pub fn write(self, s: &[u8]) {
         let _ = self.stdout.write_all(s);
     }

@@ -4,8 +4,7 @@
 use driver::{Answer, Call, Next, Outcome};
 use items::Item;
 use lines::Writer;
-use spoken::{CallName, Fault, Spoken};
-use starts::Arguments;
+use spoken::{Arguments, CallName, Fault};
 
 // A RAM read of so many bytes ends with them.
 fn ended(call: Call, read: Option<usize>, rx: &[u8], out: &mut Writer<'_>) {
@@ -36,9 +35,9 @@ pub enum Step {
 }
 
 // A call's line begins it, and what it is answered goes to it.
-pub fn step_of(item: Result<Item, Fault>, heard: Result<Spoken<CallName>, Fault>) -> Option<Step> {
-    if let Ok(spoken) = heard {
-        return Some(Step::Begin(spoken.what));
+pub fn step_of(item: Result<Item, Fault>, heard: Result<CallName, Fault>) -> Option<Step> {
+    if let Ok(name) = heard {
+        return Some(Step::Begin(name));
     }
     match item {
         Ok(Item::Got(_)) => Some(Step::Answer(Answer::Exchanged)),
@@ -48,10 +47,10 @@ pub fn step_of(item: Result<Item, Fault>, heard: Result<Spoken<CallName>, Fault>
     }
 }
 
-// The call after a step, `a` being the arguments of its line. No byte stands beside the answer to a wait.
-pub fn moved(call: Call, step: Step, a: Arguments<'_>, rx: &[u8]) -> Call {
+// The call after a step, `a` being the arguments of its line. A scrub starts at the first entry, and no byte stands beside the answer to a wait.
+pub fn moved(call: Call, step: Step, a: &Arguments<'_>, rx: &[u8]) -> Call {
     match step {
-        Step::Begin(name) => starts::start(name, a),
+        Step::Begin(name) => starts::start(name, a, 0),
         Step::Answer(Answer::Waited) => driver::answer(call, Answer::Waited, b""),
         Step::Answer(answer) => driver::answer(call, answer, rx),
     }

@@ -6,16 +6,14 @@ use items::Item;
 use judge::Judge;
 use lines::Writer;
 use output::Streams;
-use spoken::Fault;
-use starts::Arguments;
+use spoken::{Arguments, Fault};
 
 #[derive(Drop)]
 struct Replay<'a> {
     judge: Judge<'a>,
     call: Call,
-    // The numbers and the bytes of the call's line, and the bytes that came.
-    numbers: [u64; 24],
-    lent: [u8; 4200],
+    // What the call's line says, and the bytes that came.
+    said: Arguments<'a>,
     rx: [u8; 4200],
     // What the port does.
     out: Writer<'a>,
@@ -26,9 +24,14 @@ impl Replay<'_> {
     fn put_line(&mut self, item: Result<Item, Fault>) {
         self.out.clear();
         if self.judge.is_due(item) {
-            let sent = text::front(&self.lent, self.judge.lent());
             let rx = text::front(&self.rx, self.judge.got());
-            port::put_line(self.call, self.judge.read(), sent, rx, &mut self.out);
+            port::put_line(
+                self.call,
+                self.judge.read(),
+                self.said.bytes(),
+                rx,
+                &mut self.out,
+            );
         }
     }
 
@@ -36,37 +39,29 @@ impl Replay<'_> {
         let item = items::item_of(line, long, &mut self.rx);
         self.put_line(item);
         self.judge.settle(item, line, self.out.text());
-        let heard = judge::hear(item, line, long, &mut self.numbers, &mut self.lent);
-        self.judge.after(item, heard, line, &self.numbers, &self.rx);
+        let heard = judge::hear(item, line, long, &mut self.said);
+        self.judge.after(item, heard, line, &self.said, &self.rx);
         // Answers go to the call as long as it does what the transcript has.
         if !self.judge.is_followed() {
             return;
         }
         if let Some(step) = port::step_of(item, heard) {
-            let a = Arguments {
-                numbers: &self.numbers,
-                bytes: text::front(&self.lent, self.judge.lent()),
-            };
             let rx = text::front(&self.rx, self.judge.got());
-            self.call = port::moved(self.call, step, a, rx);
+            self.call = port::moved(self.call, step, &self.said, rx);
         }
     }
 }
 
 fn main(rt: HostRuntime) {
-    let to = Streams {
-        stdin: rt.stdin(),
-        stdout: rt.stdout(),
-        stderr: rt.stderr(),
-    };
+    let to = Streams::new(rt);
     let mut buffer = [0u8; 8192];
     let mut out = [0u8; 8192];
     let mut note = [0u8; 16400];
+    let mut lent = [0u8; 4200];
     let mut replay = Replay {
         judge: Judge::new(to, &mut note),
         call: driver::reset(),
-        numbers: [0u64; 24],
-        lent: [0u8; 4200],
+        said: Arguments::new(&mut lent),
         rx: [0u8; 4200],
         out: Writer::new(&mut out),
     };

@@ -8,7 +8,6 @@ use driver::{Call, Header, Outcome};
 use looping::Chip;
 use message::Frame;
 use output::Streams;
-use starts::Arguments;
 use std::io::Read;
 
 // The chip with its count of exchanges, and how many messages came out as they went in.
@@ -16,22 +15,6 @@ use std::io::Read;
 struct Rounds {
     chip: Chip,
     good: u64,
-}
-
-// A call by its line in a script.
-fn call_of(line: &[u8]) -> Call {
-    let mut numbers = [0u64; 24];
-    let mut lent = [0u8; 64];
-    match spoken::understood(line, &mut numbers, &mut lent) {
-        Ok(s) => {
-            let a = Arguments {
-                numbers: &numbers,
-                bytes: text::front(&lent, s.count),
-            };
-            starts::start(s.what, a)
-        }
-        Err(_) => driver::reset(),
-    }
 }
 
 // The message of a round.
@@ -79,6 +62,13 @@ impl Rounds {
         let _ = self.run(call, &mut []);
     }
 
+    // One by its line in a script.
+    fn made_by(&mut self, line: &[u8]) {
+        if let Ok(call) = starts::call_of(line, 0) {
+            self.made(call);
+        }
+    }
+
     // A chip with FIFO 1 sending and FIFO 2 receiving with timestamps, each of 8 messages of up to 64 bytes.
     fn prepared() -> Rounds {
         let mut rounds = Rounds {
@@ -88,10 +78,10 @@ impl Rounds {
             },
             good: 0,
         };
-        rounds.made(call_of(b"call configure 0 0 0 0 0 0 0 62 15 15 0 14 3 3 0 0 0 0 0 0"));
-        rounds.made(call_of(b"call configure_fifo 1 8 7 tx 0 0 0 0 0 0 0"));
-        rounds.made(call_of(b"call configure_fifo 2 8 7 rx 1 0 0 0 0"));
-        rounds.made(call_of(b"call set_op_mode 0"));
+        rounds.made_by(b"call configure 0 0 0 0 0 0 0 62 15 15 0 14 3 3 0 0 0 0 0 0");
+        rounds.made_by(b"call configure_fifo 1 8 7 tx 0 0 0 0 0 0 0");
+        rounds.made_by(b"call configure_fifo 2 8 7 rx 1 0 0 0 0");
+        rounds.made_by(b"call set_op_mode 0");
         rounds
     }
 
@@ -142,11 +132,7 @@ fn rounds_of(s: &[u8]) -> u32 {
 }
 
 fn main(rt: HostRuntime) {
-    let to = Streams {
-        stdin: rt.stdin(),
-        stdout: rt.stdout(),
-        stderr: rt.stderr(),
-    };
+    let to = Streams::new(rt);
     let mut buf = io::buffer();
     let mut input = to.stdin;
     // A read that fails is no input.

@@ -1,7 +1,7 @@
 // What a line of a script is.
 #![tactic(auto)]
 
-use spoken::Fault;
+use spoken::{Arguments, Fault};
 
 // A bus step. A frame that arrives has its DLC on the line, or the one that its payload's length has.
 #[derive(Clone, Copy, PartialEq, Eq, Debug)]
@@ -70,24 +70,24 @@ pub fn exchange_of(line: &[u8]) -> Option<u64> {
     text::decimal(text::word(line, 0).get(1..)?)
 }
 
-// What an @ line says; its numbers and bytes go to the buffers.
-pub fn note_of(line: &[u8], numbers: &mut [u64], lent: &mut [u8]) -> Result<Note, Fault> {
+// What an @ line says; its words go to the arguments.
+pub fn note_of(line: &[u8], a: &mut Arguments<'_>) -> Result<Note, Fault> {
     let said = text::rest(line, 1);
-    match spoken::row_of(said, &BUS, numbers, lent) {
-        Err(Fault::Name) => Ok(spoken::row_of(said, &NOTES, numbers, lent)?.what),
-        step => Ok(Note::Bus(step?.what)),
+    match spoken::row_of(said, &BUS, a) {
+        Err(Fault::Name) => spoken::row_of(said, &NOTES, a),
+        step => Ok(Note::Bus(step?)),
     }
 }
 
-fn noted(line: &[u8], numbers: &mut [u64], lent: &mut [u8]) -> Result<Note, Fault> {
+fn noted(line: &[u8], a: &mut Arguments<'_>) -> Result<Note, Fault> {
     exchange_of(line).ok_or(Fault::Exchange)?;
-    note_of(line, numbers, lent)
+    note_of(line, a)
 }
 
-fn step(line: &[u8], numbers: &mut [u64], lent: &mut [u8]) -> Result<Between, Fault> {
-    match spoken::row_of(line, &BUS, numbers, lent) {
-        Err(Fault::Name) => Ok(spoken::row_of(line, &STEPS, numbers, lent)?.what),
-        step => Ok(Between::Bus(step?.what)),
+fn step(line: &[u8], a: &mut Arguments<'_>) -> Result<Between, Fault> {
+    match spoken::row_of(line, &BUS, a) {
+        Err(Fault::Name) => spoken::row_of(line, &STEPS, a),
+        step => Ok(Between::Bus(step?)),
     }
 }
 
@@ -100,23 +100,18 @@ fn long_entry(first: u8) -> Result<Entry, Fault> {
     }
 }
 
-// A line's numbers and bytes go to the buffers.
-pub fn entry_of(
-    line: &[u8],
-    long: bool,
-    numbers: &mut [u64],
-    lent: &mut [u8],
-) -> Result<Entry, Fault> {
+// What a line's words say goes to the arguments.
+pub fn entry_of(line: &[u8], long: bool, a: &mut Arguments<'_>) -> Result<Entry, Fault> {
     match line.first() {
         None => Ok(Entry::Blank),
         Some(first) if long => long_entry(*first),
         Some(b'#') => Ok(Entry::Blank),
-        Some(b'@') => Ok(Entry::Note(noted(line, numbers, lent))),
+        Some(b'@') => Ok(Entry::Note(noted(line, a))),
         Some(_) if text::is(line, 0, b"call") => {
-            spoken::understood(line, numbers, lent)?;
+            spoken::understood(line, a)?;
             Ok(Entry::Call)
         }
-        Some(_) => Ok(Entry::Step(step(line, numbers, lent)?)),
+        Some(_) => Ok(Entry::Step(step(line, a)?)),
     }
 }
 

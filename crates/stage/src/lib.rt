@@ -7,8 +7,7 @@ use driver::{Answer, Call, Next};
 use lines::Writer;
 use model::Heard;
 use script::Note;
-use spoken::CallName;
-use starts::Arguments;
+use spoken::{Arguments, CallName};
 
 // What the @ lines say of one exchange: whether it fails, and how many bytes are given instead of what the chip answers.
 #[derive(Clone, Copy)]
@@ -34,9 +33,9 @@ struct Stage<'a> {
 impl Stage<'_> {
     // Of two lines that give an answer the last holds.
     fn noted(&mut self, told: Told, note: &[u8]) -> Told {
-        let mut numbers = [0u64; 24];
         let mut lent = [0u8; 32768];
-        match script::note_of(note, &mut numbers, &mut lent) {
+        let mut a = Arguments::new(&mut lent);
+        match script::note_of(note, &mut a) {
             Ok(Note::Fail) => Told {
                 fails: true,
                 given: told.given,
@@ -46,11 +45,7 @@ impl Stage<'_> {
                 given: text::bytes(text::word(note, 2), self.rx).or(told.given),
             },
             Ok(Note::Bus(step)) => {
-                let a = Arguments {
-                    numbers: &numbers,
-                    bytes: &lent,
-                };
-                self.chip.bus_step(step, text::rest(note, 1), a);
+                self.chip.bus_step(step, text::rest(note, 1), &a);
                 told
             }
             Err(_) => told,
@@ -149,38 +144,33 @@ impl Stage<'_> {
     }
 }
 
-fn through(chip: &mut Chip, name: CallName, a: Arguments<'_>, notes: &[u8]) -> Call {
+fn through(chip: &mut Chip, name: CallName, a: &Arguments<'_>, place: usize, notes: &[u8]) -> Call {
     let mut rx = [0u8; 32768];
     let mut out = io::large_buffer();
     let mut stage = Stage {
         chip,
         notes,
-        lent: a.bytes,
-        read: Seen::new(name, a.numbers).read(),
+        lent: a.bytes(),
+        read: Seen::new(name, a).read(),
         made: 0,
         got: 0,
         rx: &mut rx,
         out: Writer::new(&mut out),
     };
-    stage.through(starts::start(name, a))
+    stage.through(starts::start(name, a, place))
 }
 
 // A call by its line, with its @ lines. A scrub starts at the place, which is afterwards the next one's: no other call moves it.
 pub fn run(chip: &mut Chip, line: &[u8], notes: &[u8], place: &mut usize) {
-    let mut numbers = [0u64; 24];
     let mut lent = [0u8; 32768];
+    let mut a = Arguments::new(&mut lent);
     chip.to.write_line(line);
-    let Ok(s) = spoken::understood(line, &mut numbers, &mut lent) else {
+    let Ok(name) = spoken::understood(line, &mut a) else {
         return;
     };
-    numbers[starts::PLACE] = *place as u64;
-    let a = Arguments {
-        numbers: &numbers,
-        bytes: text::front(&lent, s.count),
-    };
-    let call = through(chip, s.what, a, notes);
+    let call = through(chip, name, &a, *place, notes);
     chip.to.write(b"\n");
-    if s.what == CallName::Scrub {
+    if name == CallName::Scrub {
         *place = driver::scrubber(call).place;
     }
 }

@@ -1,9 +1,9 @@
 // The calls that take a message.
 ghost use Rattle.std.specs.Prelude.{◌≤◌};
 
-use crate::Arguments;
 use crate::setup::{identifier, is_extended};
 use driver::{Call, Header};
+use spoken::Arguments;
 
 // Whether a flag's bit is in the number of the flags.
 fn has(flags: u64, n: u64) -> bool {
@@ -23,24 +23,24 @@ pub fn header_of(id: u64, flags: u64) -> Header {
 }
 
 // Identifier and flags are the arguments from k on.
-fn header_at(a: Arguments<'_>, k: usize) -> Header
+fn header_at(a: &Arguments<'_>, k: usize) -> Header
     requires { k ≤ 1 }
 {
     header_of(a.number(k), a.number(k + 1))
 }
 
-pub fn push_call(a: Arguments<'_>) -> Call {
-    driver::push(a.word(0), header_at(a, 1), a.word(3), a.bytes)
+pub fn push_call(a: &Arguments<'_>) -> Call {
+    driver::push(a.word(0), header_at(a, 1), a.word(3), a.bytes())
 }
 
-pub fn transmit_call(a: Arguments<'_>) -> Call {
-    driver::transmit(a.word(0), header_at(a, 1), a.word(3), a.bytes)
+pub fn transmit_call(a: &Arguments<'_>) -> Call {
+    driver::transmit(a.word(0), header_at(a, 1), a.word(3), a.bytes())
 }
 
-pub fn queue_push_call(a: Arguments<'_>) -> Call {
-    driver::queue_push(header_at(a, 0), a.word(2), a.bytes)
+pub fn queue_push_call(a: &Arguments<'_>) -> Call {
+    driver::queue_push(header_at(a, 0), a.word(2), a.bytes())
 }
 
-pub fn queue_push_unchecked_call(a: Arguments<'_>) -> Call {
-    driver::queue_push_unchecked(header_at(a, 0), a.word(2), a.bytes)
+pub fn queue_push_unchecked_call(a: &Arguments<'_>) -> Call {
+    driver::queue_push_unchecked(header_at(a, 0), a.word(2), a.bytes())
 }

@@ -3,8 +3,8 @@ ghost use Rattle.std.specs.Prelude.{◌≡◌, ◌≤◌, length, take};
 ghost use Rattle.driver.specs.Calls.{Scrub, started};
 ghost use Rattle.driver.specs.Numbers.{call_of};
 
-use crate::Arguments;
 use driver::{Call, Scrubber, Watch};
+use spoken::Arguments;
 
 // An entry, with its words as `spoken` puts them.
 fn entry(bytes: &[u8]) -> Watch
@@ -46,10 +46,12 @@ fn scrub_front(s: Scrubber, list: [Watch; 256], n: usize, rewrite: bool) -> Call
     driver::scrub(s, &list[..n], rewrite)
 }
 
-// One step, from the place that is among the numbers.
-pub fn scrub_call(a: Arguments<'_>) -> Call {
-    let s = Scrubber {
-        place: a.number(crate::PLACE) as usize,
-    };
-    scrub_front(s, list_of(a.bytes), size_of(a.bytes.len()), a.is_on(0))
+// One step.
+pub fn scrub_call(a: &Arguments<'_>, place: usize) -> Call {
+    scrub_front(
+        Scrubber { place },
+        list_of(a.bytes()),
+        size_of(a.bytes().len()),
+        a.is_on(0),
+    )
 }

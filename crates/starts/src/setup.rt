@@ -3,27 +3,27 @@
 ghost use Rattle.std.specs.Prelude.{◌≡◌, ◌≤◌, ◌<◌, ltb};
 ghost use Rattle.bit_timing.specs.Signed.{is_small, seven_of};
 
-use crate::Arguments;
 use bit_timing::signed;
 use driver::{
     BitTimeConfiguration, Call, DataBitTime, FifoConfiguration, FifoMode, FilterConfiguration,
     FilterMode, Identifier, IoConfiguration, NominalBitTime, OscillatorConfiguration, RxFifo,
     Settings, TxFifo, TxQueueConfiguration,
 };
+use spoken::Arguments;
 
 // A call that is refused 24: there is no mode 8.
 fn unsettable() -> Call {
     driver::set_op_mode(8)
 }
 
-fn oscillator(a: Arguments<'_>) -> OscillatorConfiguration {
+fn oscillator(a: &Arguments<'_>) -> OscillatorConfiguration {
     OscillatorConfiguration {
         pll: a.is_on(0),
         divide: a.is_on(1),
     }
 }
 
-pub fn oscillator_call(a: Arguments<'_>) -> Call {
+pub fn oscillator_call(a: &Arguments<'_>) -> Call {
     if a.are_flags(0, 2) {
         return driver::configure_osc(oscillator(a));
     }
@@ -31,7 +31,7 @@ pub fn oscillator_call(a: Arguments<'_>) -> Call {
 }
 
 // Four arguments from k on.
-fn io(a: Arguments<'_>, k: usize) -> IoConfiguration
+fn io(a: &Arguments<'_>, k: usize) -> IoConfiguration
     requires { k ≤ 20 }
 {
     IoConfiguration {
@@ -42,7 +42,7 @@ fn io(a: Arguments<'_>, k: usize) -> IoConfiguration
     }
 }
 
-pub fn io_call(a: Arguments<'_>) -> Call {
+pub fn io_call(a: &Arguments<'_>) -> Call {
     if a.are_flags(0, 4) {
         return driver::configure_io(io(a, 0));
     }
@@ -57,7 +57,7 @@ fn offset(n: u32) -> i32
 }
 
 // Nine arguments from k on.
-pub fn bit_time(a: Arguments<'_>, k: usize) -> BitTimeConfiguration
+pub fn bit_time(a: &Arguments<'_>, k: usize) -> BitTimeConfiguration
     requires { k ≤ 20 }
 {
     let n = NominalBitTime {
@@ -80,11 +80,11 @@ pub fn bit_time(a: Arguments<'_>, k: usize) -> BitTimeConfiguration
 }
 
 // The yes or no of `configure`: arguments 0 to 5, 15 and 17 to 19.
-fn configure_flags(a: Arguments<'_>) -> bool {
+fn configure_flags(a: &Arguments<'_>) -> bool {
     a.are_flags(0, 6) && a.are_flags(15, 16) && a.are_flags(17, 20)
 }
 
-pub fn configure_call(a: Arguments<'_>) -> Call {
+pub fn configure_call(a: &Arguments<'_>) -> Call {
     let s = Settings {
         oscillator: oscillator(a),
         io: io(a, 2),
@@ -107,7 +107,7 @@ fn spoilt(good: bool, n: u32) -> u32 {
 }
 
 // Size, payload size and mode; `good` is whether every yes or no of the mode is one.
-fn fifo_call(a: Arguments<'_>, good: bool, mode: FifoMode) -> Call {
+fn fifo_call(a: &Arguments<'_>, good: bool, mode: FifoMode) -> Call {
     let c = FifoConfiguration {
         size: a.word(1),
         plsize: spoilt(good, a.word(2)),
@@ -116,7 +116,7 @@ fn fifo_call(a: Arguments<'_>, good: bool, mode: FifoMode) -> Call {
     driver::configure_fifo(a.word(0), c)
 }
 
-pub fn tx_call(a: Arguments<'_>) -> Call {
+pub fn tx_call(a: &Arguments<'_>) -> Call {
     let t = TxFifo {
         txpri: a.word(4),
         txat: a.word(5),
@@ -129,7 +129,7 @@ pub fn tx_call(a: Arguments<'_>) -> Call {
     fifo_call(a, a.are_flags(6, 11), FifoMode::Transmit(t))
 }
 
-pub fn rx_call(a: Arguments<'_>) -> Call {
+pub fn rx_call(a: &Arguments<'_>) -> Call {
     let r = RxFifo {
         rxtsen: a.is_on(4),
         rxovie: a.is_on(5),
@@ -164,7 +164,7 @@ fn filter_identifier(n: u64) -> Identifier {
     }
 }
 
-pub fn filter_call(a: Arguments<'_>) -> Call {
+pub fn filter_call(a: &Arguments<'_>) -> Call {
     let c = FilterConfiguration {
         fifo: a.word(1),
         mode: filter_mode(a.number(2)),
@@ -174,7 +174,7 @@ pub fn filter_call(a: Arguments<'_>) -> Call {
     driver::configure_filter(a.word(0), c)
 }
 
-pub fn queue_call(a: Arguments<'_>) -> Call {
+pub fn queue_call(a: &Arguments<'_>) -> Call {
     driver::configure_tx_queue(Some(TxQueueConfiguration {
         size: a.word(0),
         plsize: spoilt(a.are_flags(4, 7), a.word(1)),

@@ -9,8 +9,7 @@ use driver::Call;
 use items::Item;
 use lines::Writer;
 use output::Streams;
-use spoken::{CallName, Fault, Spoken};
-use starts::Arguments;
+use spoken::{Arguments, CallName, Fault};
 
 #[derive(Drop)]
 struct Talks<'a> {
@@ -18,13 +17,10 @@ struct Talks<'a> {
     call: Call,
     // The number of the line that was read last, counted from 1.
     number: u64,
-    // Whether the last call's line was understood; how many bytes it has, and how many the call reads from RAM.
-    open: bool,
-    sent: usize,
-    read: Option<usize>,
-    // The numbers and the bytes of the call's line, and the bytes that came.
-    numbers: [u64; 24],
-    lent: [u8; 4200],
+    // What is known of the last call, where its line was understood.
+    seen: Option<Seen>,
+    // What the call's line says, and the bytes that came.
+    said: Arguments<'a>,
     rx: [u8; 4200],
     // What the call does now.
     out: Writer<'a>,
@@ -38,39 +34,27 @@ fn got_of(item: Item) -> usize {
 }
 
 impl Talks<'_> {
-    fn called(&mut self, heard: Result<Spoken<CallName>, Fault>) {
-        self.open = heard.is_ok();
-        if let Ok(spoken) = heard {
-            self.sent = spoken.count;
-            self.read = Seen::new(spoken.what, &self.numbers).read();
-        }
-    }
-
     // What a line is, or what is wrong with it.
-    fn judged(&self, item: Item, heard: Result<Spoken<CallName>, Fault>) -> Result<Item, Fault> {
+    fn judged(&self, item: Item, heard: Result<CallName, Fault>) -> Result<Item, Fault> {
         match item {
             Item::Blank => Ok(item),
             Item::Call => heard.map(|_| item),
-            Item::Got(_) | Item::Failed | Item::Wait if self.open => Ok(item),
+            Item::Got(_) | Item::Failed | Item::Wait if self.seen.is_some() => Ok(item),
             Item::Got(_) | Item::Failed | Item::Wait => Err(Fault::Alone),
             _ => Err(Fault::Place),
         }
     }
 
     // What the call does after this line, where it does something: a wait is not written here, since its line comes with the answers.
-    fn moved(&mut self, item: Item, heard: Result<Spoken<CallName>, Fault>) {
+    fn moved(&mut self, item: Item, heard: Result<CallName, Fault>) {
         let Some(step) = port::step_of(Ok(item), heard) else {
             return;
         };
-        let sent = text::front(&self.lent, self.sent);
         let rx = text::front(&self.rx, got_of(item));
-        let a = Arguments {
-            numbers: &self.numbers,
-            bytes: sent,
-        };
-        self.call = port::moved(self.call, step, a, rx);
+        let read = self.seen.and_then(|seen| seen.read());
+        self.call = port::moved(self.call, step, &self.said, rx);
         self.out.clear();
-        port::put_line(self.call, self.read, sent, rx, &mut self.out);
+        port::put_line(self.call, read, self.said.bytes(), rx, &mut self.out);
         if self.out.text().first() != Some(&b'w') {
             self.to.write_line(self.out.text());
         }
@@ -83,10 +67,10 @@ impl Talks<'_> {
 
     fn line(&mut self, line: &[u8], long: bool) {
         let item = items::item_of(line, long, &mut self.rx);
-        let heard = judge::hear(item, line, long, &mut self.numbers, &mut self.lent);
+        let heard = judge::hear(item, line, long, &mut self.said);
         self.number = self.number.saturating_add(1);
         if let Ok(Item::Call) = item {
-            self.called(heard);
+            self.seen = heard.ok().map(|name| Seen::new(name, &self.said));
         }
         match item.and_then(|item| self.judged(item, heard)) {
             Ok(item) => {
@@ -99,22 +83,16 @@ impl Talks<'_> {
 }
 
 fn main(rt: HostRuntime) {
-    let to = Streams {
-        stdin: rt.stdin(),
-        stdout: rt.stdout(),
-        stderr: rt.stderr(),
-    };
+    let to = Streams::new(rt);
     let mut buffer = [0u8; 8192];
     let mut out = [0u8; 8192];
+    let mut lent = [0u8; 4200];
     let mut talks = Talks {
         to,
         call: driver::reset(),
         number: 0,
-        open: false,
-        sent: 0,
-        read: None,
-        numbers: [0u64; 24],
-        lent: [0u8; 4200],
+        seen: None,
+        said: Arguments::new(&mut lent),
         rx: [0u8; 4200],
         out: Writer::new(&mut out),
     };
