@@ -16,9 +16,6 @@ use Rattle.register.specs.RegisterCall.{RegisterCall}
 use Rattle.register.specs.Step.{addressed, after_mismatch, step_of, outcome_of}
 use Rattle.register.specs.Laws.{heard, mismatches, checked_after, Given, ThirdRefused, OthersStop, Laws}
 
-no : {X : Type 0} → ◌≡◌ {A = ℕ} 0 1 → X
-no e = absurd (omega (arith, e))
-
 -- the answers by which a checked read, of which so many mismatched, gets its word: mismatches, then one that matches
 pub data Heard (address w n : ℕ) : ℕ → List (Answer × List ℕ) → Type 0 where
   matched : (x : Answer × List ℕ) → heard address x ≡ CheckedWord.Word w → Heard address w n n (x ∷ [])
@@ -33,7 +30,7 @@ module _ (address w n : ℕ) where
   -- what is refused gives no word later
   refused_gives : (r : Refusal) (xs : List (Answer × List ℕ)) → gives (RegisterCall.Refused r) xs → ⊥
   unfolding run step_of outcome_of
-  refused_gives r [] h = no cc
+  refused_gives r [] h = cc
   refused_gives r (x ∷ xs) h = refused_gives Refusal.WrongAnswer xs h
 
   -- a word is given until the next answer
@@ -58,7 +55,7 @@ module _ (address w n : ℕ) where
 
   pub heard_so : (seen : ℕ) (xs : List (Answer × List ℕ)) → gives (RegisterCall.Checked address seen) xs → Heard address w n seen xs
   unfolding run step_of outcome_of
-  heard_so seen [] h = no cc
+  heard_so seen [] h = cc
   heard_so seen (x ∷ xs) h = heard_first seen x xs (heard_so (seen + 1) xs) (heard address x) refl h
 
   -- what is heard so was counted, and ended with the word
@@ -72,14 +69,14 @@ module _ (address w n : ℕ) where
   few seen _ l (again _ x xs e m g) = few (seen + 1) xs (omega arith) g
 
   some : {s : ℕ} {zs : List (Answer × List ℕ)} → Heard address w n s zs → zs ≡ [] → ⊥
-  some (matched x e) q = no cc
-  some (again _ x xs e l g) q = no cc
+  some (matched x e) q = cc
+  some (again _ x xs e l g) q = cc
 
   last : (s : ℕ) (zs : List (Answer × List ℕ)) → Heard address w n s zs → (xs : List (Answer × List ℕ)) (x : Answer × List ℕ) → zs ≡ xs ++ (x ∷ [])
       → heard address x ≡ CheckedWord.Word w
   last s _ (matched y e) [] x q = let d : y ≡ x = cc in ap (heard address) (sym d) ∙ e
-  last s _ (matched y e) (z ∷ []) x q = no cc
-  last s _ (matched y e) (z ∷ v ∷ zs) x q = no cc
+  last s _ (matched y e) (z ∷ []) x q = cc
+  last s _ (matched y e) (z ∷ v ∷ zs) x q = cc
   last s _ (again _ y ys e l g) [] x q = absurd (some g cc)
   last s _ (again _ y ys e l g) (z ∷ zs) x q = last (s + 1) ys g zs x cc
 

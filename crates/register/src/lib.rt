@@ -5,7 +5,7 @@ ghost use Rattle.std.specs.Prelude.{◌≡◌};
 ghost use Rattle.spi.specs.Talk.{on_checked};
 ghost use Rattle.spi.specs.declared.refusal.Refusal.{Refusal};
 ghost use Rattle.register.specs.Numbers.{at_stage, register_of, gone};
-ghost use Rattle.register.specs.Step.{addressed, after_mismatch, step_of, ask_of, outcome_of, read_start, write_start, checked_start};
+ghost use Rattle.register.specs.Step.{addressed, again, after_mismatch, step_of, ask_of, outcome_of, read_start, write_start, checked_start};
 ghost use Rattle.register.specs.RegisterCall.{RegisterCall};
 
 use call::Outcome;
@@ -129,7 +129,17 @@ pub fn register_ask(c: RegisterNumbers) -> Ask
     }
 }
 
-// A mismatch is followed by another try, the third by a refusal.
+// A mismatch after so many: three tries, two mismatches are followed by another.
+pub fn again(seen: u8) -> Result<u8, Refusal>
+    ensures { result ≡ again seen Err Ok }
+{
+    if seen < 2 {
+        Ok(seen + 1)
+    } else {
+        Err(Refusal::CrcMismatch)
+    }
+}
+
 #[tactic(auto, unfolding(crate::specs::Step::after_mismatch))]
 fn when_checked(c: RegisterNumbers, reply: CheckedWord) -> Result<RegisterNumbers, Refusal>
     ensures { gone result ≡ on_checked RegisterCall.Refused reply (after_mismatch c.m c.seen) (λ w. RegisterCall.Matched w c.seen) }
@@ -141,15 +151,12 @@ fn when_checked(c: RegisterNumbers, reply: CheckedWord) -> Result<RegisterNumber
             ..c
         }),
         CheckedWord::Mismatch => {
-            if c.seen < 2 {
-                Ok(RegisterNumbers {
-                    stage: RegisterStage::Checked,
-                    seen: c.seen + 1,
-                    ..c
-                })
-            } else {
-                Err(Refusal::CrcMismatch)
-            }
+            let seen = again(c.seen)?;
+            Ok(RegisterNumbers {
+                stage: RegisterStage::Checked,
+                seen,
+                ..c
+            })
         }
         CheckedWord::Bad(r) => Err(r),
     }

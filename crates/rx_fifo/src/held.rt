@@ -17,7 +17,7 @@ pub fn at_most_64(n: usize) -> usize
 pub fn hold(c: FetchNumbers, rx: &[u8], body: &mut [u8; 76])
     ensures { take 64 body.new ≡ held_at (fetch_at c) (take 64 body.old) rx.now }
 {
-    if let FetchStage::Body = c.stage {
+    if matches!(c.stage, FetchStage::Body) {
         parts::put_at(body, 0, &rx[..at_most_64(rx.len())]);
     }
 }
@@ -26,7 +26,7 @@ pub fn hold(c: FetchNumbers, rx: &[u8], body: &mut [u8; 76])
 fn size_of(c: FetchNumbers) -> usize
     ensures { result ≡ size_at (fetch_at c) }
 {
-    if let FetchStage::Done = c.stage {
+    if matches!(c.stage, FetchStage::Done) {
         c.len as usize
     } else {
         0

@@ -143,10 +143,8 @@ pub fn fetch_finish(c: FetchNumbers, body: &[u8; 76], buf: &mut [u8]) -> Outcome
     ensures { (result ≡ finished_as (fetch_of c body.now) (length buf.old)) × (buf.new ≡ filled_by (fetch_of c body.now) buf.old) }
 {
     held::fill(c, body, buf);
-    if let FetchStage::Done = c.stage {
-        if buf.len() < 64 {
-            return Outcome::Refused(Refusal::BufferTooSmall);
-        }
+    if matches!(c.stage, FetchStage::Done) && buf.len() < 64 {
+        return Outcome::Refused(Refusal::BufferTooSmall);
     }
     fetch_outcome(c)
 }

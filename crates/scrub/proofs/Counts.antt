@@ -28,7 +28,7 @@ use Rattle.watch.proofs.Laws as watch
 use Rattle.scrub.specs.Scrub.{Scrub, ScrubAt}
 use Rattle.scrub.specs.Step.{agrees, entry_of, begins, to, reports, differs, seen, unread, unwritten, step_at, step_of, outcome_at, outcome_of}
 use Rattle.scrub.specs.Laws.{Tells, TellsAsRead}
-use Rattle.scrub.proofs.Visits.{no, Late, late, late_told}
+use Rattle.scrub.proofs.Visits.{Late, late, late_told}
 
 -- one answer more
 run_on : {S : Type 0} (step : S → Answer → List ℕ → S) (s : S) (xs : List (Answer × List ℕ)) (x : Answer × List ℕ)
@@ -128,11 +128,11 @@ module _ (w : Watch) (l : w.address < 2 ^ 12) where
       rw (append_assoc xs (y ∷ []) ys) at (goes_on_lem (step_at s.at s y.0 y.1) (xs ++ (y ∷ [])) ys (stands_on s g.entry s.at xs y g.at))
 
   told : (at : ScrubAt) (xs : List (Answer × List ℕ)) (r : Report) → outcome_at at ≡ Outcome.Scrubbed r → Stands at xs → Tells r xs
-  told (ScrubAt.Visit count) xs r e t = no cc
-  told (ScrubAt.Write read first) xs r e t = no cc
-  told (ScrubAt.Back read first count) xs r e t = no cc
+  told (ScrubAt.Visit count) xs r e t = cc
+  told (ScrubAt.Write read first) xs r e t = cc
+  told (ScrubAt.Back read first count) xs r e t = cc
   told (ScrubAt.Told o) xs r e t = let z : o ≡ r = cc in subst (λ (q : Report). Tells q xs) z t
-  told (ScrubAt.Refused o) xs r e t = no cc
+  told (ScrubAt.Refused o) xs r e t = cc
 
   -- a step that stands at its visit tells so, whatever it reports
   pub tells_so : (s : Scrub) (xs : List (Answer × List ℕ)) (r : Report) → s.entry ≡ w → s.at ≡ ScrubAt.Visit 0 → outcome_of (run step_of s xs) ≡ Outcome.Scrubbed r
@@ -149,7 +149,7 @@ unfolding begins
 tells_begun p ws rewrite xs r (Ok b) e h = tells_so (entry_of b) (short _ ((watch.laws).due_carried p ws b e)) (begins p (Ok b) rewrite) xs r refl refl h
 tells_begun p ws rewrite xs r (Err o) e h =
     let l : Late p (run step_of (begins p (Err o) rewrite) xs) = late p (begins p (Err o) rewrite) (record { place = refl; why = o; at = refl }) xs in
-    no (late_told (run step_of (begins p (Err o) rewrite) xs) r l.why l.at h)
+    absurd (late_told (run step_of (begins p (Err o) rewrite) xs) r l.why l.at h)
 
 pub tells_as_read_lem : TellsAsRead
 tells_as_read_lem p ws rewrite xs r h = tells_begun p ws rewrite xs r (start_of p ws) refl h

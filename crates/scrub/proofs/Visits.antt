@@ -28,10 +28,6 @@ use Rattle.scrub.specs.Laws.{stepped, address_of, Moves, Waits, Stays, NeverRefu
 
 -- ---- one step
 
--- two constructors are not alike
-pub no : {X : Type 0} → ◌≡◌ {A = ℕ} 0 1 → X
-no e = absurd (omega (arith, e))
-
 -- an answer to a step that runs: it reports of its entry, or runs on
 by_step : (P : Scrub → Type 0) (at : ScrubAt) (s : Scrub) (a : Answer) (rx : List ℕ) → outcome_at at ≡ Outcome.Running
     → ((r : Report) → address_of r ≡ s.entry.address → P (reports s r)) → ((k : ScrubAt) → outcome_at k ≡ Outcome.Running → P (to s k)) → P (step_at at s a rx)
@@ -41,13 +37,13 @@ by_step P (ScrubAt.Visit count) s a rx e f g =
 by_step P (ScrubAt.Write read first) s a rx e f g = by_done P (λ r. f _ refl) (done_reply Refusal.SpiRead a (length rx) 0) (g _ refl)
 by_step P (ScrubAt.Back read first count) s a rx e f g =
     by_checked P (λ r. f _ refl) (crc_reply Refusal.SpiRead s.entry.address a rx) (by_if P (ltb count 2) (λ z. g _ refl) (λ z. f _ refl)) (λ w. f _ refl)
-by_step P (ScrubAt.Told r) s a rx e f g = no cc
-by_step P (ScrubAt.Refused r) s a rx e f g = no cc
+by_step P (ScrubAt.Told r) s a rx e f g = cc
+by_step P (ScrubAt.Refused r) s a rx e f g = cc
 
 pub never_refused_lem : NeverRefused
 unfolding step_of outcome_of
 never_refused_lem s a rx r e =
-    by_step (λ x. outcome_at x.at ≡ Outcome.Refused r → ⊥) s.at s a rx e (λ o q h. no cc) (λ k q h. no cc)
+    by_step (λ x. outcome_at x.at ≡ Outcome.Refused r → ⊥) s.at s a rx e (λ o q h. cc) (λ k q h. cc)
 
 -- a visit from place p of the entry w, behind which lies q: while it runs it is there still, and where it reported it has moved on
 pub record Going (p q : ℕ) (w : Watch) (s : Scrub) : Type 0 where
@@ -59,7 +55,7 @@ pub record Going (p q : ℕ) (w : Watch) (s : Scrub) : Type 0 where
 module _ (p q : ℕ) (w : Watch) where
   -- after the end nothing is reported
   ended : (s : Scrub) → Going p q w s → Going p q w (to s (ScrubAt.Refused Refusal.WrongAnswer))
-  ended s g = record { behind = g.behind; entry = g.entry; waits = λ e. no cc; tells = λ r e. no cc }
+  ended s g = record { behind = g.behind; entry = g.entry; waits = λ e. cc; tells = λ r e. cc }
 
   runs : (at : ScrubAt) (s : Scrub) (a : Answer) (rx : List ℕ) → outcome_at at ≡ Outcome.Running → s.place ≡ p → Going p q w s → Going p q w (step_at at s a rx)
   runs at s a rx e here g =
@@ -68,10 +64,10 @@ module _ (p q : ℕ) (w : Watch) where
       record {
         behind = g.behind;
         entry = g.entry;
-        waits = λ h. no cc;
+        waits = λ h. cc;
         tells = λ o h. let z : r ≡ o = cc in (g.behind, ap address_of (sym z) ∙ is ∙ ap (λ (x : Watch). x.address) g.entry);
       })
-      (λ k is. record { behind = g.behind; entry = g.entry; waits = λ h. here; tells = λ o h. no cc })
+      (λ k is. record { behind = g.behind; entry = g.entry; waits = λ h. here; tells = λ o h. cc })
 
   goes_at : (at : ScrubAt) (s : Scrub) (a : Answer) (rx : List ℕ) → s.at ≡ at → Going p q w s → Going p q w (step_at at s a rx)
   goes_at (ScrubAt.Told r) s a rx is g = ended s g
@@ -109,13 +105,13 @@ module _ (p : ℕ) (ws : List Watch) (rewrite : Bool) where
       by_if (λ (b : Result Begun Refusal). Q (begins p b rewrite)) (eqb (length ws) 0) (λ e. f _ (record { place = refl; why = Refusal.EmptyList; at = refl }))
       (λ e.
       by_if (λ (b : Result Begun Refusal). Q (begins p b rewrite)) (not (all_carried ws)) (λ h. f _ (record { place = refl; why = Refusal.NotCarried; at = refl }))
-      (λ h. g _ (record { behind = refl; entry = refl; waits = λ e. refl; tells = λ r e. no cc }) refl))
+      (λ h. g _ (record { behind = refl; entry = refl; waits = λ e. refl; tells = λ r e. cc }) refl))
 
   -- after any answers
   by_run : (xs : List (Answer × List ℕ)) (Q : Scrub → Type 0) → ((s : Scrub) → Late p s → Q s) → ((s : Scrub) → Going p q (entry_in p ws) s → Q s) → Q (stepped p ws rewrite xs)
   by_run xs Q f g = by_start (λ s. Q (run step_of s xs)) (λ s l. f _ (late p s l xs)) (λ s l e. g _ (goes p q (entry_in p ws) s xs l))
 
-pub late_told : (s : Scrub) (r : Report) (w : Refusal) → s.at ≡ ScrubAt.Refused w → outcome_of s ≡ Outcome.Scrubbed r → ◌≡◌ {A = ℕ} 0 1
+pub late_told : (s : Scrub) (r : Report) (w : Refusal) → s.at ≡ ScrubAt.Refused w → outcome_of s ≡ Outcome.Scrubbed r → ⊥
 unfolding outcome_of
 late_told s r w e h = let k : Outcome.Refused w ≡ Outcome.Scrubbed r = ap outcome_at (sym e) ∙ h in cc
 
@@ -124,7 +120,7 @@ unfolding outcome_of
 moves p ws rewrite xs r =
     by_run p ws rewrite xs
     (λ s. outcome_of s ≡ Outcome.Scrubbed r → (s.place ≡ place_in p (length ws) + 1) × (s.entry ≡ entry_in p ws) × (address_of r ≡ (entry_in p ws).address))
-    (λ s l h. no (late_told s r l.why l.at h))
+    (λ s l h. absurd (late_told s r l.why l.at h))
     (λ s g h. let (at, of) = g.tells r h in (at, g.entry, of))
 
 pub waits : Waits
@@ -137,7 +133,7 @@ unfolding outcome_of
 stays p ws rewrite r =
     by_start p ws rewrite (λ s. outcome_of s ≡ Outcome.Refused r → (xs : List (Answer × List ℕ)) → (run step_of s xs).place ≡ p)
     (λ s l h xs. (late p s l xs).place)
-    (λ s g e h xs. let k : Outcome.Running ≡ Outcome.Refused r = ap outcome_at (sym e) ∙ h in no cc)
+    (λ s g e h xs. let k : Outcome.Running ≡ Outcome.Refused r = ap outcome_at (sym e) ∙ h in cc)
 
 -- ---- n steps over a list of n
 

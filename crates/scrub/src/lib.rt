@@ -121,18 +121,13 @@ fn tells(c: ScrubNumbers, stage: ScrubStage, why: Refusal) -> ScrubNumbers
     }
 }
 
-// A mismatch: another try at the stage, or the end without the word. Three tries: two mismatches are followed by another.
+// A mismatch: another try at the stage, as in a checked read, or the end without the word.
 fn mismatched(c: ScrubNumbers, stage: ScrubStage, lost: ScrubStage) -> ScrubNumbers
     ensures { result ≡ again c.count (telling c lost) (standing c stage) }
 {
-    if c.count < 2 {
-        ScrubNumbers {
-            stage,
-            count: c.count + 1,
-            ..c
-        }
-    } else {
-        tells(c, lost, Refusal::CrcMismatch)
+    match register::again(c.count) {
+        Ok(count) => ScrubNumbers { stage, count, ..c },
+        Err(why) => tells(c, lost, why),
     }
 }
 

@@ -1,13 +1,13 @@
 -- What a step over a list begins with.
 -- Assumes nothing.
-use mathlib.Core.Path.{◌≡◌, sym, subst}
+use mathlib.Core.Path.{◌≡◌}
 use Prim.Native.Nat.{ℕ, ◌^◌, ◌<◌}
 use mathlib.Core.Bool.{true, false}
 use mathlib.Core.List.{List}
-use lib.Dec.{T, eqb, ltb, ltb→lt}
+use lib.Dec.{eqb, ltb}
 use lib.ListN.{length, get_or}
 use native.Mathlib.Omega.{arith}
-use borrow.Author.Tests.{eqb-false}
+use borrow.Author.Tests.{ltb-true, eqb-false}
 use Rattle.std.proofs.lemmas.List.Elements.{All-get_or}
 use Rattle.std.proofs.lemmas.List.Sums.{AllPass-from_list_all}
 use Rattle.laws.proofs.Choice.{by_if}
@@ -16,12 +16,9 @@ use Rattle.place.proofs.Laws.{short}
 use Rattle.watch.specs.Watch.{blank, all_carried, place_in, entry_in}
 use Rattle.watch.specs.declared.Watch.{Watch}
 
-below : (i n : ℕ) → ltb i n ≡ true → i < n
-below i n e = ltb→lt i n (subst T (sym e) tt)
-
 -- where a list has entries, the place to visit is one of theirs
 within : (p n : ℕ) → eqb n 0 ≡ false → place_in p n < n
-within p n e = by_if (λ (k : ℕ). k < n) (ltb p n) (below p n) (λ _. omega (arith, eqb-false n 0 e))
+within p n e = by_if (λ (k : ℕ). k < n) (ltb p n) (ltb-true p n) (λ _. omega (arith, eqb-false n 0 e))
 
 carried_at : (ws : List Watch) (i : ℕ) (d : Watch) → i < length ws → all_carried ws ≡ true → is_carried (get_or ws i d).address ≡ true
 carried_at ws i d h f = All-get_or (λ w. is_carried w.address ≡ true) ws i d h (AllPass-from_list_all (λ w. is_carried w.address) ws f)
