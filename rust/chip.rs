@@ -63,7 +63,7 @@ impl Chip {
     /// A frame arrives for a FIFO, at this time. Its payload is as long as its DLC means: DLC 0 to 8 as many bytes, 9 to 15 in an FD frame
     /// 12, 16, 20, 24, 32, 48 or 64, in a classic one 8. Another length is 22, and so is a DLC above 15.
     pub fn deliver(&mut self, fifo: u32, header: Header, dlc: u32, time: u32, payload: &[u8]) -> Result<(), Undelivered> {
-        let delivered = bus::deliver(self.model, fifo, header, dlc, time, payload);
+        let delivered = bus::deliver(self.model, fifo, bus::Arrival { header, dlc, time, payload });
         self.model = delivered.model;
         delivered.delivery
     }
@@ -71,7 +71,7 @@ impl Chip {
     /// A frame arrives, at this time, and the filters sort it: the lowest-numbered enabled one that matches gives it to its FIFO. DLC and
     /// payload are as in a delivery.
     pub fn sort(&mut self, header: Header, dlc: u32, time: u32, payload: &[u8]) -> Sorted {
-        let sorted = bus::sort(self.model, header, dlc, time, payload);
+        let sorted = bus::sort(self.model, bus::Arrival { header, dlc, time, payload });
         self.model = sorted.model;
         Sorted { delivery: sorted.delivery, fifo: sorted.fifo, filter: sorted.filter }
     }

@@ -1,8 +1,7 @@
 // What stands between calls: bus steps, raw exchanges, what a FIFO or the transmit queue holds, a new chip. Each is done and written.
 #![tactic(auto)]
 
-use bus::{Sent, Undelivered, Unsent};
-use header::Header;
+use bus::{Arrival, Sent, Undelivered, Unsent};
 use lines::Writer;
 use message::{Frame, Undecoded};
 use model::Heard;
@@ -17,15 +16,6 @@ use state::Model;
 pub struct Chip {
     pub to: Streams,
     pub model: Model,
-}
-
-// A frame that arrives.
-#[derive(Clone, Copy)]
-struct Arrival<'a> {
-    header: Header,
-    dlc: u32,
-    time: u32,
-    payload: &'a [u8],
 }
 
 // The DLC that a payload's length has; 16, which is refused by the same number, where it has none.
@@ -120,7 +110,7 @@ impl Chip {
     fn delivered(&mut self, n: u32, f: Arrival<'_>, words: &[u8]) {
         let mut buffer = [0u8; 64];
         let mut out = Writer::new(&mut buffer);
-        let d = bus::deliver(self.model, n, f.header, f.dlc, f.time, f.payload);
+        let d = bus::deliver(self.model, n, f);
         put_delivery(&mut out, d.delivery);
         self.answered(words, out.text());
         self.model = d.model;
@@ -130,7 +120,7 @@ impl Chip {
     fn sorted(&mut self, f: Arrival<'_>, words: &[u8]) {
         let mut buffer = [0u8; 64];
         let mut out = Writer::new(&mut buffer);
-        let s = bus::sort(self.model, f.header, f.dlc, f.time, f.payload);
+        let s = bus::sort(self.model, f);
         put_delivery(&mut out, s.delivery);
         if s.delivery.is_ok() {
             out.byte(b' ');

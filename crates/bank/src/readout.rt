@@ -42,7 +42,7 @@ pub fn shown_at(m: Model, n: u8) -> usize
     ensures { (result ≡ shown_at m n) × (result ≤ 1000000) }
 {
     let k = ring::shown(frozen_at(m, n), fifo_at(m, n));
-    ring::slot_at(m.fixed.queue, &m.fixed.frozen, n, k)
+    m.fixed.slot_at(n, k)
 }
 
 #[tactic(auto, unfolding(crate::specs::Registers::word_of))]
@@ -70,7 +70,7 @@ fn address_word(m: Model, n: u8) -> u32
 fn queue_shown(m: Model) -> usize
     ensures { (result ≡ queue_shown m) × (result ≤ 1000000) }
 {
-    ring::slot_at(m.fixed.queue, &m.fixed.frozen, 0, m.queue.shown as u32)
+    m.fixed.slot_at(0, m.queue.shown as u32)
 }
 
 fn queue_acts(m: Model) -> bool
@@ -99,7 +99,7 @@ fn queue_address_word(m: Model) -> u32
     0
 }
 
-#[tactic(auto, unfolding(crate::specs::Registers::word_of))]
+#[tactic(auto, unfolding(crate::specs::Registers::word_of, ring::specs::Registers::control))]
 pub fn word(m: Model, r: Register) -> u32
     ensures { result ≡ word_of m r }
 {
@@ -113,7 +113,7 @@ pub fn word(m: Model, r: Register) -> u32
         Register::Control(n) => ring::control(frozen_at(m, n), fifo_at(m, n)),
         Register::Status(n) => status_word(m, n),
         Register::Address(n) => address_word(m, n),
-        Register::QueueControl => ring::control_word(frozen_at(m, 0), m.queue.control),
+        Register::QueueControl => ring::control(frozen_at(m, 0), m.queue),
         Register::QueueStatus => queue_status_word(m),
         Register::QueueAddress => queue_address_word(m),
     }

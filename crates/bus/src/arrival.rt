@@ -13,6 +13,15 @@ use header::Header;
 use spi::Refusal;
 use state::{Model, fifo_at, frozen_at};
 
+// A frame that arrives, and when.
+#[derive(Clone, Copy)]
+pub struct Arrival<'a> {
+    pub header: Header,
+    pub dlc: u32,
+    pub time: u32,
+    pub payload: &'a [u8],
+}
+
 // Why a frame is not delivered: it is refused, or its FIFO turns it down.
 #[derive(Clone, Copy)]
 pub enum Undelivered {
@@ -90,32 +99,25 @@ fn appended(m: Model, n: u8, len: usize, object: &[u8]) -> Delivered
 
 // A FIFO is given a frame that filter `hit` took.
 #[tactic(auto, using(crate::proofs::Answers::arriving_most, crate::proofs::Answers::fits, crate::proofs::Answers::front), unfolding(crate::specs::Bus::give))]
-pub fn give(
-    m: Model,
-    n: u8,
-    hit: u32,
-    dlc: u32,
-    header: Header,
-    time: u32,
-    payload: &[u8],
-) -> Delivered
-    requires { (header.id ≤ top_id header.extended) × Fits DLC dlc × Fits FILHIT hit × (length payload.now ≤ 64) }
-    ensures { result ≡ give m n hit dlc header time payload.now }
+pub fn give(m: Model, n: u8, hit: u32, a: Arrival<'_>) -> Delivered
+    requires { (a.header.id ≤ top_id a.header.extended) × Fits DLC a.dlc × Fits FILHIT hit × (length a.payload.now ≤ 64) }
+    ensures { let f = a.entry in result ≡ give m n hit f.dlc f.header f.time f.payload.now }
 {
     let mut object = [0u8; 76];
-    let len = message::arrive(header, dlc, hit, stamp_of(m, n, time), payload, &mut object);
-    appended(m, n, payload.len(), &object[..len])
+    let stamp = stamp_of(m, n, a.time);
+    let len = message::arrive(a.header, a.dlc, hit, stamp, a.payload, &mut object);
+    appended(m, n, a.payload.len(), &object[..len])
 }
 
 #[tactic(auto, unfolding(crate::specs::Bus::deliver_of))]
-pub fn deliver(m: Model, n: u32, header: Header, dlc: u32, time: u32, payload: &[u8]) -> Delivered
-    ensures { result ≡ deliver_of m n header dlc time payload.now }
+pub fn deliver(m: Model, n: u32, a: Arrival<'_>) -> Delivered
+    ensures { let f = a.entry in result ≡ deliver_of m n f.header f.dlc f.time f.payload.now }
 {
     if !fifo::is_fifo(n) {
         return told(Err(Undelivered::Refused(Refusal::BadNumber)), m);
     }
-    match message::check_arrival(header, dlc, payload.len()) {
-        Ok(()) => give(m, n as u8, 0, dlc, header, time, payload),
+    match message::check_arrival(a.header, a.dlc, a.payload.len()) {
+        Ok(()) => give(m, n as u8, 0, a),
         Err(r) => told(Err(Undelivered::Refused(r)), m),
     }
 }

@@ -31,7 +31,7 @@ pub fn slot_of(m: Model, n: u8, k: u8) -> usize
 {
     let f = fifo_at(m, n);
     let p = ring::place(ring::depth(frozen_at(m, n)), f.head, k);
-    ring::slot_at(m.fixed.queue, &m.fixed.frozen, n, p)
+    m.fixed.slot_at(n, p)
 }
 
 #[tactic(auto, unfolding(crate::specs::Held::item_at))]

@@ -7,7 +7,7 @@ mod held;
 mod queue;
 mod sorting;
 
-pub use arrival::{Delivered, Undelivered, deliver};
+pub use arrival::{Arrival, Delivered, Undelivered, deliver};
 pub use departure::{Sent, Unsent, send};
 pub use held::{held_at, held_len};
 pub use queue::{queue_holds, queue_item, send_queue};

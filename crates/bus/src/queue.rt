@@ -16,14 +16,14 @@ use state::{Model, frozen_at};
 fn queue_slot(m: Model, k: u8) -> usize
     ensures { (result ≡ queue_slot m k) × (result ≤ 1000000) }
 {
-    ring::slot_at(m.fixed.queue, &m.fixed.frozen, 0, k as u32)
+    m.fixed.slot_at(0, k as u32)
 }
 
 #[tactic(auto, unfolding(crate::specs::Queue::queue_holds))]
 pub fn queue_holds(m: Model, k: u8) -> bool
     ensures { result ≡ queue_holds m k }
 {
-    m.fixed.queue && (k as u32) < ring::depth(frozen_at(m, 0)) && m.queue.held[k as usize] == 1
+    m.fixed.queue && (k as u32) < ring::depth(frozen_at(m, 0)) && m.queue.held[k as usize]
 }
 
 #[tactic(auto, unfolding(crate::specs::Queue::queue_item))]
@@ -91,7 +91,7 @@ fn winner(m: Model) -> Option<u8>
     let size = ring::size(frozen);
     let mut best = None;
     for i in (0..ring::depth(frozen)).rev() {
-        if m.queue.held[i as usize] == 1 {
+        if m.queue.held[i as usize] {
             best = Some(better(&m.ram, size, i as u8, best));
         }
     }

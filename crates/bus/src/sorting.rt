@@ -4,7 +4,7 @@ ghost use Rattle.field.specs.Field.{Fits};
 ghost use Rattle.header.specs.Header.{DLC, top_id};
 ghost use Rattle.bus.specs.Sort.{filter_for, target_for, by_filter, unsorted, filtered, sort_of};
 
-use crate::{Delivered, Undelivered, arrival};
+use crate::{Arrival, Delivered, Undelivered, arrival};
 use configuration::CanControl;
 use filters::{Filters, Identifier};
 use header::Header;
@@ -70,28 +70,27 @@ fn target_for(m: Model, f: u8) -> u32
     filters_of(&m.setup).target_of(f)
 }
 
-fn filtered(m: Model, dlc: u32, header: Header, time: u32, payload: &[u8]) -> Sorted
-    requires { (header.id ≤ top_id header.extended) × Fits DLC dlc × (length payload.now ≤ 64) }
-    ensures { result ≡ filtered m dlc header time payload.now }
+fn filtered(m: Model, a: Arrival<'_>) -> Sorted
+    requires { (a.header.id ≤ top_id a.header.extended) × Fits DLC a.dlc × (length a.payload.now ≤ 64) }
+    ensures { let f = a.entry in result ≡ filtered m f.dlc f.header f.time f.payload.now }
 {
     if CanControl(m.setup.con).dncnt() != 0 {
         return unsorted(Refusal::DeviceNet, m);
     }
-    let f = filter_for(m, header);
+    let f = filter_for(m, a.header);
     if 32 <= f {
         return unsorted(Refusal::NoMatch, m);
     }
     let n = target_for(m, f as u8);
-    let d = arrival::give(m, n as u8, f, dlc, header, time, payload);
-    by_filter(d, n, f)
+    by_filter(arrival::give(m, n as u8, f, a), n, f)
 }
 
 #[tactic(auto, unfolding(crate::specs::Sort::sort_of))]
-pub fn sort(m: Model, header: Header, dlc: u32, time: u32, payload: &[u8]) -> Sorted
-    ensures { result ≡ sort_of m header dlc time payload.now }
+pub fn sort(m: Model, a: Arrival<'_>) -> Sorted
+    ensures { let f = a.entry in result ≡ sort_of m f.header f.dlc f.time f.payload.now }
 {
-    match message::check_arrival(header, dlc, payload.len()) {
-        Ok(()) => filtered(m, dlc, header, time, payload),
+    match message::check_arrival(a.header, a.dlc, a.payload.len()) {
+        Ok(()) => filtered(m, a),
         Err(r) => unsorted(r, m),
     }
 }

@@ -238,8 +238,8 @@ module _ (a n : ℕ) where
     unfolding queue_slot
     sent_clear on k l h =
         clear on k l
-        (at_set (λ i x. eqb x 1 ≡ true → is_held c.queue i ≡ true) c.queue.held (winner c) 0 0 (λ z. absurd (false≢true z)) (λ i z. z) k
-        (ap (λ (x : List ℕ). eqb (get_or x k 0) 1) (sym (sent_flags (frozen_at c 0) c.queue (winner c))) ∙ h))
+        (at_set (λ i x. x ≡ true → is_held c.queue i ≡ true) c.queue.held (winner c) false false (λ z. absurd (false≢true z)) (λ i z. z) k
+        (ap (λ (x : List Bool). get_or x k false) (sym (sent_flags (frozen_at c 0) c.queue (winner c))) ∙ h))
 
     step_clear : (b : Bus) → Clear (stepped b c)
     unfolding stepped send_model queue_model queue_slot

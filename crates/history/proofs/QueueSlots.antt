@@ -58,7 +58,7 @@ queue_like c d e h b = held_in_lem d ∙ ap (λ (x : Fixed). held_in x d.queue d
         → (if on then gather (is_held d.queue) (λ k. decoding true false (part d.ram (slot_at c.fixed.queue c.fixed.frozen 0 k) (size (frozen_at c 0)))) 0 (queue_depth c) else [])
         ≡ (if on then gather (is_held c.queue) (λ k. decoding true false (part c.ram (slot_at c.fixed.queue c.fixed.frozen 0 k) (size (frozen_at c 0)))) 0 (queue_depth c) else [])
     go true b =
-        gather_same (is_held c.queue) (is_held d.queue) _ _ 0 (queue_depth c) (λ j x y. ap (λ (l : List ℕ). eqb (get_or l j 0) 1) h)
+        gather_same (is_held c.queue) (is_held d.queue) _ _ 0 (queue_depth c) (λ j x y. ap (λ (l : List Bool). get_or l j false) h)
         (λ j x y z. ap (decoding true false) (b refl j (omega arith) z))
     go false b = refl
 
@@ -159,7 +159,7 @@ unfolding queue.freed
 sent_open c s k l f = go (full (frozen_at c 0) (queue.sent (frozen_at c 0) k c.queue)) refl
   where
     free : is_held (queue.sent (frozen_at c 0) k c.queue) k ≡ false
-    free = ap (λ (x : List ℕ). eqb (get_or x k 0) 1) (sent_flags (frozen_at c 0) c.queue k) ∙ flag_same c.queue.held k 0 (omega (arith, s.valid.queue.held, depth_most (frozen_at c 0)))
+    free = ap (λ (x : List Bool). get_or x k false) (sent_flags (frozen_at c 0) c.queue k) ∙ flag_same c.queue.held k false (omega (arith, s.valid.queue.held, depth_most (frozen_at c 0)))
 
     go : (b : Bool) → full (frozen_at c 0) (queue.sent (frozen_at c 0) k c.queue) ≡ b → full (frozen_at c 0) (queue.sent (frozen_at c 0) k c.queue) ≡ false
     go true e = absurd (false≢true (sym free ∙ (full_means_lem (frozen_at c 0) (queue.sent (frozen_at c 0) k c.queue)).0 e k l))

@@ -5,7 +5,7 @@ use Prim.Native.Nat.{ℕ, ◌+◌, ◌≤◌}
 use native.Mathlib.Omega.{arith}
 use borrow.Author.Tests.{ltb-false}
 use mathlib.Core.Path.{◌≡◌, refl, ap, ◌∙◌, subst, ap₂}
-use mathlib.Core.Bool.{true, false}
+use mathlib.Core.Bool.{Bool, true, false}
 use mathlib.Core.List.Perm
 use mathlib.Core.List.{List, [], ◌∷◌, ◌++◌, Perm, perm_append_singleton}
 use lib.Dec.{ltb, eqb}
@@ -112,7 +112,7 @@ module _ (c : Model) (o : Sound c) (header : Header) (seq : ℕ) (payload bs : L
       rw (held_on c on, held_on (with_queue c (queue.claimed z v)) on)
       (Perm.trans (perm_append_singleton (holds sent) (gather (is_held c.queue) (queue_item c) 0 (depth z)))
       (subst (λ (x : List Decoding). Perm x (gather (is_held (queue.claimed z v)) (queue_item c) 0 (depth z)))
-      (ap₂ (λ (x : Decoding) (y : List ℕ). x ∷ gather (λ j. eqb (get_or y j 0) 1) (queue_item c) 0 (depth z)) item vh) (Perm.symm more)))
+      (ap₂ (λ (x : Decoding) (y : List Bool). x ∷ gather (λ j. get_or y j false) (queue_item c) 0 (depth z)) item vh) (Perm.symm more)))
 
 module _ (X : ℕ → Type 0) {U : Type 0} (c : Model) (o : Sound c) (q : Asked X c) (t : List Said) (l : Listed c t) (e : Tale U c t)
     (header : Header) (seq : ℕ) (payload bs : List ℕ) (p : Plan) (f : Fetch) (coded : encoding (push.to_send header seq payload) ≡ Encoding.object bs) where

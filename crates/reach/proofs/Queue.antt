@@ -144,7 +144,7 @@ queue_send_takes_lem m r (q, t) some =
     let is : queue_model m ≡ with_queue m (queue.sent w k m.queue) = rw e in
     let left : held_queue (queue_model m) ≡ gather (is_held (queue.sent w k m.queue)) (queue_item m) 0 (depth w) = ap held_queue is ∙ held_sent on w k in
     let freed : gather (is_held (queue.sent w k m.queue)) (queue_item m) 0 (depth w) ≡ gather (is_held (queue.freed w k m.queue)) (queue_item m) 0 (depth w)
-    = ap (λ (l : List ℕ). gather (λ j. eqb (get_or l j 0) 1) (queue_item m) 0 (depth w)) (sent_flags w m.queue k ∙ sym (freed_flags w m.queue k)) in
+    = ap (λ (l : List Bool). gather (λ j. get_or l j false) (queue_item m) 0 (depth w)) (sent_flags w m.queue k ∙ sym (freed_flags w m.queue k)) in
     let reads = ap (λ (x : Model). read TXREQ (word_of x Register.QueueControl)) is in
     record {
       slot = k;

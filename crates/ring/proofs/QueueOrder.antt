@@ -28,7 +28,7 @@ queue_quiet o = record { uinc = o.uinc; freset = o.freset }
 pub fresh_order : (b on : Bool) (v w : ℕ) → Quiet b w → InOrder b on v (fresh w)
 unfolding fresh
 fresh_order b on v w c = record {
-  held = length-replicate {A = ℕ} 32 0;
+  held = length-replicate {A = Bool} 32 false;
   shown = depth_least v;
   vacant = λ e. refl;
   uinc = c.uinc;
@@ -72,7 +72,7 @@ module _ (v : ℕ) (q : Queue) (o : InOrder false true v q) where
   marked_order : full v (marked q) ≡ true → InOrder false true v (marked q)
   unfolding marked
   marked_order e = record {
-    held = length-set q.held q.shown 1 ∙ o.held;
+    held = length-set q.held q.shown true ∙ o.held;
     shown = o.shown;
     vacant = λ f. clash f e;
     uinc = o.uinc;
@@ -86,7 +86,7 @@ module _ (v : ℕ) (q : Queue) (o : InOrder false true v q) where
   next_order : full v (marked q) ≡ false → InOrder false true v (showing (free v (marked q)) (marked q))
   unfolding marked showing
   next_order e = record {
-    held = length-set q.held q.shown 1 ∙ o.held;
+    held = length-set q.held q.shown true ∙ o.held;
     shown = free_lt v (marked q) e;
     vacant = λ f. free_vacant v (marked q) e;
     uinc = o.uinc;
@@ -104,10 +104,10 @@ module _ (on : Bool) (v : ℕ) (q : Queue) (o : InOrder false on v q) where
   pub freed_order : (k : ℕ) → k < depth v → InOrder false on v (freed v k q)
   unfolding freed
   freed_order k l =
-      let at = flag_same q.held k 0 (omega (arith, depth_most v, o.held)) in
-      let kept : (j : ℕ) → is_held q j ≡ false → is_held (freed v k q) j ≡ false = λ j h. same? j k (λ i. rw i at) (λ ne. flag_other q.held k 0 j ne ∙ h) in
+      let at = flag_same q.held k false (omega (arith, depth_most v, o.held)) in
+      let kept : (j : ℕ) → is_held q j ≡ false → is_held (freed v k q) j ≡ false = λ j h. same? j k (λ i. rw i at) (λ ne. flag_other q.held k false j ne ∙ h) in
       record {
-        held = length-set q.held k 0 ∙ o.held;
+        held = length-set q.held k false ∙ o.held;
         shown = by_if (λ (j : ℕ). j < depth v) (full v q) (λ e. l) (λ e. o.shown);
         vacant = λ x. by_if (λ (j : ℕ). is_held (freed v k q) j ≡ false) (full v q) (λ e. at) (λ e. kept q.shown (o.vacant e));
         uinc = o.uinc;

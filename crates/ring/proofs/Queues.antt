@@ -6,7 +6,6 @@ use mathlib.Core.Bool.{Bool, true, false, not}
 use mathlib.Core.List.{List, [], ◌∷◌, Perm}
 use native.Mathlib.Omega.{arith}
 use borrow.Author.Tests.{not-true}
-use lib.Dec.{eqb}
 use lib.ListN.{length, get_or, set, replicate}
 use lib.Seq.{get_or-set_same, get_or-set_other}
 use Rattle.laws.proofs.Choice.{by_if}
@@ -47,11 +46,11 @@ queue_status_bits_lem frozen q = two (not (full frozen q)) (empty frozen q)
 -- ---- flags
 
 -- a list of flags, one of them set
-pub flag_same : (l : List ℕ) (w v : ℕ) → w < length l → eqb (get_or (set l w v) w 0) 1 ≡ eqb v 1
-flag_same l w v h = rw (get_or-set_same l w v 0 h)
+pub flag_same : (l : List Bool) (w : ℕ) (v : Bool) → w < length l → get_or (set l w v) w false ≡ v
+flag_same l w v h = get_or-set_same l w v false h
 
-pub flag_other : (l : List ℕ) (w v j : ℕ) → (j ≡ w → ⊥) → eqb (get_or (set l w v) j 0) 1 ≡ eqb (get_or l j 0) 1
-flag_other l w v j ne = rw (get_or-set_other l w j v 0 ne)
+pub flag_other : (l : List Bool) (w : ℕ) (v : Bool) (j : ℕ) → (j ≡ w → ⊥) → get_or (set l w v) j false ≡ get_or l j false
+flag_other l w v j ne = get_or-set_other l w j v false ne
 
 module _ (frozen : ℕ) (q : Queue) where
   -- what a claim comes to, either way of the slot shown next
@@ -60,27 +59,27 @@ module _ (frozen : ℕ) (q : Queue) where
   unfolding claimed
   by_claim P e f g = rw e (by_if P (full frozen (marked q)) f g)
 
-  pub claimed_flags : full frozen q ≡ false → (claimed frozen q).held ≡ set q.held q.shown 1
+  pub claimed_flags : full frozen q ≡ false → (claimed frozen q).held ≡ set q.held q.shown true
   unfolding marked showing
-  claimed_flags e = by_claim (λ x. x.held ≡ set q.held q.shown 1) e (λ t. refl) (λ t. refl)
+  claimed_flags e = by_claim (λ x. x.held ≡ set q.held q.shown true) e (λ t. refl) (λ t. refl)
 
-  pub freed_flags : (k : ℕ) → (freed frozen k q).held ≡ set q.held k 0
+  pub freed_flags : (k : ℕ) → (freed frozen k q).held ≡ set q.held k false
   unfolding freed
   freed_flags k = refl
 
-  pub sent_flags : (k : ℕ) → (sent frozen k q).held ≡ set q.held k 0
+  pub sent_flags : (k : ℕ) → (sent frozen k q).held ≡ set q.held k false
   unfolding sent controlled
-  sent_flags k = by_if (λ (x : Queue). x.held ≡ set q.held k 0) (empty frozen (freed frozen k q)) (λ t. freed_flags k) (λ t. freed_flags k)
+  sent_flags k = by_if (λ (x : Queue). x.held ≡ set q.held k false) (empty frozen (freed frozen k q)) (λ t. freed_flags k) (λ t. freed_flags k)
 
 -- no slot is held by a fresh queue
-zeros : (n k : ℕ) → eqb (get_or (replicate n 0) k 0) 1 ≡ false
-zeros zero k = refl
-zeros (suc n) zero = refl
-zeros (suc n) (suc k) = zeros n k
+none_set : (n k : ℕ) → get_or (replicate n false) k false ≡ false
+none_set zero k = refl
+none_set (suc n) zero = refl
+none_set (suc n) (suc k) = none_set n k
 
 pub fresh_held : (w k : ℕ) → is_held (fresh w) k ≡ false
 unfolding fresh
-fresh_held w k = zeros 32 k
+fresh_held w k = none_set 32 k
 
 -- ---- what is held, gathered
 
@@ -89,16 +88,16 @@ module _ {A : Type 0} (frozen : ℕ) (q : Queue) (f : ℕ → A) where
   pub claimed_held : full frozen q ≡ false → q.shown < depth frozen → is_held q q.shown ≡ false → length q.held ≡ 32
       → Perm (gather (is_held (claimed frozen q)) f 0 (depth frozen)) (f q.shown ∷ gather (is_held q) f 0 (depth frozen))
   claimed_held e l o all =
-      let at = flag_same q.held q.shown 1 (omega (arith, depth_most frozen)) in
+      let at = flag_same q.held q.shown true (omega (arith, depth_most frozen)) in
       gather_more (is_held q) (is_held (claimed frozen q)) f q.shown 0 (depth frozen) (omega arith) (omega arith) o
-      (rw (claimed_flags frozen q e) at) (λ j ne. rw (claimed_flags frozen q e) (flag_other q.held q.shown 1 j ne))
+      (rw (claimed_flags frozen q e) at) (λ j ne. rw (claimed_flags frozen q e) (flag_other q.held q.shown true j ne))
 
   -- of a queue r with slot k's flag cleared that slot is gone
-  cleared_held : (k : ℕ) (r : Queue) → r.held ≡ set q.held k 0 → k < depth frozen → is_held q k ≡ true → length q.held ≡ 32
+  cleared_held : (k : ℕ) (r : Queue) → r.held ≡ set q.held k false → k < depth frozen → is_held q k ≡ true → length q.held ≡ 32
       → Perm (gather (is_held q) f 0 (depth frozen)) (f k ∷ gather (is_held r) f 0 (depth frozen))
   cleared_held k r e l is all =
-      let at = flag_same q.held k 0 (omega (arith, depth_most frozen)) in
-      gather_more (is_held r) (is_held q) f k 0 (depth frozen) (omega arith) (omega arith) (rw e at) is (λ j ne. sym (rw e (flag_other q.held k 0 j ne)))
+      let at = flag_same q.held k false (omega (arith, depth_most frozen)) in
+      gather_more (is_held r) (is_held q) f k 0 (depth frozen) (omega arith) (omega arith) (rw e at) is (λ j ne. sym (rw e (flag_other q.held k false j ne)))
 
   pub freed_held : (k : ℕ) → k < depth frozen → is_held q k ≡ true → length q.held ≡ 32
       → Perm (gather (is_held q) f 0 (depth frozen)) (f k ∷ gather (is_held (freed frozen k q)) f 0 (depth frozen))

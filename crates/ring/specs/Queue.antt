@@ -1,7 +1,7 @@
 -- Document 02, request 6: the transmit queue of the modelled chip. Its slots are held in any order, and one is shown. Its depth is that of
 -- `frozen`, its control word as it was last written in Configuration.
 -- Assumes nothing.
-use Rattle.std.specs.Prelude.{ℕ, zero, suc, ◌+◌, ◌*◌, ◌^◌, Bool, true, false, ◌&&◌, not, List, [], ◌∷◌, get_or, set, replicate, ltb, leb, eqb, if◌then◌else◌}
+use Rattle.std.specs.Prelude.{ℕ, zero, suc, ◌+◌, ◌*◌, ◌^◌, Bool, true, false, ◌&&◌, not, List, [], ◌∷◌, get_or, set, replicate, ltb, leb, if◌then◌else◌}
 use Rattle.field.specs.Field.{read, flag, write, digit}
 use Rattle.field.specs.Settings.{◌:=◌, settings}
 use Rattle.fifo.specs.Control.{UINC, TXREQ, FRESET}
@@ -26,7 +26,7 @@ gather p f k (suc n) = if p k then f k ∷ gather p f (k + 1) n else gather p f 
 
 -- slot k is held
 abbrev pub is_held : Queue → ℕ → Bool
-is_held q k = eqb (get_or q.held k 0) 1
+is_held q k = get_or q.held k false
 
 -- the lowest free slot, and the depth where there is none
 unfoldable pub free : ℕ → Queue → ℕ
@@ -48,7 +48,7 @@ status frozen q = settings (TFNRFNIF := digit (not (full frozen q)) ∷ TFERFFIF
 
 -- no slot is held, and slot 0 is shown
 unfoldable pub fresh : ℕ → Queue
-fresh control = record { control = control; held = replicate 32 0; shown = 0 }
+fresh control = record { control = control; held = replicate 32 false; shown = 0 }
 
 -- another control word
 unfoldable pub controlled : ℕ → Queue → Queue
@@ -60,7 +60,7 @@ emptied q = fresh (write TXREQ 0 q.control)
 
 -- the slot shown is held
 unfoldable pub marked : Queue → Queue
-marked q = record { control = q.control; held = set q.held q.shown 1; shown = q.shown }
+marked q = record { control = q.control; held = set q.held q.shown true; shown = q.shown }
 
 -- another slot is shown
 unfoldable pub showing : ℕ → Queue → Queue
@@ -75,7 +75,7 @@ claimed frozen q =
 
 -- slot k is free; when all were held it comes next
 unfoldable pub freed : (frozen k : ℕ) → Queue → Queue
-freed frozen k q = record { control = q.control; held = set q.held k 0; shown = if full frozen q then k else q.shown }
+freed frozen k q = record { control = q.control; held = set q.held k false; shown = if full frozen q then k else q.shown }
 
 -- the message in slot k is sent; TXREQ is cleared when none is left
 unfoldable pub sent : (frozen k : ℕ) → Queue → Queue

@@ -9,6 +9,6 @@ mod slots;
 
 pub use layout::{end, size, slot_at, stamped};
 pub use queue::Queue;
-pub use readings::{control, control_word, status};
+pub use readings::{control, status};
 pub use ring::{Fifo, claimed, depth, overflowed, place, sending, sent, shown};
 pub use slots::{Slots, commanded, configured, turned};

@@ -1,5 +1,5 @@
 // The transmit queue: its slots are held in any order, and one is shown. `frozen` is its control word as last written in Configuration.
-ghost use Rattle.std.specs.Prelude.{◌≡◌, not, ◌≤◌, ◌<◌, eqb, get_or, set, if◌then◌else◌};
+ghost use Rattle.std.specs.Prelude.{◌≡◌, false, not, ◌≤◌, ◌<◌, get_or, set, if◌then◌else◌};
 ghost use Rattle.ring.specs.Queue.{first_not, free, full, empty, status, fresh, controlled, marked, claimed, freed, sent, configured, commanded, turned, rank_of};
 ghost use Rattle.ring.specs.Slots.{queue_word, queue_increased, queue_configures, queue_commands, queue_enters, queue_leaves};
 
@@ -11,21 +11,21 @@ use fifo::FifoStatus;
 pub struct Queue {
     // The control word as last written; UINC is 0 in it, and so is FRESET outside Configuration.
     pub control: u32,
-    // 1: the slot is held.
-    pub held: [u8; 32],
+    // Which slots are held.
+    pub held: [bool; 32],
     // The slot that is shown.
     pub shown: u8,
 }
 
 // ---- what is held
 
-// How many slots come before the first that is not held, or with `on` false is held.
-fn run(held: &[u8; 32], on: bool, depth: u32) -> u32
+// How many slots come before the first that is not so.
+fn run(held: &[bool; 32], on: bool, depth: u32) -> u32
     requires { depth ≤ 32 }
-    ensures { (result ≡ first_not (λ k. if on then eqb (get_or held.now k 0) 1 else not (eqb (get_or held.now k 0) 1)) 0 depth) × (result ≤ depth) }
+    ensures { (result ≡ first_not (λ k. if on then get_or held.now k false else not (get_or held.now k false)) 0 depth) × (result ≤ depth) }
 {
     for k in 0..depth {
-        if (held[k as usize] == 1) != on {
+        if held[k as usize] != on {
             return k;
         }
     }
@@ -65,7 +65,7 @@ pub fn status(frozen: u32, q: Queue) -> u32
 // ---- changes
 
 // The flags with slot k's; there is none behind slot 31.
-fn flagged(held: [u8; 32], k: u8, on: u8) -> [u8; 32]
+fn flagged(held: [bool; 32], k: u8, on: bool) -> [bool; 32]
     ensures { result ≡ set held k on }
 {
     let mut flags = held;
@@ -80,7 +80,7 @@ fn marked(q: Queue) -> Queue
     ensures { result ≡ marked q }
 {
     Queue {
-        held: flagged(q.held, q.shown, 1),
+        held: flagged(q.held, q.shown, true),
         ..q
     }
 }
@@ -117,7 +117,7 @@ pub fn freed(frozen: u32, k: u8, q: Queue) -> Queue
     ensures { result ≡ freed frozen k q }
 {
     Queue {
-        held: flagged(q.held, k, 0),
+        held: flagged(q.held, k, false),
         shown: next(frozen, k, q),
         ..q
     }
@@ -165,7 +165,7 @@ impl Slots for Queue {
     fn fresh(word: u32) -> Queue {
         Queue {
             control: word,
-            held: [0; 32],
+            held: [false; 32],
             shown: 0,
         }
     }

@@ -1,29 +1,22 @@
 // A FIFO's registers as they read.
 ghost use Rattle.std.specs.Prelude.{◌≡◌, false, if◌then◌else◌};
 ghost use Rattle.ring.specs.Ring.{sending};
-ghost use Rattle.ring.specs.Registers.{frozen_fields, copied, control, ready, edge, status};
+ghost use Rattle.ring.specs.Registers.{frozen_fields, copied, ready, edge, status};
 
-use crate::{Fifo, depth, sending};
+use crate::{Fifo, Slots, depth, sending};
 use fifo::{ControlWord, FifoControl, FifoStatus};
 
+// A control word as it reads.
 #[tactic(auto, using(crate::proofs::Words::digit_bit))]
-// A control word as it reads: `last` is what was last written.
-pub fn control_word(frozen: u32, last: u32) -> u32
-    ensures { result ≡ copied frozen_fields frozen last }
+pub fn control<S: Slots>(frozen: u32, s: S) -> u32
+    ensures { result ≡ copied frozen_fields frozen (S.word_of s) }
 {
     let w = FifoControl(frozen);
-    let a = FifoControl(last).with_rxtsen(w.rxtsen());
+    let a = FifoControl(s.word()).with_rxtsen(w.rxtsen());
     a.with_txen(w.txen())
         .with_fsize(w.fsize())
         .with_plsize(w.plsize())
         .0
-}
-
-#[tactic(auto, unfolding(crate::specs::Registers::control))]
-pub fn control(frozen: u32, f: Fifo) -> u32
-    ensures { result ≡ control frozen f }
-{
-    control_word(frozen, f.control)
 }
 
 #[tactic(auto, unfolding(crate::specs::Registers::ready))]
@@ -49,10 +42,7 @@ fn edge(frozen: u32, f: Fifo) -> bool
 fn over(frozen: u32, f: Fifo) -> bool
     ensures { result ≡ (if sending frozen then false else f.over) }
 {
-    if sending(frozen) {
-        return false;
-    }
-    f.over
+    !sending(frozen) && f.over
 }
 
 #[tactic(auto, unfolding(crate::specs::Registers::status))]

@@ -3,7 +3,7 @@
 // the chip up, and of messages that came out as they went in.
 #![tactic(auto)]
 
-use bus::Unsent;
+use bus::{Arrival, Unsent};
 use driver::{Call, Header, Outcome};
 use looping::Chip;
 use message::Frame;
@@ -100,7 +100,14 @@ impl Rounds {
 
     // Delivered, got: a frame that was not delivered is not got either.
     fn incoming(&mut self, i: u32) {
-        let d = bus::deliver(self.chip.model, 2, header_of(i), 8, i, &payload_of(i));
+        let payload = payload_of(i);
+        let frame = Arrival {
+            header: header_of(i),
+            dlc: 8,
+            time: i,
+            payload: &payload,
+        };
+        let d = bus::deliver(self.chip.model, 2, frame);
         self.chip.model = d.model;
         let mut buf = [0u8; 64];
         let outcome = self.run(driver::get(2, 64), &mut buf);

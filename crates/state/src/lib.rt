@@ -2,8 +2,9 @@
 // the RAM. FIFO n is entry n of an array.
 #![tactic(auto)]
 
-ghost use Rattle.std.specs.Prelude.{◌≡◌, length, get_or, set, take};
+ghost use Rattle.std.specs.Prelude.{◌≡◌, ◌≤◌, length, get_or, set, take};
 ghost use Rattle.parts.specs.Parts.{put};
+ghost use Rattle.ring.specs.Layout.{slot_at};
 ghost use Rattle.state.specs.Model.{fixed₀, setup₀, reset, fifo_at, frozen_at, with_fixed, with_setup, with_fifo, with_queue, written};
 
 use bit_timing::{
@@ -24,6 +25,16 @@ pub struct Fixed {
     pub queue: bool,
     // The control words as they were last written in Configuration; entry 0 is the queue's.
     pub frozen: [u32; 32],
+}
+
+impl Fixed {
+    // Where slot k of FIFO n begins in RAM; 0 is the queue.
+    pub fn slot_at(&self, n: u8, k: u32) -> usize
+        requires { k ≤ 510 }
+        ensures { (result ≡ slot_at self.now.queue self.now.frozen n k) × (result ≤ 1000000) }
+    {
+        ring::slot_at(self.queue, &self.frozen, n, k)
+    }
 }
 
 #[derive(Clone, Copy)]
