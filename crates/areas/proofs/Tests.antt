@@ -19,7 +19,7 @@ use Rattle.areas.specs.declared.settings.FifoMode.{FifoMode}
 use Rattle.areas.specs.declared.settings.FifoConfiguration.{FifoConfiguration}
 use Rattle.areas.specs.declared.settings.TxQueueConfiguration.{TxQueueConfiguration}
 use Rattle.areas.specs.declared.settings.FilterConfiguration.{FilterConfiguration}
-use Rattle.areas.specs.Areas.{direction_fits, fifo_fits, queue_fits, is_identifier, is_filter, filter_check}
+use Rattle.areas.specs.Areas.{direction_fits, fifo_fits, as_tx, as_fifo, queue_fits, is_identifier, is_filter, filter_check}
 
 pub transmit_told : (t : TxFifo) → direction_fits (FifoMode.Transmit t) ≡ true → Fits TXPRI t.txpri × Fits TXAT t.txat
 transmit_told t e = let (a, b) = both (fits TXPRI t.txpri) (fits TXAT t.txat) e in (fits_told TXPRI t.txpri a, fits_told TXAT t.txat b)
@@ -35,9 +35,8 @@ fifo_told c e =
 pub queue_told : (c : TxQueueConfiguration) → queue_fits c ≡ true → (1 ≤ c.size) × Fits PLSIZE c.plsize × Fits TXPRI c.txpri × Fits TXAT c.txat
 unfolding queue_fits fifo_fits
 queue_told c e =
-    let t : TxFifo = record { txpri = c.txpri; txat = c.txat; rtren = false; txatie = c.txatie; empty = c.empty; half = false; notfull = c.notfull } in
-    let (a, b, d) = fifo_told (record { size = c.size; plsize = c.plsize; mode = FifoMode.Transmit t }) e in
-    let (p, q) = transmit_told t d in
+    let (a, b, d) = fifo_told (as_fifo c) e in
+    let (p, q) = transmit_told (as_tx c) d in
     (a, b, p, q)
 
 -- what a filter's configuration that is not refused has

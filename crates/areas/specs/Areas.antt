@@ -14,6 +14,7 @@ use Rattle.header.specs.Header.{top_id, sid_of, eid_of}
 use Rattle.spi.specs.declared.refusal.Refusal.{Refusal}
 use Rattle.plan.specs.declared.change.Change.{Change}
 use Rattle.plan.specs.Change.{change_of, change_to}
+use Rattle.areas.specs.declared.settings.TxFifo.{TxFifo}
 use Rattle.areas.specs.declared.settings.FifoMode.{FifoMode}
 use Rattle.areas.specs.declared.settings.FifoConfiguration.{FifoConfiguration}
 use Rattle.areas.specs.declared.settings.TxQueueConfiguration.{TxQueueConfiguration}
@@ -64,6 +65,13 @@ queue_change c = change_of (CiTXQCON.address 0) (queue_settings c)
 
 abbrev pub queue_to : ℕ → Change
 queue_to bits = change_to (CiTXQCON.address 0) (TXAT ∷ TXPRI ∷ FSIZE ∷ PLSIZE ∷ TXATIE ∷ TXQEIE ∷ TXQNIE ∷ []) bits
+
+-- a FIFO that sends with the queue's settings
+abbrev pub as_tx : TxQueueConfiguration → TxFifo
+as_tx c = record { txpri = c.txpri; txat = c.txat; rtren = false; txatie = c.txatie; empty = c.empty; half = false; notfull = c.notfull }
+
+abbrev pub as_fifo : TxQueueConfiguration → FifoConfiguration
+as_fifo c = record { size = c.size; plsize = c.plsize; mode = FifoMode.Transmit (as_tx c) }
 
 -- what is refused 24: size 0, or a field wider than its bits
 unfoldable pub queue_fits : TxQueueConfiguration → Bool

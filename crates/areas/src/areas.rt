@@ -12,12 +12,10 @@ use crate::{
     FifoConfiguration, FifoMode, FilterConfiguration, FilterMode, Identifier, RxFifo, TxFifo,
     TxQueueConfiguration,
 };
-use configuration::CanControl;
-use field::{Numbered, Single};
 use fifo::{ControlWord, FifoControl, TxQueueControl, is_fifo};
 use filter::{FilterControl, FilterMask, FilterObject};
 use header::{eid_of, sid_of};
-use plan::Change;
+use plan::{Change, change_at, change_of};
 use spi::Refusal;
 
 fn transmit_fits(t: TxFifo) -> bool
@@ -81,8 +79,8 @@ fn with_direction(control: FifoControl, mode: FifoMode) -> FifoControl
 }
 
 // Every bit but the fields that are set.
-fn fifo_keep(mode: FifoMode) -> u32
-    ensures { result ≡ cleared (FSIZE ∷ PLSIZE ∷ fields_of (direction_settings mode)) (2 ^ 32 - 1) }
+fn fifo_keep(mode: FifoMode) -> FifoControl
+    ensures { result.0 ≡ cleared (FSIZE ∷ PLSIZE ∷ fields_of (direction_settings mode)) (2 ^ 32 - 1) }
 {
     let kept = FifoControl(0xFFFF_FFFF)
         .with_fsize(0)
@@ -96,15 +94,13 @@ fn fifo_keep(mode: FifoMode) -> u32
             .with_txatie(false)
             .with_tferffie(false)
             .with_tfhrfhie(false)
-            .with_tfnrfnie(false)
-            .0,
+            .with_tfnrfnie(false),
         FifoMode::Receive(_) => kept
             .with_rxtsen(false)
             .with_rxovie(false)
             .with_tferffie(false)
             .with_tfhrfhie(false)
-            .with_tfnrfnie(false)
-            .0,
+            .with_tfnrfnie(false),
     }
 }
 
@@ -114,21 +110,13 @@ pub fn fifo_change(n: u8, c: FifoConfiguration) -> Change
     ensures { result ≡ fifo_change n c }
 {
     let sized = FifoControl(0).with_fifo_size(c.size).with_plsize(c.plsize);
-    Change {
-        address: FifoControl::address(n),
-        keep: fifo_keep(c.mode),
-        set: with_direction(sized, c.mode).0,
-    }
+    change_at(n, fifo_keep(c.mode), with_direction(sized, c.mode))
 }
 
 pub fn enable_change(on: bool) -> Change
     ensures { result ≡ enable_change on }
 {
-    Change {
-        address: CanControl::address(),
-        keep: CanControl(0xFFFF_FFFF).with_txqen(false).0,
-        set: CanControl(0).with_txqen(on).0,
-    }
+    changes::txqen_change(on)
 }
 
 // The same is refused as of a FIFO that sends.
@@ -136,20 +124,7 @@ pub fn enable_change(on: bool) -> Change
 pub fn queue_fits(c: TxQueueConfiguration) -> bool
     ensures { result ≡ queue_fits c }
 {
-    let t = TxFifo {
-        txpri: c.txpri,
-        txat: c.txat,
-        rtren: false,
-        txatie: c.txatie,
-        empty: c.empty,
-        half: false,
-        notfull: c.notfull,
-    };
-    fifo_fits(FifoConfiguration {
-        size: c.size,
-        plsize: c.plsize,
-        mode: FifoMode::Transmit(t),
-    })
+    fifo_fits(FifoConfiguration::from(c))
 }
 
 #[tactic(auto, using(crate::proofs::Tests::queue_told))]
@@ -171,40 +146,38 @@ pub fn queue_bits(c: TxQueueConfiguration) -> u32
 pub fn queue_change(bits: u32) -> Change
     ensures { result ≡ queue_to bits }
 {
-    Change {
-        address: TxQueueControl::address(),
-        keep: TxQueueControl(0xFFFF_FFFF)
+    change_of(
+        TxQueueControl(0xFFFF_FFFF)
             .with_txat(0)
             .with_txpri(0)
             .with_fsize(0)
             .with_plsize(0)
             .with_txatie(false)
             .with_txqeie(false)
-            .with_txqnie(false)
-            .0,
-        set: bits,
-    }
+            .with_txqnie(false),
+        TxQueueControl(bits),
+    )
 }
 
 // The FIFO is to send what it holds.
 pub fn request_change(n: u8) -> Change
     ensures { result ≡ change_of (CiFIFOCON.address n) (TXREQ := 1 ∷ []) }
 {
-    Change {
-        address: FifoControl::address(n),
-        keep: FifoControl(0xFFFF_FFFF).with_txreq(false).0,
-        set: FifoControl(0).with_txreq(true).0,
-    }
+    change_at(
+        n,
+        FifoControl(0xFFFF_FFFF).with_txreq(false),
+        FifoControl(0).with_txreq(true),
+    )
 }
 
 pub fn off_change(f: u8) -> Change
     ensures { result ≡ off_change f }
 {
-    Change {
-        address: FilterControl::address(f / 4),
-        keep: FilterControl(0xFFFF_FFFF).with_enabled(f, false).0,
-        set: FilterControl(0).with_enabled(f, false).0,
-    }
+    change_at(
+        f / 4,
+        FilterControl(0xFFFF_FFFF).with_enabled(f, false),
+        FilterControl(0).with_enabled(f, false),
+    )
 }
 
 pub fn on_bits(f: u8, fifo: u32) -> u32
@@ -220,14 +193,13 @@ pub fn on_bits(f: u8, fifo: u32) -> u32
 pub fn on_change(f: u8, bits: u32) -> Change
     ensures { result ≡ on_to f bits }
 {
-    Change {
-        address: FilterControl::address(f / 4),
-        keep: FilterControl(0xFFFF_FFFF)
+    change_at(
+        f / 4,
+        FilterControl(0xFFFF_FFFF)
             .with_target(f, 0)
-            .with_enabled(f, false)
-            .0,
-        set: bits,
-    }
+            .with_enabled(f, false),
+        FilterControl(bits),
+    )
 }
 
 fn extended_only(mode: FilterMode) -> bool
@@ -268,15 +240,14 @@ pub fn object_bits(i: Identifier, mode: FilterMode) -> u32
 pub fn object_change(f: u8, bits: u32) -> Change
     ensures { result ≡ object_to f bits }
 {
-    Change {
-        address: FilterObject::address(f),
-        keep: FilterObject(0xFFFF_FFFF)
+    change_at(
+        f,
+        FilterObject(0xFFFF_FFFF)
             .with_sid(0)
             .with_eid(0)
-            .with_exide(false)
-            .0,
-        set: bits,
-    }
+            .with_exide(false),
+        FilterObject(bits),
+    )
 }
 
 pub fn mask_bits(i: Identifier, mode: FilterMode) -> u32
@@ -293,15 +264,14 @@ pub fn mask_bits(i: Identifier, mode: FilterMode) -> u32
 pub fn mask_change(f: u8, bits: u32) -> Change
     ensures { result ≡ mask_to f bits }
 {
-    Change {
-        address: FilterMask::address(f),
-        keep: FilterMask(0xFFFF_FFFF)
+    change_at(
+        f,
+        FilterMask(0xFFFF_FFFF)
             .with_msid(0)
             .with_meid(0)
-            .with_mide(false)
-            .0,
-        set: bits,
-    }
+            .with_mide(false),
+        FilterMask(bits),
+    )
 }
 
 // 20 before 21.

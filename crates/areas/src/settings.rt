@@ -1,5 +1,7 @@
 // What the calls of a FIFO, the transmit queue and a filter are given. A number is any number: one that is wider than its field is
 // refused (24).
+ghost use Rattle.std.specs.Prelude.{◌≡◌};
+ghost use Rattle.areas.specs.Areas.{as_fifo};
 
 // Fields of CiFIFOCON that a FIFO which sends has.
 #[derive(Clone, Copy)]
@@ -47,6 +49,27 @@ pub struct TxQueueConfiguration {
     pub txatie: bool,
     pub empty: bool,
     pub notfull: bool,
+}
+
+// The FIFO that sends with these settings.
+impl From<TxQueueConfiguration> for FifoConfiguration {
+    ghost from_gives = { λ c f. f ≡ as_fifo c };
+
+    fn from(c: TxQueueConfiguration) -> FifoConfiguration {
+        FifoConfiguration {
+            size: c.size,
+            plsize: c.plsize,
+            mode: FifoMode::Transmit(TxFifo {
+                txpri: c.txpri,
+                txat: c.txat,
+                rtren: false,
+                txatie: c.txatie,
+                empty: c.empty,
+                half: false,
+                notfull: c.notfull,
+            }),
+        }
+    }
 }
 
 #[derive(Clone, Copy)]

@@ -14,9 +14,6 @@ use Rattle.field.specs.Settings.{Setting, ◌:=◌, AllFit}
 use Rattle.changes.specs.Changes.{fits, all_fit, nominal_settings, data_settings, timing_fits}
 use Rattle.changes.specs.declared.settings.BitTimeConfiguration.{BitTimeConfiguration}
 
--- what the code found smaller, or not smaller, is so to a definition's test
-pub ruleset tests = (lt-ltb, le-ltb)
-
 pub fits_told : (f : Field) (v : ℕ) → fits f v ≡ true → Fits f v
 fits_told (place p k) v e = ltb-true v (2 ^ k) e
 

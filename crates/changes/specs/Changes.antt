@@ -8,6 +8,7 @@ use Rattle.configuration.specs.CanControl.{CiCON, REQOP, STEF, TXQEN, DNCNT, RTX
 use Rattle.configuration.specs.TimeStampControl.{CiTSCON, TBCEN}
 use Rattle.chip.specs.OscillatorControl.{OSC, PLLEN, OSCDIS, SCLKDIV}
 use Rattle.chip.specs.IoControl.{IOCON, XSTBYEN, TXCANOD, SOF, INTOD}
+use Rattle.bit_timing.specs.BitTime as bt
 use Rattle.bit_timing.specs.Nominal as nbt
 use Rattle.bit_timing.specs.Data as dbt
 use Rattle.bit_timing.specs.Delay.{CiTDC, TDCV, TDCO, TDCMOD}
@@ -67,6 +68,10 @@ io_to bits = change_to (IOCON.address 0) (XSTBYEN ∷ TXCANOD ∷ SOF ∷ INTOD 
 
 -- ---- bit timing
 
+-- the four fields of a bit time of n bits
+abbrev pub times : (n brp tseg1 tseg2 sjw : ℕ) → List Setting
+times n brp tseg1 tseg2 sjw = bt.BRP := brp ∷ bt.TSEG1 n := tseg1 ∷ bt.TSEG2 n := tseg2 ∷ bt.SJW n := sjw ∷ []
+
 abbrev pub nominal_settings : NominalBitTime → List Setting
 nominal_settings n = nbt.BRP := n.brp ∷ nbt.TSEG1 := n.tseg1 ∷ nbt.TSEG2 := n.tseg2 ∷ nbt.SJW := n.sjw ∷ []
 
@@ -112,6 +117,10 @@ txqen_settings = TXQEN := 0 ∷ []
 
 abbrev pub txqen_change : Change
 txqen_change = change_of (CiCON.address 0) txqen_settings
+
+-- the queue on, or off as above
+abbrev pub txqen_to : Bool → Change
+txqen_to on = change_of (CiCON.address 0) (TXQEN := digit on ∷ [])
 
 abbrev pub counter_settings : List Setting
 counter_settings = TBCEN := 1 ∷ []

@@ -2,10 +2,10 @@
 // of a register to these bits, where the bits that are kept are all but those of its fields.
 ghost use Rattle.std.specs.Prelude.{◌≡◌, ◌&&◌};
 ghost use Rattle.field.specs.Field.{Fits};
-ghost use Rattle.field.specs.Settings.{AllFit};
+ghost use Rattle.field.specs.Settings.{settings, AllFit};
 ghost use Rattle.configuration.specs.CanControl.{REQOP, DNCNT};
 ghost use Rattle.bit_timing.specs.Signed.{Small};
-ghost use Rattle.changes.specs.Changes.{fits, all_fit, mode_change, mode_to, oscillator_change, oscillator_to, io_change, io_to, nominal_settings, data_settings, timing_fits, nominal_change, nominal_to, data_change, data_to, delay_change, delay_to, stef_change, txqen_change, counter_change, dncnt_change, dncnt_to, rtxat_change, interrupt_change, interrupt_to};
+ghost use Rattle.changes.specs.Changes.{fits, all_fit, mode_change, mode_to, oscillator_change, oscillator_to, io_change, io_to, times, nominal_settings, data_settings, timing_fits, nominal_change, nominal_to, data_change, data_to, delay_change, delay_to, stef_change, txqen_to, counter_change, dncnt_change, dncnt_to, rtxat_change, interrupt_change, interrupt_to};
 
 use crate::{
     BitTimeConfiguration, DataBitTime, IoConfiguration, NominalBitTime, OscillatorConfiguration,
@@ -19,7 +19,7 @@ use chip::{IoControl, OscillatorControl};
 use configuration::{CanControl, TimeStampControl};
 use field::Single;
 use interrupt::{Cause, Interrupt};
-use plan::{Change, keeping};
+use plan::{Change, change_of, keeping};
 
 pub fn mode_bits(m: u32) -> u32
     requires { Fits REQOP m }
@@ -31,11 +31,7 @@ pub fn mode_bits(m: u32) -> u32
 pub fn mode_change(bits: u32) -> Change
     ensures { result ≡ mode_to bits }
 {
-    Change {
-        address: CanControl::address(),
-        keep: CanControl(0xFFFF_FFFF).with_reqop(0).0,
-        set: bits,
-    }
+    change_of(CanControl(0xFFFF_FFFF).with_reqop(0), CanControl(bits))
 }
 
 pub fn oscillator_bits(o: OscillatorConfiguration) -> u32
@@ -51,15 +47,13 @@ pub fn oscillator_bits(o: OscillatorConfiguration) -> u32
 pub fn oscillator_change(bits: u32) -> Change
     ensures { result ≡ oscillator_to bits }
 {
-    Change {
-        address: OscillatorControl::address(),
-        keep: OscillatorControl(0xFFFF_FFFF)
+    change_of(
+        OscillatorControl(0xFFFF_FFFF)
             .with_pllen(false)
             .with_sclkdiv(false)
-            .with_oscdis(false)
-            .0,
-        set: bits,
-    }
+            .with_oscdis(false),
+        OscillatorControl(bits),
+    )
 }
 
 pub fn io_bits(c: IoConfiguration) -> u32
@@ -76,16 +70,14 @@ pub fn io_bits(c: IoConfiguration) -> u32
 pub fn io_change(bits: u32) -> Change
     ensures { result ≡ io_to bits }
 {
-    Change {
-        address: IoControl::address(),
-        keep: IoControl(0xFFFF_FFFF)
+    change_of(
+        IoControl(0xFFFF_FFFF)
             .with_xstbyen(false)
             .with_txcanod(false)
             .with_sof(false)
-            .with_intod(false)
-            .0,
-        set: bits,
-    }
+            .with_intod(false),
+        IoControl(bits),
+    )
 }
 
 fn nominal_fits(n: NominalBitTime) -> bool
@@ -113,58 +105,50 @@ pub fn settings_fit(s: Settings) -> bool
     timing_fits(s.bittime) && s.dncnt < 32
 }
 
+// The four fields of a bit time.
+fn with_times<R: BitTime>(r: R, brp: u32, tseg1: u32, tseg2: u32, sjw: u32) -> R
+    requires { AllFit (times R.BITS brp tseg1 tseg2 sjw) }
+    ensures { R.word result ≡ settings (times R.BITS brp tseg1 tseg2 sjw) (R.word r) }
+{
+    r.with_brp(brp)
+        .with_tseg1(tseg1)
+        .with_tseg2(tseg2)
+        .with_sjw(sjw)
+}
+
 pub fn nominal_bits(n: NominalBitTime) -> u32
     requires { AllFit (nominal_settings n) }
     ensures { result ≡ (nominal_change n).set }
 {
-    NominalBitTimeConfiguration(0)
-        .with_brp(n.brp)
-        .with_tseg1(n.tseg1)
-        .with_tseg2(n.tseg2)
-        .with_sjw(n.sjw)
-        .0
+    with_times(
+        NominalBitTimeConfiguration(0),
+        n.brp,
+        n.tseg1,
+        n.tseg2,
+        n.sjw,
+    )
+    .0
 }
 
 pub fn nominal_change(bits: u32) -> Change
     ensures { result ≡ nominal_to bits }
 {
-    Change {
-        address: NominalBitTimeConfiguration::address(),
-        keep: NominalBitTimeConfiguration(0xFFFF_FFFF)
-            .with_brp(0)
-            .with_tseg1(0)
-            .with_tseg2(0)
-            .with_sjw(0)
-            .0,
-        set: bits,
-    }
+    let kept = with_times(NominalBitTimeConfiguration(0xFFFF_FFFF), 0, 0, 0, 0);
+    change_of(kept, NominalBitTimeConfiguration(bits))
 }
 
 pub fn data_bits(d: DataBitTime) -> u32
     requires { AllFit (data_settings d) }
     ensures { result ≡ (data_change d).set }
 {
-    DataBitTimeConfiguration(0)
-        .with_brp(d.brp)
-        .with_tseg1(d.tseg1)
-        .with_tseg2(d.tseg2)
-        .with_sjw(d.sjw)
-        .0
+    with_times(DataBitTimeConfiguration(0), d.brp, d.tseg1, d.tseg2, d.sjw).0
 }
 
 pub fn data_change(bits: u32) -> Change
     ensures { result ≡ data_to bits }
 {
-    Change {
-        address: DataBitTimeConfiguration::address(),
-        keep: DataBitTimeConfiguration(0xFFFF_FFFF)
-            .with_brp(0)
-            .with_tseg1(0)
-            .with_tseg2(0)
-            .with_sjw(0)
-            .0,
-        set: bits,
-    }
+    let kept = with_times(DataBitTimeConfiguration(0xFFFF_FFFF), 0, 0, 0, 0);
+    change_of(kept, DataBitTimeConfiguration(bits))
 }
 
 pub fn delay_bits(d: DataBitTime) -> u32
@@ -181,45 +165,41 @@ pub fn delay_bits(d: DataBitTime) -> u32
 pub fn delay_change(bits: u32) -> Change
     ensures { result ≡ delay_to bits }
 {
-    Change {
-        address: TransmitterDelayCompensation::address(),
-        keep: TransmitterDelayCompensation(0xFFFF_FFFF)
+    change_of(
+        TransmitterDelayCompensation(0xFFFF_FFFF)
             .with_tdcmod(0)
             .with_tdco(0)
-            .with_tdcv(0)
-            .0,
-        set: bits,
-    }
+            .with_tdcv(0),
+        TransmitterDelayCompensation(bits),
+    )
 }
 
 pub fn stef_change() -> Change
     ensures { result ≡ stef_change }
 {
-    Change {
-        address: CanControl::address(),
-        keep: CanControl(0xFFFF_FFFF).with_stef(false).0,
-        set: CanControl(0).with_stef(false).0,
-    }
+    change_of(
+        CanControl(0xFFFF_FFFF).with_stef(false),
+        CanControl(0).with_stef(false),
+    )
 }
 
-pub fn txqen_change() -> Change
-    ensures { result ≡ txqen_change }
+// The transmit queue on or off.
+pub fn txqen_change(on: bool) -> Change
+    ensures { result ≡ txqen_to on }
 {
-    Change {
-        address: CanControl::address(),
-        keep: CanControl(0xFFFF_FFFF).with_txqen(false).0,
-        set: CanControl(0).with_txqen(false).0,
-    }
+    change_of(
+        CanControl(0xFFFF_FFFF).with_txqen(false),
+        CanControl(0).with_txqen(on),
+    )
 }
 
 pub fn counter_change() -> Change
     ensures { result ≡ counter_change }
 {
-    Change {
-        address: TimeStampControl::address(),
-        keep: TimeStampControl(0xFFFF_FFFF).with_tbcen(false).0,
-        set: TimeStampControl(0).with_tbcen(true).0,
-    }
+    change_of(
+        TimeStampControl(0xFFFF_FFFF).with_tbcen(false),
+        TimeStampControl(0).with_tbcen(true),
+    )
 }
 
 pub fn dncnt_bits(n: u32) -> u32
@@ -232,21 +212,16 @@ pub fn dncnt_bits(n: u32) -> u32
 pub fn dncnt_change(bits: u32) -> Change
     ensures { result ≡ dncnt_to bits }
 {
-    Change {
-        address: CanControl::address(),
-        keep: CanControl(0xFFFF_FFFF).with_dncnt(0).0,
-        set: bits,
-    }
+    change_of(CanControl(0xFFFF_FFFF).with_dncnt(0), CanControl(bits))
 }
 
 pub fn rtxat_change() -> Change
     ensures { result ≡ rtxat_change }
 {
-    Change {
-        address: CanControl::address(),
-        keep: CanControl(0xFFFF_FFFF).with_rtxat(false).0,
-        set: CanControl(0).with_rtxat(true).0,
-    }
+    change_of(
+        CanControl(0xFFFF_FFFF).with_rtxat(false),
+        CanControl(0).with_rtxat(true),
+    )
 }
 
 // RXIE and TXIE, and what is asked for.

@@ -171,7 +171,7 @@ fn later_item(c: PlanNumbers, i: u8, body: &[u8; 76]) -> Item
         7 => Item::Change(changes::data_change(word(body, 3))),
         8 => Item::Change(changes::delay_change(word(body, 4))),
         9 => Item::Change(changes::stef_change()),
-        10 => Item::Change(changes::txqen_change()),
+        10 => Item::Change(changes::txqen_change(false)),
         _ => last_item(c, i, body),
     }
 }

@@ -4,5 +4,5 @@
 mod change;
 mod item;
 
-pub use change::{Change, keeping, modified_word};
+pub use change::{Change, change_at, change_of, keeping, modified_word};
 pub use item::{Item, Poll, echo_word, is_shown, is_there, late};
