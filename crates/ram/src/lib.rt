@@ -222,8 +222,7 @@ pub fn ram_step(c: RamNumbers, answer: Answer, rx: &[u8]) -> RamNumbers
 pub fn ram_outcome(c: RamNumbers) -> Outcome
     ensures { result ≡ outcome_of (ram_of c) }
 {
-    let stage = c.stage;
-    match stage {
+    match c.stage {
         RamStage::Received | RamStage::Done => Outcome::Done,
         RamStage::Refused => Outcome::Refused(c.why),
         _ => Outcome::Running,

@@ -162,7 +162,8 @@ fn when_checked(c: RegisterNumbers, reply: CheckedWord) -> Result<RegisterNumber
     }
 }
 
-// Where an answer leads, or what the call is refused with. A failed reset is told as 2, every other failed exchange as 1: a register write too.
+// Where an answer leads, or what the call is refused with. A failed reset is told as 2, every other failed exchange as 1: a register
+// write too.
 #[tactic(auto, unfolding(crate::specs::Step::step_of))]
 fn reached(c: RegisterNumbers, answer: Answer, rx: &[u8]) -> Result<RegisterNumbers, Refusal>
     ensures { gone result ≡ step_of (register_of c) answer rx.now }
@@ -206,8 +207,7 @@ pub fn register_step(c: RegisterNumbers, answer: Answer, rx: &[u8]) -> RegisterN
 pub fn register_outcome(c: RegisterNumbers) -> Outcome
     ensures { result ≡ outcome_of (register_of c) }
 {
-    let stage = c.stage;
-    match stage {
+    match c.stage {
         RegisterStage::Done => Outcome::Done,
         RegisterStage::Word => Outcome::Word(c.w),
         RegisterStage::Matched => Outcome::Checked(c.w, c.seen),

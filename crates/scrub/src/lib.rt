@@ -220,8 +220,7 @@ fn differing(c: ScrubNumbers, rewrite: Rewrite) -> Outcome
 pub fn scrub_outcome(c: ScrubNumbers) -> Outcome
     ensures { result ≡ outcome_of (scrub_of c) }
 {
-    let stage = c.stage;
-    match stage {
+    match c.stage {
         ScrubStage::Agree => Outcome::Scrubbed(Report::Agree {
             address: c.m,
             mismatches: c.first,
