@@ -1,104 +1,77 @@
-// A message's two header words, through the port's encoding and decoding: it has no reader or setter for a single field.
-// A field is counted as in `names`: SID, EID and DLC, the five flags, SEQ of an object to send or FILHIT of one received.
+// A message's two header words, through the port's encoding and decoding: it has no reader or setter for a single field. SID, EID and
+// DLC, the five flags, SEQ of an object to send or FILHIT of one received; SID11 is not carried.
 ghost use Rattle.std.specs.Prelude.{◌≤◌};
 
 use header::{
     Header, dlc_of, eid_of, filter_of, first_word, header_of, received_word, second_word,
 };
-use named::cut;
+use named::{NoValue, fitting, flag};
 
-pub const DLC: usize = 2;
-
-const IDE: usize = 3;
-
-const FDF: usize = 6;
-
-const ABOVE: usize = 8;
-
-// How many fields documents 01 and 02 carry. SID11 is left out.
-pub const CARRIED: usize = 9;
-
-// A header with this flag alone; with none for any other field.
-fn lone(i: usize) -> Header {
+// A header with the flag of this name alone; with none for any other field.
+fn lone(name: &[u8]) -> Header {
     Header {
-        extended: i == IDE,
+        extended: matches!(name, b"ide"),
         id: 0,
-        rtr: i == 4,
-        brs: i == 5,
-        fdf: i == FDF,
-        esi: i == 7,
+        rtr: matches!(name, b"rtr"),
+        brs: matches!(name, b"brs"),
+        fdf: matches!(name, b"fdf"),
+        esi: matches!(name, b"esi"),
     }
 }
 
-fn flag_word(i: usize) -> u32 {
-    second_word(lone(i), 0, 0)
+fn flag_word(name: &[u8]) -> u32 {
+    second_word(lone(name), 0, 0)
 }
 
 // In the port a classic frame to send with a DLC above 8 is none, so SEQ is read as an FD frame's.
 fn seq_in(b: u32) -> u32 {
     let mut object = [0u8; 72];
-    let word = words::le_bytes(b | flag_word(FDF));
+    let word = words::le_bytes(b | flag_word(b"fdf"));
     parts::put_at(&mut object, 4, &word);
     message::decode(true, false, &object).map_or(0, |frame| frame.seq)
 }
 
-pub fn read(sending: bool, i: usize, a: u32, b: u32) -> u32 {
+fn low(word: u64) -> u32 {
+    (word & 0xFFFF_FFFF) as u32
+}
+
+fn high(word: u64) -> u32 {
+    (word >> 32) as u32
+}
+
+fn joined(a: u32, b: u32) -> u64 {
+    (b as u64) << 32 | a as u64
+}
+
+pub fn read(sending: bool, name: &[u8], word: u64) -> Result<u32, NoValue> {
+    let a = low(word);
+    let b = high(word);
     let h = header_of(a, b);
-    match i {
-        0 => header_of(a, 0).id,
-        1 => eid_of(true, header_of(a, flag_word(IDE)).id),
-        2 => dlc_of(b) as u32,
-        3 => h.extended as u32,
-        4 => h.rtr as u32,
-        5 => h.brs as u32,
-        6 => h.fdf as u32,
-        7 => h.esi as u32,
-        _ => if sending {
-            seq_in(b)
-        } else {
-            filter_of(b) as u32
-        },
+    match name {
+        b"sid" => Ok(header_of(a, 0).id),
+        b"eid" => Ok(eid_of(true, header_of(a, flag_word(b"ide")).id)),
+        b"dlc" => Ok(dlc_of(b) as u32),
+        b"ide" => Ok(h.extended as u32),
+        b"rtr" => Ok(h.rtr as u32),
+        b"brs" => Ok(h.brs as u32),
+        b"fdf" => Ok(h.fdf as u32),
+        b"esi" => Ok(h.esi as u32),
+        b"seq" if sending => Ok(seq_in(b)),
+        b"filhit" if !sending => Ok(filter_of(b) as u32),
+        b"sid11" => Err(NoValue::Absent),
+        _ => Err(NoValue::Unknown),
     }
 }
 
-// The extended identifier that has v in SID or in EID and nothing else.
-fn id_of(i: usize, v: u32) -> u32
-    ensures { result ≤ 0x1FFFFFFF }
+// The first word of an extended message with this identifier.
+fn id_word(id: u32) -> u32
+    requires { id ≤ 0x1FFFFFFF }
 {
-    if i == 0 {
-        cut(v, 0x7FF) * 0x4_0000
-    } else {
-        cut(v, 0x3_FFFF)
-    }
-}
-
-fn id_word(i: usize, v: u32) -> u32 {
     first_word(Header {
         extended: true,
-        id: id_of(i, v),
-        rtr: false,
-        brs: false,
-        fdf: false,
-        esi: false,
+        id,
+        ..lone(b"")
     })
-}
-
-// The second word of a message that has v above the flags and nothing else.
-fn above_word(sending: bool, v: u32) -> u32 {
-    if sending {
-        second_word(lone(ABOVE), cut(v, 0x7F_FFFF), 0)
-    } else {
-        received_word(lone(ABOVE), 0, cut(v, 31))
-    }
-}
-
-// That of one that has v in this field and nothing else.
-fn rest_word(sending: bool, i: usize, v: u32) -> u32 {
-    match i {
-        DLC => second_word(lone(i), 0, cut(v, 15)),
-        ABOVE => above_word(sending, v),
-        _ => if v == 0 { 0 } else { flag_word(i) },
-    }
 }
 
 // The bits of `all` as in `set`, and the others as they are.
@@ -106,13 +79,53 @@ fn over(w: u32, all: u32, set: u32) -> u32 {
     w & !all | set
 }
 
-const MOST: u32 = 0xFFFF_FFFF;
-
-// The field's bits are those that are 1 for its largest value.
-pub fn with_first(i: usize, v: u32, a: u32) -> u32 {
-    over(a, id_word(i, MOST), id_word(i, v))
+// The first word with SID or EID set. The field's bits are those that are 1 for its largest value.
+fn with_first(name: &[u8], v: u32, a: u32) -> Option<u32> {
+    match name {
+        b"sid" => Some(over(a, id_word(0x1FFC_0000), id_word(fitting(v, 11)? * 0x4_0000))),
+        b"eid" => Some(over(a, id_word(0x3_FFFF), id_word(fitting(v, 18)?))),
+        _ => None,
+    }
 }
 
-pub fn with_second(sending: bool, i: usize, v: u32, b: u32) -> u32 {
-    over(b, rest_word(sending, i, MOST), rest_word(sending, i, v))
+// The second word with another field set.
+fn with_second(sending: bool, name: &[u8], v: u32, b: u32) -> Option<u32> {
+    let none = lone(b"");
+    let (all, set) = match name {
+        b"dlc" => (
+            second_word(none, 0, 15),
+            second_word(none, 0, fitting(v, 4)?),
+        ),
+        b"seq" if sending => (
+            second_word(none, 0x7F_FFFF, 0),
+            second_word(none, fitting(v, 23)?, 0),
+        ),
+        b"filhit" if !sending => (
+            received_word(none, 0, 31),
+            received_word(none, 0, fitting(v, 5)?),
+        ),
+        b"ide" | b"rtr" | b"brs" | b"fdf" | b"esi" => {
+            let all = flag_word(name);
+            (all, if flag(v)? { all } else { 0 })
+        }
+        _ => return None,
+    };
+    Some(over(b, all, set))
+}
+
+// The header's words with the field set, and no value also where that is too large.
+pub fn with(sending: bool, name: &[u8], v: u32, word: u64) -> Result<u64, NoValue> {
+    let a = low(word);
+    let b = high(word);
+    match name {
+        b"sid11" => Err(NoValue::Absent),
+        b"sid" | b"eid" => {
+            let set = with_first(name, v, a).ok_or(NoValue::Unknown)?;
+            Ok(joined(set, b))
+        }
+        _ => {
+            let set = with_second(sending, name, v, b).ok_or(NoValue::Unknown)?;
+            Ok(joined(a, set))
+        }
+    }
 }

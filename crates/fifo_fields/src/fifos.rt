@@ -1,63 +1,108 @@
-// CiFIFOCON and CiFIFOSTA.
-use crate::shared;
-use fifo::{FifoControl, FifoStatus};
-use named::cut;
+// CiFIFOCON and CiFIFOSTA, and what CiTXQCON and CiTXQSTA share with them.
+use fifo::{ControlWord, FifoControl, FifoStatus, StatusWord};
+use named::{fitting, flag};
 
-pub fn control(w: u32, i: usize) -> u32 {
-    let r = FifoControl(w);
-    match i {
-        0 => r.tfnrfnie() as u32,
-        1 => r.tfhrfhie() as u32,
-        2 => r.tferffie() as u32,
-        3 => r.rxovie() as u32,
-        4 => shared::control(r, 0),
-        5 => r.rxtsen() as u32,
-        6 => r.rtren() as u32,
-        _ => shared::control(r, i - 6),
+// A field of either control word. `fifo_size` is FSIZE + 1.
+pub fn shared_control<R: ControlWord>(r: R, name: &[u8]) -> Option<u32> {
+    match name {
+        b"txatie" => Some(r.txatie() as u32),
+        b"txen" => Some(r.txen() as u32),
+        b"uinc" => Some(r.uinc() as u32),
+        b"txreq" => Some(r.txreq() as u32),
+        b"freset" => Some(r.freset() as u32),
+        b"txpri" => Some(r.txpri()),
+        b"txat" => Some(r.txat()),
+        b"plsize" => Some(r.plsize()),
+        b"fifo_size" => Some(r.fifo_size()),
+        _ => None,
     }
 }
 
-// All but the last, SIZE.
-pub fn with_control(w: u32, i: usize, v: u32) -> u32 {
-    let r = FifoControl(w);
-    let on = v != 0;
-    let set = match i {
-        0 => r.with_tfnrfnie(on),
-        1 => r.with_tfhrfhie(on),
-        2 => r.with_tferffie(on),
-        3 => r.with_rxovie(on),
-        4 => shared::with_control(r, 0, v),
-        5 => r.with_rxtsen(on),
-        6 => r.with_rtren(on),
-        _ => shared::with_control(r, i - 6, v),
-    };
-    set.0
-}
-
-pub const SIZE: usize = 14;
-
-pub fn status(w: u32, i: usize) -> u32 {
-    let r = FifoStatus(w);
-    match i {
-        0 => r.tfnrfnif() as u32,
-        1 => r.tfhrfhif() as u32,
-        2 => r.tferffif() as u32,
-        3 => r.rxovif() as u32,
-        4..=7 => shared::status(r, i - 4) as u32,
-        _ => r.fifoci(),
+// A size's values begin with 1, and one above 32 is set as 32.
+pub fn with_shared_control<R: ControlWord>(r: R, name: &[u8], v: u32) -> Option<R> {
+    match name {
+        b"txatie" => Some(r.with_txatie(flag(v)?)),
+        b"txen" => Some(r.with_txen(flag(v)?)),
+        b"uinc" => Some(r.with_uinc(flag(v)?)),
+        b"txreq" => Some(r.with_txreq(flag(v)?)),
+        b"freset" => Some(r.with_freset(flag(v)?)),
+        b"txpri" => Some(r.with_txpri(fitting(v, 5)?)),
+        b"txat" => Some(r.with_txat(fitting(v, 2)?)),
+        b"plsize" => Some(r.with_plsize(fitting(v, 3)?)),
+        b"fifo_size" if v != 0 => Some(r.with_fifo_size(v)),
+        _ => None,
     }
 }
 
-pub fn with_status(w: u32, i: usize, v: u32) -> u32 {
-    let r = FifoStatus(w);
-    let on = v != 0;
-    let set = match i {
-        0 => r.with_tfnrfnif(on),
-        1 => r.with_tfhrfhif(on),
-        2 => r.with_tferffif(on),
-        3 => r.with_rxovif(on),
-        4..=7 => shared::with_status(r, i - 4, on),
-        _ => r.with_fifoci(cut(v, 31)),
+pub fn control(w: u32, name: &[u8]) -> Option<u32> {
+    let r = FifoControl(w);
+    match name {
+        b"tfnrfnie" => Some(r.tfnrfnie() as u32),
+        b"tfhrfhie" => Some(r.tfhrfhie() as u32),
+        b"tferffie" => Some(r.tferffie() as u32),
+        b"rxovie" => Some(r.rxovie() as u32),
+        b"rxtsen" => Some(r.rxtsen() as u32),
+        b"rtren" => Some(r.rtren() as u32),
+        _ => shared_control(r, name),
+    }
+}
+
+pub fn with_control(w: u32, name: &[u8], v: u32) -> Option<u32> {
+    let r = FifoControl(w);
+    let set = match name {
+        b"tfnrfnie" => r.with_tfnrfnie(flag(v)?),
+        b"tfhrfhie" => r.with_tfhrfhie(flag(v)?),
+        b"tferffie" => r.with_tferffie(flag(v)?),
+        b"rxovie" => r.with_rxovie(flag(v)?),
+        b"rxtsen" => r.with_rxtsen(flag(v)?),
+        b"rtren" => r.with_rtren(flag(v)?),
+        _ => with_shared_control(r, name, v)?,
     };
-    set.0
+    Some(set.0)
+}
+
+// A field of either status word.
+pub fn shared_status<R: StatusWord>(r: R, name: &[u8]) -> Option<u32> {
+    match name {
+        b"txatif" => Some(r.txatif() as u32),
+        b"txerr" => Some(r.txerr() as u32),
+        b"txlarb" => Some(r.txlarb() as u32),
+        b"txabt" => Some(r.txabt() as u32),
+        _ => None,
+    }
+}
+
+pub fn with_shared_status<R: StatusWord>(r: R, name: &[u8], v: u32) -> Option<R> {
+    match name {
+        b"txatif" => Some(r.with_txatif(flag(v)?)),
+        b"txerr" => Some(r.with_txerr(flag(v)?)),
+        b"txlarb" => Some(r.with_txlarb(flag(v)?)),
+        b"txabt" => Some(r.with_txabt(flag(v)?)),
+        _ => None,
+    }
+}
+
+pub fn status(w: u32, name: &[u8]) -> Option<u32> {
+    let r = FifoStatus(w);
+    match name {
+        b"tfnrfnif" => Some(r.tfnrfnif() as u32),
+        b"tfhrfhif" => Some(r.tfhrfhif() as u32),
+        b"tferffif" => Some(r.tferffif() as u32),
+        b"rxovif" => Some(r.rxovif() as u32),
+        b"fifoci" => Some(r.fifoci()),
+        _ => shared_status(r, name),
+    }
+}
+
+pub fn with_status(w: u32, name: &[u8], v: u32) -> Option<u32> {
+    let r = FifoStatus(w);
+    let set = match name {
+        b"tfnrfnif" => r.with_tfnrfnif(flag(v)?),
+        b"tfhrfhif" => r.with_tfhrfhif(flag(v)?),
+        b"tferffif" => r.with_tferffif(flag(v)?),
+        b"rxovif" => r.with_rxovif(flag(v)?),
+        b"fifoci" => r.with_fifoci(fitting(v, 5)?),
+        _ => with_shared_status(r, name, v)?,
+    };
+    Some(set.0)
 }

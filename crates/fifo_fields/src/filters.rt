@@ -1,69 +1,81 @@
 // CiFLTCON, CiFLTOBJ and CiMASK.
 use filter::{FilterControl, FilterMask, FilterObject};
-use named::cut;
+use named::{fitting, flag};
 
-pub fn object(w: u32, i: usize) -> u32 {
+pub fn object(w: u32, name: &[u8]) -> Option<u32> {
     let r = FilterObject(w);
-    match i {
-        0 => r.sid(),
-        1 => r.eid(),
-        2 => r.sid11() as u32,
-        _ => r.exide() as u32,
-    }
+    Some(match name {
+        b"sid" => r.sid(),
+        b"eid" => r.eid(),
+        b"sid11" => r.sid11() as u32,
+        b"exide" => r.exide() as u32,
+        _ => return None,
+    })
 }
 
-pub fn with_object(w: u32, i: usize, v: u32) -> u32 {
+pub fn with_object(w: u32, name: &[u8], v: u32) -> Option<u32> {
     let r = FilterObject(w);
-    let on = v != 0;
-    let set = match i {
-        0 => r.with_sid(cut(v, 0x7FF)),
-        1 => r.with_eid(cut(v, 0x3_FFFF)),
-        2 => r.with_sid11(on),
-        _ => r.with_exide(on),
+    let set = match name {
+        b"sid" => r.with_sid(fitting(v, 11)?),
+        b"eid" => r.with_eid(fitting(v, 18)?),
+        b"sid11" => r.with_sid11(flag(v)?),
+        b"exide" => r.with_exide(flag(v)?),
+        _ => return None,
     };
-    set.0
+    Some(set.0)
 }
 
-pub fn mask(w: u32, i: usize) -> u32 {
+pub fn mask(w: u32, name: &[u8]) -> Option<u32> {
     let r = FilterMask(w);
-    match i {
-        0 => r.msid(),
-        1 => r.meid(),
-        2 => r.msid11() as u32,
-        _ => r.mide() as u32,
-    }
+    Some(match name {
+        b"msid" => r.msid(),
+        b"meid" => r.meid(),
+        b"msid11" => r.msid11() as u32,
+        b"mide" => r.mide() as u32,
+        _ => return None,
+    })
 }
 
-pub fn with_mask(w: u32, i: usize, v: u32) -> u32 {
+pub fn with_mask(w: u32, name: &[u8], v: u32) -> Option<u32> {
     let r = FilterMask(w);
-    let on = v != 0;
-    let set = match i {
-        0 => r.with_msid(cut(v, 0x7FF)),
-        1 => r.with_meid(cut(v, 0x3_FFFF)),
-        2 => r.with_msid11(on),
-        _ => r.with_mide(on),
+    let set = match name {
+        b"msid" => r.with_msid(fitting(v, 11)?),
+        b"meid" => r.with_meid(fitting(v, 18)?),
+        b"msid11" => r.with_msid11(flag(v)?),
+        b"mide" => r.with_mide(flag(v)?),
+        _ => return None,
     };
-    set.0
+    Some(set.0)
 }
 
-// The targets of four filters, then their enables.
-pub fn control(w: u32, i: usize) -> u32 {
+// The targets of four filters, and their enables.
+pub fn control(w: u32, name: &[u8]) -> Option<u32> {
     let r = FilterControl(w);
-    let m = (i % 4) as u8;
-    if i < 4 {
-        r.target(m)
-    } else {
-        r.enabled(m) as u32
-    }
+    Some(match name {
+        b"f0bp" => r.target(0),
+        b"f1bp" => r.target(1),
+        b"f2bp" => r.target(2),
+        b"f3bp" => r.target(3),
+        b"flten0" => r.enabled(0) as u32,
+        b"flten1" => r.enabled(1) as u32,
+        b"flten2" => r.enabled(2) as u32,
+        b"flten3" => r.enabled(3) as u32,
+        _ => return None,
+    })
 }
 
-pub fn with_control(w: u32, i: usize, v: u32) -> u32 {
+pub fn with_control(w: u32, name: &[u8], v: u32) -> Option<u32> {
     let r = FilterControl(w);
-    let m = (i % 4) as u8;
-    let set = if i < 4 {
-        r.with_target(m, cut(v, 31))
-    } else {
-        r.with_enabled(m, v != 0)
+    let set = match name {
+        b"f0bp" => r.with_target(0, fitting(v, 5)?),
+        b"f1bp" => r.with_target(1, fitting(v, 5)?),
+        b"f2bp" => r.with_target(2, fitting(v, 5)?),
+        b"f3bp" => r.with_target(3, fitting(v, 5)?),
+        b"flten0" => r.with_enabled(0, flag(v)?),
+        b"flten1" => r.with_enabled(1, flag(v)?),
+        b"flten2" => r.with_enabled(2, flag(v)?),
+        b"flten3" => r.with_enabled(3, flag(v)?),
+        _ => return None,
     };
-    set.0
+    Some(set.0)
 }

@@ -1,4 +1,5 @@
-// The registers of FIFOs, of filters and of the transmit queue, as `setup_fields` has the others.
+// The registers of FIFOs, of filters and of the transmit queue, as `setup_fields` has the others: the data sheet's names, but for
+// `fifo_size`, FSIZE + 1, and the Rust's `fifoua` in CiTXQUA.
 #![tactic(auto)]
 
 mod fifos;
@@ -6,59 +7,50 @@ mod filters;
 mod queue;
 mod shared;
 
-use fifo::{
-    ControlWord, FifoControl, TxQueueControl, TxQueueUserAddress, UserAddress, UserAddressWord,
-};
-use named::NoValue;
+use fifo::{TxQueueUserAddress, UserAddress, UserAddressWord};
 
-// Register k of CiFIFOCON, CiFIFOSTA, CiFIFOUA, CiFLTCON, CiFLTOBJ, CiMASK, CiTXQCON, CiTXQSTA and CiTXQUA.
-pub fn read(k: usize, i: usize, w: u32) -> u32 {
-    match k {
-        0 => fifos::control(w, i),
-        1 => fifos::status(w, i),
-        2 => UserAddress(w).fifoua(),
-        3 => filters::control(w, i),
-        4 => filters::object(w, i),
-        5 => filters::mask(w, i),
-        6 => queue::control(w, i),
-        7 => queue::status(w, i),
-        _ => TxQueueUserAddress(w).fifoua(),
+fn user_address<R: UserAddressWord>(r: R, name: &[u8]) -> Option<u32> {
+    match name {
+        b"fifoua" => Some(r.fifoua()),
+        _ => None,
     }
 }
 
-// All but the sizes.
-pub fn with(k: usize, i: usize, v: u32, w: u32) -> u32 {
-    match k {
-        0 => fifos::with_control(w, i, v),
-        1 => fifos::with_status(w, i, v),
-        2 => UserAddress(w).with_fifoua(v).0,
-        3 => filters::with_control(w, i, v),
-        4 => filters::with_object(w, i, v),
-        5 => filters::with_mask(w, i, v),
-        6 => queue::with_control(w, i, v),
-        7 => queue::with_status(w, i, v),
-        _ => TxQueueUserAddress(w).with_fifoua(v).0,
+fn with_user_address<R: UserAddressWord>(r: R, name: &[u8], v: u32) -> Option<R> {
+    match name {
+        b"fifoua" => Some(r.with_fifoua(v)),
+        _ => None,
     }
 }
 
-// Whether field i of register k is a size, the last name of a control.
-pub fn is_size(k: usize, i: usize) -> bool {
-    match k {
-        0 => i == fifos::SIZE,
-        6 => i == queue::SIZE,
-        _ => false,
+// The field of a register with this word, none where there is no such register or field.
+pub fn read(register: &[u8], name: &[u8], w: u32) -> Option<u32> {
+    match register {
+        b"CiFIFOCON" => fifos::control(w, name),
+        b"CiFIFOSTA" => fifos::status(w, name),
+        b"CiFIFOUA" => user_address(UserAddress(w), name),
+        b"CiFLTCON" => filters::control(w, name),
+        b"CiFLTOBJ" => filters::object(w, name),
+        b"CiMASK" => filters::mask(w, name),
+        b"CiTXQCON" => queue::control(w, name),
+        b"CiTXQSTA" => queue::status(w, name),
+        b"CiTXQUA" => user_address(TxQueueUserAddress(w), name),
+        _ => None,
     }
 }
 
-// A size's values begin with 1, and one above 32 is set as 32.
-pub fn sized(k: usize, v: u32, w: u32) -> Result<u64, NoValue> {
-    if v == 0 {
-        return Err(NoValue::Unknown);
+// The word with the field set, none also where the value is too large.
+pub fn with(register: &[u8], name: &[u8], v: u32, w: u32) -> Option<u32> {
+    match register {
+        b"CiFIFOCON" => fifos::with_control(w, name, v),
+        b"CiFIFOSTA" => fifos::with_status(w, name, v),
+        b"CiFIFOUA" => Some(with_user_address(UserAddress(w), name, v)?.0),
+        b"CiFLTCON" => filters::with_control(w, name, v),
+        b"CiFLTOBJ" => filters::with_object(w, name, v),
+        b"CiMASK" => filters::with_mask(w, name, v),
+        b"CiTXQCON" => queue::with_control(w, name, v),
+        b"CiTXQSTA" => queue::with_status(w, name, v),
+        b"CiTXQUA" => Some(with_user_address(TxQueueUserAddress(w), name, v)?.0),
+        _ => None,
     }
-    let set = if k == 0 {
-        FifoControl(w).with_fifo_size(v).0
-    } else {
-        TxQueueControl(w).with_fifo_size(v).0
-    };
-    Ok(set as u64)
 }

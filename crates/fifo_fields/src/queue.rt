@@ -1,49 +1,44 @@
 // CiTXQCON and CiTXQSTA.
-use crate::shared;
+use crate::fifos::{shared_control, shared_status, with_shared_control, with_shared_status};
 use fifo::{TxQueueControl, TxQueueStatus};
-use named::cut;
+use named::{fitting, flag};
 
-pub fn control(w: u32, i: usize) -> u32 {
+pub fn control(w: u32, name: &[u8]) -> Option<u32> {
     let r = TxQueueControl(w);
-    match i {
-        0 => r.txqnie() as u32,
-        1 => r.txqeie() as u32,
-        _ => shared::control(r, i - 2),
+    match name {
+        b"txqnie" => Some(r.txqnie() as u32),
+        b"txqeie" => Some(r.txqeie() as u32),
+        _ => shared_control(r, name),
     }
 }
 
-// All but the last, SIZE.
-pub fn with_control(w: u32, i: usize, v: u32) -> u32 {
+pub fn with_control(w: u32, name: &[u8], v: u32) -> Option<u32> {
     let r = TxQueueControl(w);
-    let on = v != 0;
-    let set = match i {
-        0 => r.with_txqnie(on),
-        1 => r.with_txqeie(on),
-        _ => shared::with_control(r, i - 2, v),
+    let set = match name {
+        b"txqnie" => r.with_txqnie(flag(v)?),
+        b"txqeie" => r.with_txqeie(flag(v)?),
+        _ => with_shared_control(r, name, v)?,
     };
-    set.0
+    Some(set.0)
 }
 
-pub const SIZE: usize = 10;
-
-pub fn status(w: u32, i: usize) -> u32 {
+pub fn status(w: u32, name: &[u8]) -> Option<u32> {
     let r = TxQueueStatus(w);
-    match i {
-        0 => r.txqnif() as u32,
-        1 => r.txqeif() as u32,
-        2..=5 => shared::status(r, i - 2) as u32,
-        _ => r.txqci(),
+    match name {
+        b"txqnif" => Some(r.txqnif() as u32),
+        b"txqeif" => Some(r.txqeif() as u32),
+        b"txqci" => Some(r.txqci()),
+        _ => shared_status(r, name),
     }
 }
 
-pub fn with_status(w: u32, i: usize, v: u32) -> u32 {
+pub fn with_status(w: u32, name: &[u8], v: u32) -> Option<u32> {
     let r = TxQueueStatus(w);
-    let on = v != 0;
-    let set = match i {
-        0 => r.with_txqnif(on),
-        1 => r.with_txqeif(on),
-        2..=5 => shared::with_status(r, i - 2, on),
-        _ => r.with_txqci(cut(v, 31)),
+    let set = match name {
+        b"txqnif" => r.with_txqnif(flag(v)?),
+        b"txqeif" => r.with_txqeif(flag(v)?),
+        b"txqci" => r.with_txqci(fitting(v, 5)?),
+        _ => with_shared_status(r, name, v)?,
     };
-    set.0
+    Some(set.0)
 }

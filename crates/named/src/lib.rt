@@ -1,7 +1,7 @@
-// A field that a transcript names: why it has no value, and the place of a name in a text of names.
+// A field that a transcript names: why it has no value, and the values that fit it.
 #![tactic(auto)]
 
-ghost use Rattle.std.specs.Prelude.{◌≤◌};
+ghost use Rattle.std.specs.Prelude.{◌<◌, ◌^◌, IfSome};
 
 // Why reading or setting a field gives no word.
 #[derive(Clone, Copy, PartialEq, Eq, Debug)]
@@ -12,15 +12,19 @@ pub enum NoValue {
     Unknown,
 }
 
-// A value that fits, and the largest one for each that is larger.
-pub fn cut(v: u32, most: u32) -> u32
-    ensures { result ≤ most }
+// A value that so many bits hold.
+pub fn fitting(v: u32, bits: u32) -> Option<u32>
+    requires { bits < 32 }
+    ensures { IfSome result (λ x. x < 2 ^ bits) }
 {
-    if v < most { v } else { most }
+    if v < 1 << bits { Some(v) } else { None }
 }
 
-// Where `name` stands in a list of a text, counted from 0. Lists have a stroke between them, and their names a blank.
-pub fn place(text: &[u8], list: usize, name: &[u8]) -> Option<usize> {
-    let names = text.split(|b| *b == b'/').nth(list)?;
-    names.split(|b| *b == b' ').position(|it| it == name)
+// A value that one bit holds.
+pub fn flag(v: u32) -> Option<bool> {
+    match v {
+        0 => Some(false),
+        1 => Some(true),
+        _ => None,
+    }
 }

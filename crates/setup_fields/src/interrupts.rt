@@ -1,37 +1,41 @@
-// CiINT: the flags of 13 causes, then their enables.
+// CiINT: a flag and an enable for each cause, whose names end in `if` and in `ie`.
 use interrupt::{Cause, Interrupt};
+use named::flag;
 
-fn cause(k: usize) -> Cause {
-    match k {
-        0 => Cause::Tx,
-        1 => Cause::Rx,
-        2 => Cause::Tbc,
-        3 => Cause::Mod,
-        4 => Cause::Tef,
-        5 => Cause::Ecc,
-        6 => Cause::SpiCrc,
-        7 => Cause::TxAt,
-        8 => Cause::RxOv,
-        9 => Cause::Serr,
-        10 => Cause::Cerr,
-        11 => Cause::Wak,
-        _ => Cause::Ivm,
+fn cause(stem: &[u8]) -> Option<Cause> {
+    match stem {
+        b"tx" => Some(Cause::Tx),
+        b"rx" => Some(Cause::Rx),
+        b"tbc" => Some(Cause::Tbc),
+        b"mod" => Some(Cause::Mod),
+        b"tef" => Some(Cause::Tef),
+        b"ecc" => Some(Cause::Ecc),
+        b"spicrc" => Some(Cause::SpiCrc),
+        b"txat" => Some(Cause::TxAt),
+        b"rxov" => Some(Cause::RxOv),
+        b"serr" => Some(Cause::Serr),
+        b"cerr" => Some(Cause::Cerr),
+        b"wak" => Some(Cause::Wak),
+        b"ivm" => Some(Cause::Ivm),
+        _ => None,
     }
 }
 
-pub fn interrupts(w: u32, i: usize) -> bool {
+pub fn interrupts(w: u32, name: &[u8]) -> Option<u32> {
     let r = Interrupt(w);
-    let c = cause(i % 13);
-    if i < 13 { r.flagged(c) } else { r.enabled(c) }
+    match name {
+        [stem @ .., b'i', b'f'] => Some(r.flagged(cause(stem)?) as u32),
+        [stem @ .., b'i', b'e'] => Some(r.enabled(cause(stem)?) as u32),
+        _ => None,
+    }
 }
 
-pub fn with_interrupts(w: u32, i: usize, on: bool) -> u32 {
+pub fn with_interrupts(w: u32, name: &[u8], v: u32) -> Option<u32> {
     let r = Interrupt(w);
-    let c = cause(i % 13);
-    let set = if i < 13 {
-        r.with_flagged(c, on)
-    } else {
-        r.with_enabled(c, on)
+    let set = match name {
+        [stem @ .., b'i', b'f'] => r.with_flagged(cause(stem)?, flag(v)?),
+        [stem @ .., b'i', b'e'] => r.with_enabled(cause(stem)?, flag(v)?),
+        _ => return None,
     };
-    set.0
+    Some(set.0)
 }

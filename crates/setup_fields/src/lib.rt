@@ -1,5 +1,5 @@
-// The registers that `configure` writes and the fields of each, by their places in lists of names, read and set with the
-// port's methods. A value that is too large is set as the largest.
+// The registers that `configure` writes and the fields of each, by their names, read and set with the port's methods: the data sheet's
+// names, of fields in lower case, but for the Rust's `slckdiv`.
 #![tactic(auto)]
 
 mod controller;
@@ -7,29 +7,34 @@ mod interrupts;
 mod pins;
 mod timing;
 
-// Register k of CiCON, CiTSCON, CiINT, CiNBTCFG, CiDBTCFG, CiTDC, OSC and IOCON.
-pub fn read(k: usize, i: usize, w: u32) -> u32 {
-    match k {
-        0 => controller::can_control(w, i),
-        1 => controller::time_stamp_control(w, i),
-        2 => interrupts::interrupts(w, i) as u32,
-        3 => timing::nominal(w, i),
-        4 => timing::data_rate(w, i),
-        5 => timing::delay(w, i),
-        6 => pins::oscillator(w, i),
-        _ => pins::pins(w, i) as u32,
+use bit_timing::{DataBitTimeConfiguration, NominalBitTimeConfiguration};
+
+// The field of a register with this word, none where there is no such register or field.
+pub fn read(register: &[u8], name: &[u8], w: u32) -> Option<u32> {
+    match register {
+        b"CiCON" => controller::can_control(w, name),
+        b"CiTSCON" => controller::time_stamp_control(w, name),
+        b"CiINT" => interrupts::interrupts(w, name),
+        b"CiNBTCFG" => timing::bit_time(NominalBitTimeConfiguration(w), name),
+        b"CiDBTCFG" => timing::bit_time(DataBitTimeConfiguration(w), name),
+        b"CiTDC" => timing::delay(w, name),
+        b"OSC" => pins::oscillator(w, name),
+        b"IOCON" => pins::pins(w, name),
+        _ => None,
     }
 }
 
-pub fn with(k: usize, i: usize, v: u32, w: u32) -> u32 {
-    match k {
-        0 => controller::with_can_control(w, i, v),
-        1 => controller::with_time_stamp_control(w, i, v),
-        2 => interrupts::with_interrupts(w, i, v != 0),
-        3 => timing::with_nominal(w, i, v),
-        4 => timing::with_data_rate(w, i, v),
-        5 => timing::with_delay(w, i, v),
-        6 => pins::with_oscillator(w, i, v),
-        _ => pins::with_pins(w, i, v != 0),
+// The word with the field set, none also where the value is too large.
+pub fn with(register: &[u8], name: &[u8], v: u32, w: u32) -> Option<u32> {
+    match register {
+        b"CiCON" => controller::with_can_control(w, name, v),
+        b"CiTSCON" => controller::with_time_stamp_control(w, name, v),
+        b"CiINT" => interrupts::with_interrupts(w, name, v),
+        b"CiNBTCFG" => Some(timing::with_bit_time(NominalBitTimeConfiguration(w), name, v)?.0),
+        b"CiDBTCFG" => Some(timing::with_bit_time(DataBitTimeConfiguration(w), name, v)?.0),
+        b"CiTDC" => timing::with_delay(w, name, v),
+        b"OSC" => pins::with_oscillator(w, name, v),
+        b"IOCON" => pins::with_pins(w, name, v),
+        _ => None,
     }
 }

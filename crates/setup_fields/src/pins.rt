@@ -1,64 +1,75 @@
 // OSC and IOCON.
 use chip::{IoControl, OscillatorControl};
-use named::cut;
+use named::{fitting, flag};
 
-pub fn oscillator(w: u32, i: usize) -> u32 {
+pub fn oscillator(w: u32, name: &[u8]) -> Option<u32> {
     let r = OscillatorControl(w);
-    match i {
-        0 => r.pllen() as u32,
-        1 => r.oscdis() as u32,
-        2 => r.lpmen() as u32,
-        3 => r.sclkdiv() as u32,
-        4 => r.clkodiv(),
-        5 => r.pllrdy() as u32,
-        6 => r.oscrdy() as u32,
-        _ => r.sclkrdy() as u32,
-    }
+    Some(match name {
+        b"pllen" => r.pllen() as u32,
+        b"oscdis" => r.oscdis() as u32,
+        b"lpmen" => r.lpmen() as u32,
+        b"slckdiv" => r.sclkdiv() as u32,
+        b"clkodiv" => r.clkodiv(),
+        b"pllrdy" => r.pllrdy() as u32,
+        b"oscrdy" => r.oscrdy() as u32,
+        b"sclkrdy" => r.sclkrdy() as u32,
+        _ => return None,
+    })
 }
 
-pub fn with_oscillator(w: u32, i: usize, v: u32) -> u32 {
+pub fn with_oscillator(w: u32, name: &[u8], v: u32) -> Option<u32> {
     let r = OscillatorControl(w);
-    let on = v != 0;
-    let set = match i {
-        0 => r.with_pllen(on),
-        1 => r.with_oscdis(on),
-        2 => r.with_lpmen(on),
-        3 => r.with_sclkdiv(on),
-        4 => r.with_clkodiv(cut(v, 3)),
-        5 => r.with_pllrdy(on),
-        6 => r.with_oscrdy(on),
-        _ => r.with_sclkrdy(on),
+    let set = match name {
+        b"pllen" => r.with_pllen(flag(v)?),
+        b"oscdis" => r.with_oscdis(flag(v)?),
+        b"lpmen" => r.with_lpmen(flag(v)?),
+        b"slckdiv" => r.with_sclkdiv(flag(v)?),
+        b"clkodiv" => r.with_clkodiv(fitting(v, 2)?),
+        b"pllrdy" => r.with_pllrdy(flag(v)?),
+        b"oscrdy" => r.with_oscrdy(flag(v)?),
+        b"sclkrdy" => r.with_sclkrdy(flag(v)?),
+        _ => return None,
     };
-    set.0
+    Some(set.0)
 }
 
-pub fn pins(w: u32, i: usize) -> bool {
+pub fn pins(w: u32, name: &[u8]) -> Option<u32> {
     let r = IoControl(w);
-    let pin = (i % 2) as u8;
-    match i {
-        0 | 1 => r.tris(pin),
-        2 | 3 => r.lat(pin),
-        4 | 5 => r.gpio(pin),
-        6 | 7 => r.pm(pin),
-        8 => r.xstbyen(),
-        9 => r.txcanod(),
-        10 => r.sof(),
-        _ => r.intod(),
-    }
+    let on = match name {
+        b"tris0" => r.tris(0),
+        b"tris1" => r.tris(1),
+        b"lat0" => r.lat(0),
+        b"lat1" => r.lat(1),
+        b"gpio0" => r.gpio(0),
+        b"gpio1" => r.gpio(1),
+        b"pm0" => r.pm(0),
+        b"pm1" => r.pm(1),
+        b"xstbyen" => r.xstbyen(),
+        b"txcanod" => r.txcanod(),
+        b"sof" => r.sof(),
+        b"intod" => r.intod(),
+        _ => return None,
+    };
+    Some(on as u32)
 }
 
-pub fn with_pins(w: u32, i: usize, on: bool) -> u32 {
+pub fn with_pins(w: u32, name: &[u8], v: u32) -> Option<u32> {
     let r = IoControl(w);
-    let pin = (i % 2) as u8;
-    let set = match i {
-        0 | 1 => r.with_tris(pin, on),
-        2 | 3 => r.with_lat(pin, on),
-        4 | 5 => r.with_gpio(pin, on),
-        6 | 7 => r.with_pm(pin, on),
-        8 => r.with_xstbyen(on),
-        9 => r.with_txcanod(on),
-        10 => r.with_sof(on),
-        _ => r.with_intod(on),
+    let on = flag(v)?;
+    let set = match name {
+        b"tris0" => r.with_tris(0, on),
+        b"tris1" => r.with_tris(1, on),
+        b"lat0" => r.with_lat(0, on),
+        b"lat1" => r.with_lat(1, on),
+        b"gpio0" => r.with_gpio(0, on),
+        b"gpio1" => r.with_gpio(1, on),
+        b"pm0" => r.with_pm(0, on),
+        b"pm1" => r.with_pm(1, on),
+        b"xstbyen" => r.with_xstbyen(on),
+        b"txcanod" => r.with_txcanod(on),
+        b"sof" => r.with_sof(on),
+        b"intod" => r.with_intod(on),
+        _ => return None,
     };
-    set.0
+    Some(set.0)
 }

@@ -1,80 +1,50 @@
 // CiNBTCFG, CiDBTCFG and CiTDC.
-ghost use Rattle.std.specs.Prelude.{◌≡◌, ◌+◌, ◌*◌, ◌^◌, ◌<◌};
+use bit_timing::{BitTime, TransmitterDelayCompensation, signed};
+use named::{fitting, flag};
 
-use bit_timing::{
-    BitTime, DataBitTimeConfiguration, NominalBitTimeConfiguration, TransmitterDelayCompensation,
-    signed,
-};
-use named::cut;
-
-// TDCO by its seven bits.
-fn seven_bits(r: TransmitterDelayCompensation) -> u32 {
-    signed::seven(r.tdco())
-}
-
-fn with_seven_bits(r: TransmitterDelayCompensation, v: u32) -> TransmitterDelayCompensation
-    requires { v < 128 }
-{
-    r.with_tdco(signed::number(v))
-}
-
-fn bit_time<R: BitTime>(r: R, i: usize) -> u32 {
-    match i {
-        0 => r.sjw(),
-        1 => r.tseg2(),
-        2 => r.tseg1(),
-        _ => r.brp(),
+// CiNBTCFG or CiDBTCFG.
+pub fn bit_time<R: BitTime>(r: R, name: &[u8]) -> Option<u32> {
+    match name {
+        b"sjw" => Some(r.sjw()),
+        b"tseg2" => Some(r.tseg2()),
+        b"tseg1" => Some(r.tseg1()),
+        b"brp" => Some(r.brp()),
+        _ => None,
     }
 }
 
-// A value up to `most` fits SJW and TSEG2.
-fn with_bit_time<R: BitTime>(r: R, i: usize, v: u32, most: u32) -> R
-    requires { most + 1 ≡ 2 ^ R.BITS }
-{
-    match i {
-        0 => r.with_sjw(cut(v, most)),
-        1 => r.with_tseg2(cut(v, most)),
-        2 => r.with_tseg1(cut(v, 2 * most + 1)),
-        _ => r.with_brp(cut(v, 255)),
+pub fn with_bit_time<R: BitTime>(r: R, name: &[u8], v: u32) -> Option<R> {
+    match name {
+        b"sjw" => Some(r.with_sjw(fitting(v, R::BITS)?)),
+        b"tseg2" => Some(r.with_tseg2(fitting(v, R::BITS)?)),
+        b"tseg1" => Some(r.with_tseg1(fitting(v, R::BITS + 1)?)),
+        b"brp" => Some(r.with_brp(fitting(v, 8)?)),
+        _ => None,
     }
 }
 
-pub fn nominal(w: u32, i: usize) -> u32 {
-    bit_time(NominalBitTimeConfiguration(w), i)
-}
-
-pub fn with_nominal(w: u32, i: usize, v: u32) -> u32 {
-    with_bit_time(NominalBitTimeConfiguration(w), i, v, 127).0
-}
-
-pub fn data_rate(w: u32, i: usize) -> u32 {
-    bit_time(DataBitTimeConfiguration(w), i)
-}
-
-pub fn with_data_rate(w: u32, i: usize, v: u32) -> u32 {
-    with_bit_time(DataBitTimeConfiguration(w), i, v, 15).0
-}
-
-pub fn delay(w: u32, i: usize) -> u32 {
+// TDCO is told by its seven bits.
+pub fn delay(w: u32, name: &[u8]) -> Option<u32> {
     let r = TransmitterDelayCompensation(w);
-    match i {
-        0 => r.tdcv(),
-        1 => seven_bits(r),
-        2 => r.tdcmod(),
-        3 => r.sid11en() as u32,
-        _ => r.edgflten() as u32,
-    }
+    Some(match name {
+        b"tdcv" => r.tdcv(),
+        b"tdco" => signed::seven(r.tdco()),
+        b"tdcmod" => r.tdcmod(),
+        b"sid11en" => r.sid11en() as u32,
+        b"edgflten" => r.edgflten() as u32,
+        _ => return None,
+    })
 }
 
-pub fn with_delay(w: u32, i: usize, v: u32) -> u32 {
+pub fn with_delay(w: u32, name: &[u8], v: u32) -> Option<u32> {
     let r = TransmitterDelayCompensation(w);
-    let on = v != 0;
-    let set = match i {
-        0 => r.with_tdcv(cut(v, 63)),
-        1 => with_seven_bits(r, cut(v, 127)),
-        2 => r.with_tdcmod(cut(v, 3)),
-        3 => r.with_sid11en(on),
-        _ => r.with_edgflten(on),
+    let set = match name {
+        b"tdcv" => r.with_tdcv(fitting(v, 6)?),
+        b"tdco" => r.with_tdco(signed::number(fitting(v, 7)?)),
+        b"tdcmod" => r.with_tdcmod(fitting(v, 2)?),
+        b"sid11en" => r.with_sid11en(flag(v)?),
+        b"edgflten" => r.with_edgflten(flag(v)?),
+        _ => return None,
     };
-    set.0
+    Some(set.0)
 }
