@@ -5,7 +5,6 @@
 mod fifos;
 mod filters;
 mod queue;
-mod shared;
 
 use fifo::{TxQueueUserAddress, UserAddress, UserAddressWord};
 

@@ -51,10 +51,10 @@ fn nearer(a: Fault, b: Fault) -> Fault {
     }
 }
 
-// The first row of a table that is the line's; what its words say goes to the arguments. A row is a name, the line's first word; a letter for each word that follows it: d
-// decimal, h hex, i identifier, f flags, b bytes, m std, ext or both, k std or ext, s timestamp; t, r, o, q, a and u are the words tx,
-// rx, off, queue, back and unread; and what it stands for. The row we is report or rewrite, and behind it entries, any number up to 256,
-// none included.
+// The first row of a table that is the line's; what its words say goes to the arguments. A row is a name, the line's first word; a letter
+// for each word that follows it: d decimal, h hex, i identifier, f flags, b bytes, m std, ext or both, k std or ext, s timestamp; t, r, o,
+// q, a and u are the words tx, rx, off, queue, back and unread; and what it stands for. The row we is report or rewrite, and behind it
+// entries, any number up to 256, none included.
 pub fn row_of<T: Copy>(
     line: &[u8],
     rows: &[(&[u8], &[u8], T)],
