@@ -19,6 +19,7 @@ pub use crate::proved::state::Model;
 /// What a frame that the filters sorted came to.
 #[derive(Clone, Copy, Debug, PartialEq, Eq)]
 pub struct Sorted {
+    /// Delivered, or why not.
     pub delivery: Result<(), Undelivered>,
     /// The FIFO that it was for, also where that turned it down; 0 where it was refused.
     pub fifo: u32,
