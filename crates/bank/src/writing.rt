@@ -8,6 +8,7 @@ ghost use Rattle.bank.specs.Registers.{granted, turned_all, con_set, settled, co
 use configuration::CanControl;
 use fifo::{ControlWord, FifoStatus, TxQueueControl};
 use place::Register;
+use ring::Layout;
 use state::{Fixed, Model, fifo_at, frozen_at, set_word, with_fifo, with_queue};
 
 // The next chip, and whether a change of mode that was asked for was granted; 27 where it wasn't.
@@ -21,7 +22,11 @@ pub struct Written {
 fn granted(x: Fixed, w: u32) -> bool
     ensures { result ≡ granted x w }
 {
-    !CanControl(w).stef() && ring::end(CanControl(w).txqen(), &x.frozen, 31) <= 2048
+    let layout = Layout {
+        queue: CanControl(w).txqen(),
+        words: &x.frozen,
+    };
+    !CanControl(w).stef() && layout.end(31) <= 2048
 }
 
 // Each FIFO's part of entering Configuration or leaving it, and the queue's.

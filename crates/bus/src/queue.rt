@@ -40,24 +40,13 @@ pub fn queue_item(m: Model, k: u8) -> Result<Frame, Undecoded>
 }
 
 // What lies behind the RAM's end is 0.
-fn byte_at(ram: &[u8], at: usize) -> u8
-    ensures { result ≡ get_or ram.now at 0 }
-{
-    ram.get(at).copied().unwrap_or(0)
-}
-
 #[tactic(auto, unfolding(words::specs::Words::le_at))]
 fn word_at(ram: &[u8], at: usize) -> u32
     requires { at ≤ 1000000 }
     ensures { result ≡ le_at ram.now at }
 {
-    let b = [
-        byte_at(ram, at),
-        byte_at(ram, at + 1),
-        byte_at(ram, at + 2),
-        byte_at(ram, at + 3),
-    ];
-    words::le_at(&b, 0)
+    let byte = |k: usize| ram.get(at + k).copied().unwrap_or(0);
+    words::le_at(&[byte(0), byte(1), byte(2), byte(3)], 0)
 }
 
 // The queue's slots begin at the RAM's start.

@@ -30,43 +30,54 @@ fn room(frozen: u32) -> usize
     depth(frozen) as usize * size(frozen)
 }
 
-// The control word of FIFO n, 0 where there is none.
-fn word(ws: &[u32; 32], n: u8) -> u32
-    ensures { result ≡ get_or ws.now n 0 }
-{
-    if n < 32 { ws[n as usize] } else { 0 }
+// What says where slots lie: whether the queue is on, and the control words as last written in Configuration, entry 0 the queue's.
+#[derive(Clone, Copy)]
+pub struct Layout<'a> {
+    pub queue: bool,
+    pub words: &'a [u32; 32],
 }
 
-#[tactic(auto, unfolding(crate::specs::Layout::end))]
-fn first(queue: bool, ws: &[u32; 32]) -> usize
-    ensures { (result ≡ end queue ws.now 0) × (result ≤ 2432) }
-{
-    if queue { room(word(ws, 0)) } else { 0 }
-}
-
-#[tactic(auto, using(crate::proofs::Laws::end_plus))]
-pub fn end(queue: bool, ws: &[u32; 32], n: u8) -> usize
-    ensures { (result ≡ end queue ws.now n) × (result ≤ 2432 * n + 2432) }
-{
-    let mut sum = first(queue, ws);
-    for i in 0..n {
-        sum += room(word(ws, i + 1));
+impl Layout<'_> {
+    // The control word of FIFO n, 0 where there is none.
+    fn word(self, n: u8) -> u32
+        ensures { result ≡ get_or self.entry.words.now n 0 }
+    {
+        let words = self.words;
+        words.get(n as usize).copied().unwrap_or(0)
     }
-    sum
-}
 
-#[tactic(auto, unfolding(crate::specs::Layout::base))]
-fn base(queue: bool, ws: &[u32; 32], n: u8) -> usize
-    ensures { (result ≡ base queue ws.now n) × (result ≤ 2432 * n + 2432) }
-{
-    if n == 0 { 0 } else { end(queue, ws, n - 1) }
-}
+    #[tactic(auto, unfolding(crate::specs::Layout::end))]
+    fn first(self) -> usize
+        ensures { (result ≡ end self.entry.queue self.entry.words.now 0) × (result ≤ 2432) }
+    {
+        if self.queue { room(self.word(0)) } else { 0 }
+    }
 
-// The ring has no slot beyond 510: a head and a count are bytes.
-#[tactic(auto, unfolding(crate::specs::Layout::slot_at))]
-pub fn slot_at(queue: bool, ws: &[u32; 32], n: u8, k: u32) -> usize
-    requires { k ≤ 510 }
-    ensures { (result ≡ slot_at queue ws.now n k) × (result ≤ 1000000) }
-{
-    base(queue, ws, n) + k as usize * size(word(ws, n))
+    // Where FIFO n's slots end.
+    #[tactic(auto, using(crate::proofs::Laws::end_plus))]
+    pub fn end(self, n: u8) -> usize
+        ensures { (result ≡ end self.entry.queue self.entry.words.now n) × (result ≤ 2432 * n + 2432) }
+    {
+        let mut sum = self.first();
+        for i in 0..n {
+            sum += room(self.word(i + 1));
+        }
+        sum
+    }
+
+    #[tactic(auto, unfolding(crate::specs::Layout::base))]
+    fn base(self, n: u8) -> usize
+        ensures { (result ≡ base self.entry.queue self.entry.words.now n) × (result ≤ 2432 * n + 2432) }
+    {
+        if n == 0 { 0 } else { self.end(n - 1) }
+    }
+
+    // Where slot k of FIFO n begins. The ring has no slot beyond 510: a head and a count are bytes.
+    #[tactic(auto, unfolding(crate::specs::Layout::slot_at))]
+    pub fn slot_at(self, n: u8, k: u32) -> usize
+        requires { k ≤ 510 }
+        ensures { (result ≡ slot_at self.entry.queue self.entry.words.now n k) × (result ≤ 1000000) }
+    {
+        self.base(n) + k as usize * size(self.word(n))
+    }
 }

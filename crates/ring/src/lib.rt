@@ -7,7 +7,7 @@ mod readings;
 mod ring;
 mod slots;
 
-pub use layout::{end, size, slot_at, stamped};
+pub use layout::{Layout, size, stamped};
 pub use queue::Queue;
 pub use readings::{control, status};
 pub use ring::{Fifo, claimed, depth, overflowed, place, sending, sent, shown};

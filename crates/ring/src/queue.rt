@@ -102,23 +102,13 @@ pub fn claimed(frozen: u32, q: Queue) -> Queue
     }
 }
 
-// The slot shown once slot k is free.
-fn next(frozen: u32, k: u8, q: Queue) -> u8
-    ensures { result ≡ (if full frozen q then k else q.shown) }
-{
-    if full(frozen, q) {
-        return k;
-    }
-    q.shown
-}
-
 #[tactic(auto, unfolding(crate::specs::Queue::freed))]
 pub fn freed(frozen: u32, k: u8, q: Queue) -> Queue
     ensures { result ≡ freed frozen k q }
 {
     Queue {
         held: flagged(q.held, k, false),
-        shown: next(frozen, k, q),
+        shown: if full(frozen, q) { k } else { q.shown },
         ..q
     }
 }

@@ -16,7 +16,7 @@ use field::Register;
 use fifo::{FifoControl, TxQueueControl};
 use filter::{FilterControl, FilterMask, FilterObject};
 use interrupt::Interrupt;
-use ring::{Fifo, Queue, Slots};
+use ring::{Fifo, Layout, Queue, Slots};
 
 #[derive(Clone, Copy)]
 pub struct Fixed {
@@ -33,7 +33,11 @@ impl Fixed {
         requires { k ≤ 510 }
         ensures { (result ≡ slot_at self.now.queue self.now.frozen n k) × (result ≤ 1000000) }
     {
-        ring::slot_at(self.queue, &self.frozen, n, k)
+        let layout = Layout {
+            queue: self.queue,
+            words: &self.frozen,
+        };
+        layout.slot_at(n, k)
     }
 }
 
