@@ -3,7 +3,7 @@
 
 ghost use Rattle.std.specs.Prelude.{◌≡◌, if◌then◌else◌};
 ghost use Rattle.spi.specs.Ram.{in_range};
-ghost use Rattle.spi.specs.Reply.{done_reply, word_reply};
+ghost use Rattle.spi.specs.Reply.{word_reply};
 ghost use Rattle.spi.specs.Talk.{on_word, on_pair, on_done};
 ghost use Rattle.spi.specs.declared.refusal.Refusal.{Refusal};
 ghost use Rattle.fetch.specs.FetchAt.{FetchAt};
@@ -273,12 +273,6 @@ fn word(answer: Answer, rx: &[u8]) -> Result<u32, Refusal>
     spi::word_reply(Refusal::SpiRead, answer, rx)
 }
 
-fn done(answer: Answer, got: usize, want: usize) -> Result<(), Refusal>
-    ensures { result ≡ done_reply Refusal.SpiRead answer got want }
-{
-    spi::done_reply(Refusal::SpiRead, answer, got, want)
-}
-
 // Where an answer leads, or what the call is refused with: after the end every answer is wrong.
 fn reached(c: FetchNumbers, answer: Answer, rx: &[u8]) -> Result<FetchNumbers, Refusal>
     ensures { Goes c result (next_at c.want (fetch_at c) answer rx.now) }
@@ -290,9 +284,20 @@ fn reached(c: FetchNumbers, answer: Answer, rx: &[u8]) -> Result<FetchNumbers, R
         FetchStage::Header => after_header(c, spi::pair_reply(Refusal::SpiRead, answer, rx)),
         FetchStage::Again => after_again(c, word(answer, rx)),
         FetchStage::Time => after_time(c, word(answer, rx)),
-        FetchStage::Body => after_body(c, done(answer, rx.len(), words::round_up(c.len as usize))),
+        FetchStage::Body => after_body(
+            c,
+            spi::done_reply(
+                Refusal::SpiRead,
+                answer,
+                rx.len(),
+                words::round_up(c.len as usize),
+            ),
+        ),
         FetchStage::Next => after_next(c, word(answer, rx)),
-        FetchStage::Commit => after_commit(c, done(answer, rx.len(), 0)),
+        FetchStage::Commit => after_commit(
+            c,
+            spi::done_reply(Refusal::SpiRead, answer, rx.len(), 0),
+        ),
         _ => Err(Refusal::WrongAnswer),
     }
 }
@@ -300,8 +305,5 @@ fn reached(c: FetchNumbers, answer: Answer, rx: &[u8]) -> Result<FetchNumbers, R
 pub fn next_at(c: FetchNumbers, answer: Answer, rx: &[u8]) -> FetchNumbers
     ensures { standing result ≡ (c.fifo, c.want, next_at c.want (fetch_at c) answer rx.now) }
 {
-    match reached(c, answer, rx) {
-        Ok(n) => n,
-        Err(why) => refused(c, why),
-    }
+    reached(c, answer, rx).unwrap_or_else(|why| refused(c, why))
 }

@@ -2,7 +2,6 @@
 #![tactic(auto)]
 
 ghost use Rattle.std.specs.Prelude.{◌≡◌, ◌<◌, ◌^◌, length};
-ghost use Rattle.spi.specs.Reply.{done_reply};
 ghost use Rattle.spi.specs.declared.refusal.Refusal.{Refusal};
 ghost use Rattle.ram.specs.Echo.{echo_bytes, same};
 ghost use Rattle.ram.specs.Numbers.{at_stage, ram_of, gone};
@@ -175,14 +174,8 @@ fn after_echo(c: RamNumbers, rx: &[u8]) -> Result<RamNumbers, Refusal>
     }
 }
 
-// Every failed exchange of an echo is told as 11.
-fn echo_reply(answer: Answer, got: usize, want: usize) -> Result<(), Refusal>
-    ensures { result ≡ done_reply Refusal.ConfigurationModeTimeout answer got want }
-{
-    spi::done_reply(Refusal::ConfigurationModeTimeout, answer, got, want)
-}
-
-// Where an answer leads, or what the call is refused with. A failed read is told as 1, a failed write as 2.
+// Where an answer leads, or what the call is refused with. A failed read is told as 1, a failed write as 2, every
+// failed exchange of an echo as 11.
 #[tactic(auto, unfolding(crate::specs::Step::step_of))]
 fn reached(c: RamNumbers, answer: Answer, rx: &[u8]) -> Result<RamNumbers, Refusal>
     ensures { gone result ≡ step_of (ram_of c) answer rx.now }
@@ -197,11 +190,16 @@ fn reached(c: RamNumbers, answer: Answer, rx: &[u8]) -> Result<RamNumbers, Refus
             RamStage::Done
         }
         RamStage::EchoWrite => {
-            echo_reply(answer, rx.len(), 0)?;
+            spi::done_reply(Refusal::ConfigurationModeTimeout, answer, rx.len(), 0)?;
             RamStage::EchoRead
         }
         RamStage::EchoRead => {
-            echo_reply(answer, rx.len(), ECHO_LEN)?;
+            spi::done_reply(
+                Refusal::ConfigurationModeTimeout,
+                answer,
+                rx.len(),
+                ECHO_LEN,
+            )?;
             return after_echo(c, rx);
         }
         _ => return Err(Refusal::WrongAnswer),
@@ -212,10 +210,7 @@ fn reached(c: RamNumbers, answer: Answer, rx: &[u8]) -> Result<RamNumbers, Refus
 pub fn ram_step(c: RamNumbers, answer: Answer, rx: &[u8]) -> RamNumbers
     ensures { ram_of result ≡ step_of (ram_of c) answer rx.now }
 {
-    match reached(c, answer, rx) {
-        Ok(n) => n,
-        Err(why) => refused(why),
-    }
+    reached(c, answer, rx).unwrap_or_else(|why| refused(why))
 }
 
 #[tactic(auto, unfolding(crate::specs::Step::outcome_of))]

@@ -197,10 +197,7 @@ fn reached(c: RegisterNumbers, answer: Answer, rx: &[u8]) -> Result<RegisterNumb
 pub fn register_step(c: RegisterNumbers, answer: Answer, rx: &[u8]) -> RegisterNumbers
     ensures { register_of result ≡ step_of (register_of c) answer rx.now }
 {
-    match reached(c, answer, rx) {
-        Ok(n) => n,
-        Err(why) => refused(why),
-    }
+    reached(c, answer, rx).unwrap_or_else(|why| refused(why))
 }
 
 #[tactic(auto, unfolding(crate::specs::Step::outcome_of))]
