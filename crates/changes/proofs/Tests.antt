@@ -4,9 +4,8 @@ use Prim.Native.Nat.{ℕ, ◌^◌}
 use mathlib.Core.Path.{◌≡◌}
 use mathlib.Core.Bool.{true, ◌&&◌}
 use mathlib.Core.List.{List, [], ◌∷◌}
-use borrow.Author.Tests.{lt-ltb, le-ltb, ltb-true}
+use borrow.Author.Tests.{ltb-true}
 use Rattle.laws.proofs.Table.{both}
-use Rattle.configuration.specs.CanControl.{DNCNT}
 use Rattle.bit_timing.specs.Signed.{Small, is_small}
 use Rattle.bit_timing.proofs.Twos.{small_told}
 use Rattle.field.specs.Field.{Field, place, Fits}

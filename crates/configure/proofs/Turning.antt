@@ -1,10 +1,9 @@
 -- How often the items of a plan ask from a place on.
 -- Assumes nothing.
 use Prim.Native.Nat.{ℕ, zero, suc, ◌+◌, ◌-◌, ◌≤◌}
-use mathlib.Core.Path.{◌≡◌, refl, sym, ap, ◌∙◌}
+use mathlib.Core.Path.{◌≡◌, refl, ap, ◌∙◌}
 use mathlib.Core.List.{List, [], ◌∷◌, ◌++◌}
 use native.Mathlib.Nat.{zero-add}
-use native.Mathlib.Numerals.{add-one}
 use lib.ListN.{length, get_or, drop, replicate, drop_of_length-le}
 use Rattle.plan.specs.declared.item.Item.{Item}
 use Rattle.plan.specs.Step.{filled}

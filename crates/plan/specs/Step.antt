@@ -7,7 +7,6 @@ use Rattle.spi.specs.declared.ask.Answer.{Answer}
 use Rattle.spi.specs.Reply.{word_reply, done_reply, wait_reply}
 use Rattle.spi.specs.Talk.{on_word, on_done}
 use Rattle.call.specs.declared.Outcome.{Outcome}
-use Rattle.plan.specs.declared.change.Change.{Change}
 use Rattle.plan.specs.declared.item.Poll.{Poll}
 use Rattle.plan.specs.declared.item.Item.{Item}
 use Rattle.plan.specs.PlanAt.{PlanAt}
