@@ -153,14 +153,23 @@ impl<'a> Judge<'a> {
         self.counts.differ();
     }
 
+    fn count(&mut self) {
+        match self.differs {
+            Some(at) => self.differ(at, self.start),
+            None => self.counts.agree(),
+        }
+    }
+
     // A case ends: it is counted, and told where it differs. One without a result differs whatever its class.
     fn close(&mut self) {
-        match (self.phase, self.class, self.differs) {
-            (Phase::Idle, _, _) => {}
-            (Phase::Lost, _, _) => self.counts.differ(),
-            (Phase::Over, Some(class), _) => self.counts.outside(class),
-            (_, _, Some(at)) => self.differ(at, self.start),
-            _ => self.counts.agree(),
+        match self.phase {
+            Phase::Idle => {}
+            Phase::Lost => self.counts.differ(),
+            Phase::Turn | Phase::Reply => self.count(),
+            Phase::Over => match self.class {
+                Some(class) => self.counts.outside(class),
+                None => self.count(),
+            },
         }
         self.phase = Phase::Idle;
         self.differs = None;
