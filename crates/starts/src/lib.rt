@@ -7,6 +7,7 @@ mod scrubbing;
 mod setup;
 
 use driver::Call;
+use messages::header_at;
 pub use messages::header_of;
 use spoken::{Arguments, CallName, Fault};
 
@@ -42,16 +43,20 @@ pub fn start(name: CallName, a: &Arguments<'_>, place: usize) -> Call {
         CallName::DisableFilter => driver::disable_filter(a.word(0)),
         CallName::ConfigureFilter => setup::filter_call(a),
         CallName::Request => driver::request(a.word(0)),
-        CallName::Push => messages::push_call(a),
-        CallName::Transmit => messages::transmit_call(a),
+        CallName::Push => driver::push(a.word(0), header_at(a, 1), a.word(3), a.bytes()),
+        CallName::Transmit => driver::transmit(a.word(0), header_at(a, 1), a.word(3), a.bytes()),
         CallName::HasNext => driver::has_next(a.word(0)),
         CallName::Peek => driver::peek(a.word(0), ROOM),
         CallName::Get => driver::get(a.word(0), ROOM),
         CallName::Scrub => scrubbing::scrub_call(a, place),
         CallName::DisableTxQueue => driver::configure_tx_queue(None),
         CallName::ConfigureTxQueue => setup::queue_call(a),
-        CallName::QueuePush => messages::queue_push_call(a),
-        CallName::QueuePushUnchecked => messages::queue_push_unchecked_call(a),
+        CallName::QueuePush => driver::queue_push(header_at(a, 0), a.word(2), a.bytes()),
+        CallName::QueuePushUnchecked => driver::queue_push_unchecked(
+            header_at(a, 0),
+            a.word(2),
+            a.bytes(),
+        ),
         CallName::QueueRequest => driver::queue_request(),
     }
 }

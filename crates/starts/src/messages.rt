@@ -1,8 +1,8 @@
-// The calls that take a message.
+// The header of a message, from the arguments of a line.
 ghost use Rattle.std.specs.Prelude.{◌≤◌};
 
 use crate::setup::{identifier, is_extended};
-use driver::{Call, Header};
+use driver::Header;
 use spoken::Arguments;
 
 // Whether a flag's bit is in the number of the flags.
@@ -23,24 +23,8 @@ pub fn header_of(id: u64, flags: u64) -> Header {
 }
 
 // Identifier and flags are the arguments from k on.
-fn header_at(a: &Arguments<'_>, k: usize) -> Header
+pub fn header_at(a: &Arguments<'_>, k: usize) -> Header
     requires { k ≤ 1 }
 {
     header_of(a.number(k), a.number(k + 1))
-}
-
-pub fn push_call(a: &Arguments<'_>) -> Call {
-    driver::push(a.word(0), header_at(a, 1), a.word(3), a.bytes())
-}
-
-pub fn transmit_call(a: &Arguments<'_>) -> Call {
-    driver::transmit(a.word(0), header_at(a, 1), a.word(3), a.bytes())
-}
-
-pub fn queue_push_call(a: &Arguments<'_>) -> Call {
-    driver::queue_push(header_at(a, 0), a.word(2), a.bytes())
-}
-
-pub fn queue_push_unchecked_call(a: &Arguments<'_>) -> Call {
-    driver::queue_push_unchecked(header_at(a, 0), a.word(2), a.bytes())
 }
