@@ -4,46 +4,39 @@ ghost use Rattle.classes.specs.Classes.{is_high, is_long, is_last, is_cut, is_be
 
 use fifo::{ControlWord, FifoControl};
 
+#[tactic(auto, unfolding(crate::specs::Classes::is_high))]
 pub fn is_high(user: u32) -> bool
     ensures { result ≡ is_high user }
 {
     0xFBFF < user
 }
 
+#[tactic(auto, unfolding(crate::specs::Classes::is_long))]
 pub fn is_long(n: usize, w: u32) -> bool
     ensures { result ≡ is_long n w }
 {
     FifoControl(w).payload_size() < n
 }
 
+#[tactic(auto, unfolding(crate::specs::Classes::is_last))]
 pub fn is_last(address: u32, n: u64) -> bool
     ensures { result ≡ is_last address n }
 {
     let a = address as u64;
-    if a < 0x400 {
-        return false;
-    }
-    if 0xC00 < n {
-        return false;
-    }
-    a + n == 0xC00
+    0x400 <= a && n <= 0xC00 && a + n == 0xC00
 }
 
+#[tactic(auto, unfolding(crate::specs::Classes::is_cut))]
 pub fn is_cut(tdco: u64, w: u32) -> bool
     ensures { result ≡ is_cut tdco w }
 {
     (w / 0x4000 % 2) as u64 != tdco / 64 % 2
 }
 
+#[tactic(auto, unfolding(crate::specs::Classes::is_beyond))]
 pub fn is_beyond(address: u32, n: u64) -> bool
     ensures { result ≡ is_beyond address n }
 {
     let a = address as u64;
-    if a < 0x400 {
-        return false;
-    }
-    if 0xFFFF_FFFF < n {
-        return true;
-    }
-    0xFFFF_FFFF < a + n
+    0x400 <= a && 0xFFFF_FFFF - a < n
 }

@@ -47,7 +47,7 @@ impl Drive<'_> {
         let to = self.chip.to;
         to.error(self.number);
         to.write(b"\n");
-        faults::told(to.stderr, self.number, fault, line);
+        faults::told(to, self.number, fault, line);
     }
 
     fn opened(&mut self, line: &[u8]) {

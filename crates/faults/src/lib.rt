@@ -2,14 +2,10 @@
 #![tactic(auto)]
 
 use forms::FORMS;
+use output::Streams;
 use spoken::Fault;
-use std::rt::Stderr;
 
 mod forms;
-
-fn put(stderr: Stderr, s: &[u8]) {
-    let _ = stderr.write_all(s);
-}
 
 // A character as it is shown: one that a terminal would act on is not.
 fn plain(b: u8) -> u8 {
@@ -20,14 +16,14 @@ fn plain(b: u8) -> u8 {
 }
 
 // A word, of a long one the front.
-fn show(stderr: Stderr, w: &[u8]) {
+fn show(to: Streams, w: &[u8]) {
     let mut out = [0u8; 40];
     for (place, b) in out.iter_mut().zip(w) {
         *place = plain(*b);
     }
-    put(stderr, text::front(&out, w.len()));
+    to.tell(text::front(&out, w.len()));
     if 40 < w.len() {
-        put(stderr, b"..");
+        to.tell(b"..");
     }
 }
 
@@ -39,13 +35,13 @@ fn named(line: &[u8]) -> &[u8] {
     }
 }
 
-fn unknown(stderr: Stderr, w: &[u8]) {
+fn unknown(to: Streams, w: &[u8]) {
     if w.is_empty() {
-        put(stderr, b"a name is missing");
+        to.tell(b"a name is missing");
         return;
     }
-    put(stderr, b"unknown word: ");
-    show(stderr, w);
+    to.tell(b"unknown word: ");
+    show(to, w);
 }
 
 // What a letter of a row stands for.
@@ -70,45 +66,45 @@ fn expected(letter: u8) -> &'static [u8] {
     }
 }
 
-fn wrong(stderr: Stderr, w: &[u8], letter: u8) {
-    show(stderr, w);
-    put(stderr, b" is not ");
-    put(stderr, expected(letter));
+fn wrong(to: Streams, w: &[u8], letter: u8) {
+    show(to, w);
+    to.tell(b" is not ");
+    to.tell(expected(letter));
 }
 
-fn reason(stderr: Stderr, fault: Fault, words: &[u8]) {
+fn reason(to: Streams, fault: Fault, words: &[u8]) {
     match fault {
-        Fault::Name => unknown(stderr, text::word(words, 0)),
-        Fault::Count => put(stderr, b"it has another number of words than expected"),
-        Fault::Word(k, letter) => wrong(stderr, text::word(words, k), letter),
-        Fault::Long => put(stderr, b"it is too long"),
-        Fault::Exchange => put(stderr, b"behind its @ is no decimal number"),
-        Fault::Alone => put(stderr, b"it is below no call that was understood"),
-        Fault::Room => put(stderr, b"its call has no room for one more @ line"),
-        Fault::Place => put(stderr, b"it is out of place"),
+        Fault::Name => unknown(to, text::word(words, 0)),
+        Fault::Count => to.tell(b"it has another number of words than expected"),
+        Fault::Word(k, letter) => wrong(to, text::word(words, k), letter),
+        Fault::Long => to.tell(b"it is too long"),
+        Fault::Exchange => to.tell(b"behind its @ is no decimal number"),
+        Fault::Alone => to.tell(b"it is below no call that was understood"),
+        Fault::Room => to.tell(b"its call has no room for one more @ line"),
+        Fault::Place => to.tell(b"it is out of place"),
     }
 }
 
 // The rows of a name.
-fn show_forms(stderr: Stderr, name: &[u8]) {
+fn show_forms(to: Streams, name: &[u8]) {
     for row in FORMS.iter().filter(|row| text::is(row, 0, name)) {
-        put(stderr, b"    expected: ");
-        put(stderr, row);
-        put(stderr, b"\n");
+        to.tell(b"    expected: ");
+        to.tell(row);
+        to.tell(b"\n");
     }
 }
 
 // The line of this number is not understood. What a row has is told where a word or their number is wrong.
-pub fn told(stderr: Stderr, number: u64, fault: Fault, line: &[u8]) {
+pub fn told(to: Streams, number: u64, fault: Fault, line: &[u8]) {
     let words = named(line);
-    put(stderr, b"line ");
+    to.tell(b"line ");
     let mut digits = [0u8; 20];
     let k = io::decimal(number, &mut digits);
-    put(stderr, &digits[..k]);
-    put(stderr, b": ");
-    reason(stderr, fault, words);
-    put(stderr, b"\n");
+    to.tell(&digits[..k]);
+    to.tell(b": ");
+    reason(to, fault, words);
+    to.tell(b"\n");
     if matches!(fault, Fault::Count | Fault::Word(..)) {
-        show_forms(stderr, text::word(words, 0));
+        show_forms(to, text::word(words, 0));
     }
 }

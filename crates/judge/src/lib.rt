@@ -181,7 +181,7 @@ impl<'a> Judge<'a> {
         let mut out = Writer::new(&mut buffer);
         if singles::single(item, line, &mut out).is_none() {
             self.to.error(self.number);
-            faults::told(self.to.stderr, self.number, Fault::Count, line);
+            faults::told(self.to, self.number, Fault::Count, line);
             return self.counts.differ();
         }
         if let Some(class) = singles::class(item, line) {
@@ -211,7 +211,7 @@ impl<'a> Judge<'a> {
 
     fn lose(&mut self, fault: Fault, line: &[u8]) {
         self.to.error(self.number);
-        faults::told(self.to.stderr, self.number, fault, line);
+        faults::told(self.to, self.number, fault, line);
         if self.phase != Phase::Idle {
             self.phase = Phase::Lost;
         }

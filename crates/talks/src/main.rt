@@ -62,7 +62,7 @@ impl Talks<'_> {
 
     fn refused(&self, fault: Fault, line: &[u8]) {
         self.to.error(self.number);
-        faults::told(self.to.stderr, self.number, fault, line);
+        faults::told(self.to, self.number, fault, line);
     }
 
     fn line(&mut self, line: &[u8], long: bool) {

@@ -51,14 +51,6 @@ fits base v d i b k h e = omega (arith, below base v d i h e, small base (i + 1)
 pub first : (base : ℕ) → 0 < base ^ 0
 first base = rw (pow-zero base) (omega arith)
 
-pub empty : (base most : ℕ) (s : List ℕ) → length s < 1 → None ≡ number_of base most s
-unfolding number_of
-empty base most s h = let e : length s ≤ 0 = omega arith in simp (le-ltb _ _ e)
-
-pub long : (base most : ℕ) (s : List ℕ) → 1 ≤ length s → most < length s → None ≡ number_of base most s
-unfolding number_of
-long base most s h k = simp (lt-ltb _ _ h, lt-leb _ _ k)
-
 pub inside : (base most : ℕ) (s : List ℕ) → 1 ≤ length s → length s ≤ most → read_from base 0 s ≡ number_of base most s
 unfolding number_of
 inside base most s h k = simp (lt-ltb _ _ h, le-leb _ _ k)
