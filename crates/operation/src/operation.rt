@@ -1,6 +1,6 @@
 // Bytes sent and a number of bytes wanted, read as an operation.
 ghost use Rattle.std.specs.Prelude.{◌≡◌, ◌≤◌, length};
-ghost use Rattle.operation.specs.Operation.{opcode, address, in_ram, read_at, write_at, checked_at, reset_at, asked};
+ghost use Rattle.operation.specs.Operation.{in_ram, read_at, write_at, checked_at, reset_at, asked};
 
 use place::{Register, register_at};
 
@@ -61,13 +61,7 @@ fn write_at(a: u32, s: &[u8]) -> Operation
 fn checked_at(a: u32, s: &[u8], want: usize) -> Operation
     ensures { result ≡ checked_at a s.now want }
 {
-    if s.len() != 3 {
-        return Operation::None;
-    }
-    if s[2] != 4 {
-        return Operation::None;
-    }
-    if want != 6 {
+    if s.len() != 3 || s[2] != 4 || want != 6 {
         return Operation::None;
     }
     match register_at(a) {
@@ -80,45 +74,14 @@ fn checked_at(a: u32, s: &[u8], want: usize) -> Operation
 fn reset_at(a: u32, s: &[u8], want: usize) -> Operation
     ensures { result ≡ reset_at a s.now want }
 {
-    if a != 0 {
-        return Operation::None;
+    if a == 0 && s.len() == 2 && want == 0 {
+        Operation::Reset
+    } else {
+        Operation::None
     }
-    if s.len() != 2 {
-        return Operation::None;
-    }
-    if want != 0 {
-        return Operation::None;
-    }
-    Operation::Reset
 }
 
 // By the opcode: the exchanges that the chip answers.
-#[tactic(auto, unfolding(crate::specs::Operation::asked))]
-fn by_opcode(op: u32, a: u32, s: &[u8], want: usize) -> Operation
-    requires { (2 ≤ length s.now) × (op ≡ opcode s.now) × (a ≡ address s.now) }
-    ensures { result ≡ asked s.now want }
-{
-    if op == 3 {
-        if s.len() == 2 {
-            return read_at(a, want);
-        }
-        return Operation::None;
-    }
-    if op == 2 {
-        if want == 0 {
-            return write_at(a, s);
-        }
-        return Operation::None;
-    }
-    if op == 11 {
-        return checked_at(a, s, want);
-    }
-    if op == 0 {
-        return reset_at(a, s, want);
-    }
-    Operation::None
-}
-
 #[tactic(auto, unfolding(crate::specs::Operation::asked))]
 pub fn asked(s: &[u8], want: usize) -> Operation
     ensures { result ≡ asked s.now want }
@@ -127,5 +90,12 @@ pub fn asked(s: &[u8], want: usize) -> Operation
         return Operation::None;
     }
     let w = words::be_at(s, 0) as u32;
-    by_opcode(field::get(w, 12, 4), field::get(w, 0, 12), s, want)
+    let a = field::get(w, 0, 12);
+    match field::get(w, 12, 4) {
+        3 if s.len() == 2 => read_at(a, want),
+        2 if want == 0 => write_at(a, s),
+        11 => checked_at(a, s, want),
+        0 => reset_at(a, s, want),
+        _ => Operation::None,
+    }
 }
