@@ -1,6 +1,8 @@
 // What stands between calls: bus steps, raw exchanges, what a FIFO or the transmit queue holds, a new chip. Each is done and written.
 #![tactic(auto)]
 
+ghost use Rattle.std.specs.Prelude.{◌≤◌};
+
 use bus::{Arrival, Sent, Undelivered, Unsent};
 use lines::Writer;
 use message::{Frame, Undecoded};
@@ -83,6 +85,21 @@ pub fn received(heard: Heard, want: usize) -> usize {
     }
 }
 
+// What came back from an exchange that was carried out, and 27 where it asked to leave Configuration and was not granted.
+pub fn write_received(to: Streams, heard: Heard, rx: &[u8], out: &mut Writer<'_>) {
+    out.clear();
+    out.put(b"< ");
+    out.bytes(rx);
+    to.write_line(out.text());
+    if let Heard::NoLayout = heard {
+        to.write_line(b"* 27");
+    }
+}
+
+pub fn write_failed(to: Streams) {
+    to.write_line(b"!");
+}
+
 impl Chip {
     pub fn new(to: Streams) -> Chip {
         Chip {
@@ -142,21 +159,6 @@ impl Chip {
         }
     }
 
-    // What came back from an exchange that was carried out, and 27 where it asked to leave Configuration and was not granted.
-    pub fn write_received(&self, heard: Heard, rx: &[u8], out: &mut Writer<'_>) {
-        out.clear();
-        out.put(b"< ");
-        out.bytes(rx);
-        self.to.write_line(out.text());
-        if let Heard::NoLayout = heard {
-            self.to.write_line(b"* 27");
-        }
-    }
-
-    pub fn write_failed(&self) {
-        self.to.write_line(b"!");
-    }
-
     fn raw(&mut self, sent: &[u8], want: usize) {
         let mut buffer = io::large_buffer();
         let mut out = Writer::new(&mut buffer);
@@ -165,8 +167,13 @@ impl Chip {
         let mut rx = [0u8; 2048];
         let x = model::exchange(self.model, sent, want, &mut rx);
         match x.heard {
-            Heard::Failed => self.write_failed(),
-            heard => self.write_received(heard, text::front(&rx, received(heard, want)), &mut out),
+            Heard::Failed => write_failed(self.to),
+            heard => write_received(
+                self.to,
+                heard,
+                text::front(&rx, received(heard, want)),
+                &mut out,
+            ),
         }
         self.model = x.model;
     }

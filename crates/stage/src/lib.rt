@@ -68,31 +68,34 @@ impl Stage<'_> {
     }
 
     fn failed(&mut self) -> (Answer, usize) {
-        self.chip.write_failed();
+        acts::write_failed(self.chip.to);
         self.got = 0;
         (Answer::Failed, 0)
     }
 
     fn received(&mut self, heard: Heard, n: usize) -> (Answer, usize) {
+        let to = self.chip.to;
         let rx = text::front(self.rx, n);
-        self.chip.write_received(heard, rx, &mut self.out);
-        self.got = rx.len();
-        (Answer::Exchanged, self.got)
+        let got = rx.len();
+        acts::write_received(to, heard, rx, &mut self.out);
+        self.got = got;
+        (Answer::Exchanged, got)
     }
 
-    // An exchange with the chip. Where other bytes are given, those of the chip are not seen.
-    fn carried(&mut self, sent: &[u8], want: usize, given: Option<usize>) -> (Answer, usize) {
+    // An exchange in which other bytes are given, so many of them: those of the chip are not seen.
+    fn answered(&mut self, sent: &[u8], want: usize, given: usize) -> (Answer, usize) {
         let mut unseen = [0u8; 2048];
-        let rx = match given {
-            Some(_) => &mut unseen[..],
-            None => &mut self.rx[..],
-        };
-        let x = model::exchange(self.chip.model, sent, want, rx);
+        let x = model::exchange(self.chip.model, sent, want, &mut unseen);
         self.chip.model = x.model;
-        match (given, x.heard) {
-            (Some(n), heard) => self.received(heard, n),
-            (None, Heard::Failed) => self.failed(),
-            (None, heard) => self.received(heard, acts::received(heard, want)),
+        self.received(x.heard, given)
+    }
+
+    fn carried(&mut self, sent: &[u8], want: usize) -> (Answer, usize) {
+        let x = model::exchange(self.chip.model, sent, want, self.rx);
+        self.chip.model = x.model;
+        match x.heard {
+            Heard::Failed => self.failed(),
+            heard => self.received(heard, acts::received(heard, want)),
         }
     }
 
@@ -104,20 +107,18 @@ impl Stage<'_> {
         if told.fails {
             return self.failed();
         }
-        self.carried(sent, want, told.given)
+        match told.given {
+            Some(n) => self.answered(sent, want, n),
+            None => self.carried(sent, want),
+        }
     }
 
     // What the call does now, done and written: what it is answered, and with how many bytes; nothing once it is over.
     fn turn(&mut self, call: Call) -> Option<(Answer, usize)> {
         let mut tx = [0u8; 4200];
+        let (read, lent, got) = (self.read, self.lent, self.got);
         self.out.clear();
-        port::put_line(
-            call,
-            self.read,
-            self.lent,
-            text::front(self.rx, self.got),
-            &mut self.out,
-        );
+        port::put_line(call, read, lent, text::front(self.rx, got), &mut self.out);
         match driver::next(call, self.lent, &mut tx) {
             Next::Transfer { n, want } => Some(self.exchange(text::front(&tx, n), want)),
             Next::Wait => {
@@ -144,7 +145,13 @@ impl Stage<'_> {
     }
 }
 
-fn through(chip: &mut Chip, name: CallName, a: &Arguments<'_>, place: usize, notes: &[u8]) -> Call {
+fn through<'a>(
+    chip: &'a mut Chip,
+    name: CallName,
+    a: &'a Arguments<'_>,
+    place: usize,
+    notes: &'a [u8],
+) -> Call {
     let mut rx = [0u8; 32768];
     let mut out = io::large_buffer();
     let mut stage = Stage {
