@@ -14,10 +14,13 @@ pub enum NoValue {
 
 // A value that so many bits hold.
 pub fn fitting(v: u32, bits: u32) -> Option<u32>
-    requires { bits < 32 }
     ensures { IfSome result (λ x. x < 2 ^ bits) }
 {
-    if v < 1 << bits { Some(v) } else { None }
+    if bits < 32 && 1 << bits <= v {
+        None
+    } else {
+        Some(v)
+    }
 }
 
 // A value that one bit holds.

@@ -1,6 +1,6 @@
 -- `text::number::read` meets its contract.
 -- Assumes nothing.
-use Rattle.std.proofs.Common.{rules, arith, ◌∙◌, sym}
+use Rattle.std.proofs.Common.{rules, ◌∙◌, sym}
 use native.Mathlib.Nat.{lt_of_le_of_lt, le-add_right}
 use Rattle.text.proofs.Steps.{again, stopped, at_end, below, fits, first, inside}
 use Rattle.text.proofs.number.read.Goals as goal
