@@ -154,7 +154,7 @@ pub use proved::driver::Refusal;
 /// RAM write of n; `rx` needs 64, 128 for `verify_long`, n for a RAM read of n. The loop ends, whatever is answered:
 /// [`turns`](calls::turns) falls at every answer. Between two exchanges of a call nobody else may use the chip.
 ///
-/// Each answer copies a [`Call`](calls::Call), some 150 bytes. Where that is too dear, [`numbers_of`](calls::numbers_of) and
+/// Each answer copies a [`Call`](calls::Call), some 140 bytes. Where that is too dear, [`numbers_of`](calls::numbers_of) and
 /// [`body_of`](calls::body_of) take a call apart, and the functions named `_lent` do the same with the numbers by value and the body lent;
 /// so does [`run`].
 pub mod calls {
