@@ -70,6 +70,27 @@ fn size_of(name: CallName, a: &Arguments<'_>) -> u64 {
     }
 }
 
+// The calls that some class is told of.
+#[derive(Clone, Copy, PartialEq, Eq, Debug)]
+enum Kind {
+    Ram,
+    Timing,
+    Push,
+    Fetch,
+    Other,
+}
+
+fn kind_of(name: CallName) -> Kind {
+    match name {
+        CallName::ReadRam | CallName::WriteRam => Kind::Ram,
+        CallName::ConfigureBitTiming | CallName::Configure => Kind::Timing,
+        CallName::Push | CallName::Transmit | CallName::QueuePush | CallName::QueuePushUnchecked =>
+            Kind::Push,
+        CallName::Peek | CallName::Get => Kind::Fetch,
+        _ => Kind::Other,
+    }
+}
+
 // The word at a place, 0 where there is none.
 fn word_at(rx: &[u8], start: usize) -> u32 {
     match rx.get(start..) {
@@ -169,28 +190,6 @@ impl Seen {
         }
     }
 
-    fn is_ram(self) -> bool {
-        matches!(self.name, CallName::ReadRam | CallName::WriteRam)
-    }
-
-    fn is_timing(self) -> bool {
-        matches!(
-            self.name,
-            CallName::ConfigureBitTiming | CallName::Configure
-        )
-    }
-
-    fn is_push(self) -> bool {
-        matches!(
-            self.name,
-            CallName::Push | CallName::Transmit | CallName::QueuePush | CallName::QueuePushUnchecked
-        )
-    }
-
-    fn is_fetch(self) -> bool {
-        matches!(self.name, CallName::Peek | CallName::Get)
-    }
-
     // The part of a message that would be read after so many exchanges.
     fn fetched(self) -> Option<Part> {
         match self.asked {
@@ -203,36 +202,26 @@ impl Seen {
 
     // The part of RAM that the call goes on with.
     fn part(self) -> Option<Part> {
-        if self.is_push() {
-            return behind(self.user, 0, 8 + rounded(self.size));
-        }
-        if self.is_fetch() {
-            return self.fetched();
-        }
-        if self.is_ram() {
-            return Some(Part {
+        match kind_of(self.name) {
+            Kind::Push => behind(self.user, 0, 8 + rounded(self.size)),
+            Kind::Fetch => self.fetched(),
+            Kind::Ram => Some(Part {
                 address: self.address,
                 size: self.size,
-            });
+            }),
+            _ => None,
         }
-        None
     }
 
     // What the arguments and the answers alone tell.
     fn refused(self) -> Option<Class> {
-        if self.wide {
-            return Some(Class::BadSetting);
+        match kind_of(self.name) {
+            _ if self.wide => Some(Class::BadSetting),
+            Kind::Push | Kind::Fetch if is_high(self.user) => Some(Class::BadUserAddress),
+            Kind::Fetch if self.long => Some(Class::BeyondSlot),
+            Kind::Timing if self.cut => Some(Class::Tdco),
+            _ => None,
         }
-        if (self.is_push() || self.is_fetch()) && is_high(self.user) {
-            return Some(Class::BadUserAddress);
-        }
-        if self.is_fetch() && self.long {
-            return Some(Class::BeyondSlot);
-        }
-        if self.is_timing() && self.cut {
-            return Some(Class::Tdco);
-        }
-        None
     }
 
     // What a result, `= RESULT`, tells besides.
@@ -242,10 +231,12 @@ impl Seen {
                 return Some(Class::LastByte);
             }
         }
-        if self.is_ram() && is_beyond(self.address, self.size) && !refuses(line, self.address) {
-            return Some(Class::Length);
+        match kind_of(self.name) {
+            Kind::Ram if is_beyond(self.address, self.size) && !refuses(line, self.address) => {
+                Some(Class::Length)
+            }
+            _ => None,
         }
-        None
     }
 
     // The class of a case with this result, none where it is compared.

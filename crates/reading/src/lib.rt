@@ -1,7 +1,7 @@
 // Lines of standard input, of any number and any length.
 #![tactic(auto)]
 
-ghost use Rattle.std.specs.Prelude.{◌≤◌, length};
+ghost use Rattle.std.specs.Prelude.{◌≡◌, ◌==◌, ◌≤◌, length};
 
 use output::Streams;
 use std::io::Read;
@@ -13,48 +13,58 @@ pub struct Line<'a> {
     pub long: bool,
 }
 
-// Whether the line so far ends in a space, or is empty.
-fn is_open(line: &[u8]) -> bool {
-    matches!(line, [] | [.., b' '])
+// The line so far, at the front of its buffer.
+#[derive(Drop)]
+struct Filled<'a> {
+    buffer: &'a mut [u8],
+    len: usize,
+    ghost inside: { len ≤ length buffer.now },
 }
 
-// The line's length after one more byte: spaces that follow a space, or stand in front, are left out.
-fn longer(line: &mut [u8], len: usize, b: u8) -> usize
-    requires { len ≤ length line.old }
-    ensures { result ≤ length line.new }
-{
-    if len == line.len() || b == b' ' && is_open(&line[..len]) {
-        return len;
+impl<'a> Filled<'a> {
+    fn line(&self) -> &[u8]
+        ensures { length result.now ≡ self.now.len }
+    {
+        &self.buffer[..self.len]
     }
-    line[len] = b;
-    len + 1
-}
 
-// The line's length without a carriage return at its end. Of a line that fills its buffer the end is not there.
-fn without_return(line: &[u8], len: usize) -> usize
-    requires { len ≤ length line.now }
-    ensures { result ≤ length line.now }
-{
-    match &line[..len] {
-        [front @ .., b'\r'] if len < line.len() => front.len(),
-        _ => len,
+    fn is_full(&self) -> bool
+        ensures { result ≡ (self.now.len == length self.now.buffer.now) }
+    {
+        self.len == self.buffer.len()
     }
-}
 
-// A line that fills its buffer is taken for one that is longer.
-fn ended(line: &[u8], len: usize) -> Line<'_>
-    requires { len ≤ length line.now }
-{
-    if len == line.len() {
-        return Line {
-            text: line,
-            long: true,
-        };
+    // A byte more: spaces that follow a space, or stand in front, are left out.
+    fn push(&mut self, b: u8) {
+        let after_space = matches!(self.line(), [] | [.., b' ']);
+        if self.is_full() || b == b' ' && after_space {
+            return;
+        }
+        self.buffer[self.len] = b;
+        self.len += 1;
     }
-    let text = &line[..len];
-    Line {
-        text: text.strip_suffix(b" ").unwrap_or(text),
-        long: false,
+
+    // Without a carriage return at the end. Of a line that fills its buffer the end is not there.
+    fn cut_return(&mut self) {
+        if !self.is_full() && matches!(self.line(), [.., b'\r']) {
+            self.len -= 1;
+        }
+    }
+
+    // A line that fills its buffer is taken for one that is longer.
+    fn ended(self) -> Line<'a> {
+        let Filled { buffer, len } = self;
+        if len == buffer.len() {
+            return Line {
+                text: buffer,
+                long: true,
+            };
+        }
+        let text = &buffer[..len];
+        Line {
+            text: text.strip_suffix(b" ").unwrap_or(text),
+            long: false,
+        }
     }
 }
 
@@ -107,21 +117,24 @@ impl<'a> Reader<'a> {
     // The next line, without the spaces at its ends and with single spaces between its words, and without a carriage return before its
     // newline; none at the input's end. No input has so many bytes that the turns run out.
     pub fn next_line<'b>(&mut self, line: &'b mut [u8]) -> Option<Line<'b>> {
-        let mut len = 0;
+        let mut filled = Filled {
+            buffer: line,
+            len: 0,
+        };
         for _ in 0..u64::MAX {
             let Some(b) = self.next_byte() else {
-                if len == 0 {
+                if filled.len == 0 {
                     return None;
                 }
                 break;
             };
             if b == b'\n' {
-                len = without_return(line, len);
+                filled.cut_return();
                 break;
             }
-            len = longer(line, len, b);
+            filled.push(b);
         }
-        Some(ended(line, len))
+        Some(filled.ended())
     }
 }
 
