@@ -18,19 +18,19 @@ struct Told {
 
 // A call on the chip: its @ lines, each ended by a newline; what a RAM write sends; how many bytes a RAM read asks for.
 #[derive(Drop)]
-struct Stage<'a> {
-    chip: &'a mut Chip,
+struct Stage<'c, 'a, 'o> {
+    chip: &'c mut Chip,
     notes: &'a [u8],
     lent: &'a [u8],
     read: Option<usize>,
     // How many exchanges were made, and how many bytes of `rx` came last.
     made: u64,
     got: usize,
-    rx: &'a mut [u8],
-    out: Writer<'a>,
+    rx: [u8; 32768],
+    out: Writer<'o>,
 }
 
-impl Stage<'_> {
+impl Stage<'_, '_, '_> {
     // Of two lines that give an answer the last holds.
     fn noted(&mut self, told: Told, note: &[u8]) -> Told {
         let mut lent = [0u8; 32768];
@@ -42,7 +42,7 @@ impl Stage<'_> {
             },
             Ok(Note::Answer) => Told {
                 fails: told.fails,
-                given: text::bytes(text::word(note, 2), self.rx).or(told.given),
+                given: text::bytes(text::word(note, 2), &mut self.rx).or(told.given),
             },
             Ok(Note::Bus(step)) => {
                 self.chip.bus_step(step, text::rest(note, 1), &a);
@@ -75,7 +75,7 @@ impl Stage<'_> {
 
     fn received(&mut self, heard: Heard, n: usize) -> (Answer, usize) {
         let to = self.chip.to;
-        let rx = text::front(self.rx, n);
+        let rx = text::front(&self.rx, n);
         let got = rx.len();
         acts::write_received(to, heard, rx, &mut self.out);
         self.got = got;
@@ -91,7 +91,7 @@ impl Stage<'_> {
     }
 
     fn carried(&mut self, sent: &[u8], want: usize) -> (Answer, usize) {
-        let x = model::exchange(self.chip.model, sent, want, self.rx);
+        let x = model::exchange(self.chip.model, sent, want, &mut self.rx);
         self.chip.model = x.model;
         match x.heard {
             Heard::Failed => self.failed(),
@@ -118,7 +118,7 @@ impl Stage<'_> {
         let mut tx = [0u8; 4200];
         let (read, lent, got) = (self.read, self.lent, self.got);
         self.out.clear();
-        port::put_line(call, read, lent, text::front(self.rx, got), &mut self.out);
+        port::put_line(call, read, lent, text::front(&self.rx, got), &mut self.out);
         match driver::next(call, self.lent, &mut tx) {
             Next::Transfer { n, want } => Some(self.exchange(text::front(&tx, n), want)),
             Next::Wait => {
@@ -139,30 +139,31 @@ impl Stage<'_> {
             let Some((answer, n)) = self.turn(call) else {
                 return call;
             };
-            call = driver::answer(call, answer, text::front(self.rx, n));
+            call = driver::answer(call, answer, text::front(&self.rx, n));
         }
         call
     }
 }
 
 fn through<'a>(
-    chip: &'a mut Chip,
+    chip: &mut Chip,
     name: CallName,
     a: &'a Arguments<'_>,
     place: usize,
     notes: &'a [u8],
 ) -> Call {
-    let mut rx = [0u8; 32768];
-    let mut out = io::large_buffer();
+    let mut buffer = io::large_buffer();
+    let out = Writer::new(&mut buffer);
+    let lent = a.bytes();
     let mut stage = Stage {
         chip,
         notes,
-        lent: a.bytes(),
+        lent,
         read: Seen::new(name, a).read(),
         made: 0,
         got: 0,
-        rx: &mut rx,
-        out: Writer::new(&mut out),
+        rx: [0u8; 32768],
+        out,
     };
     stage.through(starts::start(name, a, place))
 }
