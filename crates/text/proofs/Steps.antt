@@ -54,3 +54,6 @@ first base = rw (pow-zero base) (omega arith)
 pub inside : (base most : ℕ) (s : List ℕ) → 1 ≤ length s → length s ≤ most → read_from base 0 s ≡ number_of base most s
 unfolding number_of
 inside base most s h k = simp (lt-ltb _ _ h, le-leb _ _ k)
+
+-- what the check cites at each goal of the loop
+pub ruleset digit_steps = (again, stopped, at_end, below, fits, first, inside)

@@ -14,7 +14,7 @@ fn digit(b: u8) -> u64
     }
 }
 
-#[tactic(auto, unfolding(crate::specs::Number::number_of))]
+#[tactic(auto, using(crate::proofs::Steps::digit_steps), unfolding(crate::specs::Number::number_of))]
 fn read(s: &[u8], base: u64, most: usize) -> Option<u64>
     requires { (base ≤ 16) × (most ≤ 12) }
     ensures { result ≡ number_of base most s.now }
