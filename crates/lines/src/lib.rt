@@ -1,8 +1,6 @@
 // Transcript text, put into a lent buffer from its front on; what does not fit is left out.
 #![tactic(auto)]
 
-ghost use Rattle.std.specs.Prelude.{◌≤◌};
-
 use call::{Found, Outcome, Report, Rewrite};
 use header::Header;
 use message::Frame;
@@ -32,18 +30,6 @@ fn refused_for(r: Refusal) -> Option<Value> {
         Refusal::InvalidWriteLength(n) => Some(Value::Decimal(n as u64)),
         _ => None,
     }
-}
-
-fn mark(on: bool, n: usize) -> usize
-    ensures { result ≤ n }
-{
-    if on { n } else { 0 }
-}
-
-// The letters of the flags that are on, by their number: FDF 1, BRS 2, ESI 4, RTR 8.
-fn flags_of(h: Header) -> &'static [u8] {
-    let n = mark(h.fdf, 1) + mark(h.brs, 2) + mark(h.esi, 4) + mark(h.rtr, 8);
-    text::word(b"- f b fb e fe be fbe r fr br fbr er fer ber fber", n)
 }
 
 fn time(stamp: Option<u32>) -> Value {
@@ -165,12 +151,24 @@ impl<'a> Writer<'a> {
         self.value(Value::Hex(h.id as u64, 1));
     }
 
+    // The letters of the flags that are on, `-` for none.
+    fn flags(&mut self, h: Header) {
+        if !h.fdf && !h.brs && !h.esi && !h.rtr {
+            self.byte(b'-');
+        }
+        for (on, letter) in [(h.fdf, b'f'), (h.brs, b'b'), (h.esi, b'e'), (h.rtr, b'r')] {
+            if on {
+                self.byte(letter);
+            }
+        }
+    }
+
     // What it is, its header with what follows, a timestamp in a message and SEQ in a frame, and its payload.
     fn message(&mut self, what: &[u8], h: Header, v: Value, payload: &[u8]) {
         self.put(what);
         self.identifier(h);
         self.byte(b' ');
-        self.put(flags_of(h));
+        self.flags(h);
         self.value(v);
         self.byte(b' ');
         self.bytes(payload);
