@@ -24,6 +24,8 @@ BEGIN {
     set_of(integer, "u8 u16 u32 u64 usize i8 i16 i32 i64 isize")
     set_of(method, "read write_all stdin stdout stderr " methods)
     core_names()
+    core_methods()
+    core_functions()
     # what Rust or Rattle reserve: none of these is a name
     set_of(reserved, "as break const crate else enum false fn if impl let loop match mod mut pub return self Self struct true use while")
     set_of(reserved, "abstract async await become box continue do dyn extern final for gen in macro move override priv ref static super")
@@ -50,7 +52,7 @@ function set_of(set, words,    i, k) { for (i = split(words, k, " "); i > 0; i--
 function ranked(r, signs,    i, k) { for (i = split(signs, k, " "); i > 0; i--) rank[k[i]] = r }
 
 # What is core's in Rust, since 1.81, and in Rattle the same: a name, the same arguments, the same answer. So not `clone`, which answers a
-# Result in Rattle, `expect`, which takes a handle there, or `binary_search`, which may answer any of several.
+# Result in Rattle, `expect`, which takes a handle there, or `binary_search`, which may answer any of several. First names in general.
 function core_names() {
     # what is in scope in both without an import: no item, import or pattern of the source's own has such a name
     set_of(prelude, "Some None Ok Err Option Result AsMut AsRef Clone Copy Default DoubleEndedIterator Drop Eq ExactSizeIterator Extend Fn")
@@ -60,6 +62,8 @@ function core_names() {
     set_of(differs, "Clone Copy Drop Model Owns Send Sync Unpin")
     set_of(of_layout, "size_of size_of_val align_of align_of_val discriminant transmute type_name")
     set_of(core_module, "array error cmp convert fmt iter marker mem num ops option result slice")
+}
+function core_methods() {
     # of slices and arrays
     set_of(core_method, "len is_empty get get_mut first first_mut last last_mut split_at split_at_mut split_first split_last iter iter_mut")
     set_of(core_method, "split splitn starts_with ends_with strip_prefix strip_suffix contains copy_from_slice fill swap reverse")
@@ -72,8 +76,7 @@ function core_names() {
     set_of(core_method, "as_ref as_mut as_slice")
     # of iterators and ranges
     set_of(core_method, "into_iter enumerate zip rev skip step_by chain take_while skip_while map_while filter_map any all position find")
-    set_of(core_method, "find_map")
-    set_of(core_method, "count sum product fold try_fold nth next next_back")
+    set_of(core_method, "find_map count sum product fold try_fold nth next next_back")
     # of numbers
     set_of(core_method, "min max clamp pow abs_diff div_ceil next_multiple_of next_power_of_two rem_euclid div_euclid is_power_of_two")
     set_of(core_method, "count_ones count_zeros leading_zeros trailing_zeros rotate_left rotate_right swap_bytes reverse_bits")
@@ -84,7 +87,9 @@ function core_names() {
     set_of(core_method, "is_ascii_whitespace is_ascii_graphic eq_ignore_ascii_case to_ascii_lowercase to_ascii_uppercase as_bytes")
     # of traits
     set_of(core_method, "eq ne lt le gt ge cmp partial_cmp then then_with is_eq is_ne is_lt is_le is_gt is_ge into try_into")
-    # by a path: of a number of a fixed width, and of any
+}
+# By a path: of a number of a fixed width, and of any.
+function core_functions() {
     set_of(of_fixed, "from try_from default from_le_bytes from_be_bytes min max abs_diff div_ceil is_power_of_two count_ones count_zeros")
     set_of(of_fixed, "leading_zeros trailing_zeros rotate_left rotate_right swap_bytes reverse_bits to_le_bytes to_be_bytes wrapping_add")
     set_of(of_fixed, "wrapping_sub wrapping_mul checked_add checked_sub checked_mul saturating_add saturating_sub saturating_mul eq cmp")

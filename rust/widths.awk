@@ -117,7 +117,7 @@ function computes(s) {
     gsub(/->|=>|!=|<=|>=|==/, " ", s)
     gsub(/(matches|unreachable)!/, "", s)
     if (s ~ /[.:](sum|product|pow|abs_diff|div_ceil|next_[a-z]+_of[a-z_]*|(rem|div)_euclid)[(:)]/) return 1
-    if (s ~ /[.:]((count|leading)_zeros|rotate_(left|right)|reverse_bits)[(:)]/) return 1
+    if (s ~ /[.:]((count|leading)_zeros|rotate_(left|right)|reverse_bits|swap_bytes)[(:)]/) return 1
     if (s ~ /(wrapping|checked|saturating)_(add|sub|mul|div|rem|neg|pow|shl|shr)|try_from|try_into|[.]trailing_zeros/) return 1
     return s ~ /[+*\/%!-]/ || s ~ /(^|[^A-Za-z0-9_])as([^A-Za-z0-9_]|$)/
 }
