@@ -79,6 +79,7 @@ fn stage_turns(p: PushNumbers, stage: RequestStage) -> u32
 }
 
 // A request that has begun is at its own stage; before that it reads and writes, where there is such a FIFO.
+#[tactic(auto, using(crate::proofs::Counts::request_left))]
 fn request_turns(c: TransmitNumbers) -> u32
     ensures { (result ≡ plan_left (transmit_in c []).request) × (result < 1000) }
 {

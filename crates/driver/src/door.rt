@@ -15,6 +15,7 @@ use watch::Scrubber;
 
 // What the call asks for now, its bytes put at the front of `tx`. `lent` is what a RAM write was started with, otherwise not looked
 // at.
+#[tactic(auto, unfolding(crate::specs::Numbers::call_of))]
 pub fn next(call: Call, lent: &[u8], tx: &mut [u8]) -> Next
     ensures { (result ≡ next_of (ask_of (call_of call)) (body_of (call_of call) lent.now) tx.old) × (tx.new ≡ put_into (ask_of (call_of call)) (body_of (call_of call) lent.now) tx.old) }
 {
@@ -23,6 +24,7 @@ pub fn next(call: Call, lent: &[u8], tx: &mut [u8]) -> Next
 }
 
 // Where an answer takes the call. `rx` is what the exchange received: as many bytes as `next` wanted.
+#[tactic(auto, unfolding(crate::specs::Numbers::call_of))]
 pub fn answer(mut call: Call, answer: Answer, rx: &[u8]) -> Call
     ensures { call_of result ≡ step_of (call_of call) answer rx.now }
 {
@@ -34,6 +36,7 @@ pub fn answer(mut call: Call, answer: Answer, rx: &[u8]) -> Call
 
 // How the call ended, the lent buffer filled. `rx` is what the last exchange received. 28 where the buffer is too small, 26 where a RAM
 // read is given other bytes than it received: then no byte is changed, and the call may be finished again.
+#[tactic(auto, unfolding(crate::specs::Numbers::call_of))]
 pub fn finish(call: Call, rx: &[u8], buf: &mut [u8]) -> Outcome
     ensures { (result ≡ finished_as (call_of call) (length rx.now) (length buf.old)) × (buf.new ≡ filled_by (call_of call) rx.now buf.old) }
 {
@@ -67,6 +70,7 @@ pub fn scrubber(call: Call) -> Scrubber
 }
 
 // The most exchanges and waits that are left.
+#[tactic(auto, unfolding(crate::specs::Numbers::call_of))]
 pub fn turns(call: Call) -> u32
     ensures { result ≡ left (call_of call) }
 {

@@ -53,6 +53,7 @@ fn is_own(c: Numbers) -> bool
 }
 
 // What the call asks for now, its bytes put at the front of `tx`. `lent` is what a RAM write was started with.
+#[tactic(auto, using(crate::proofs::Bodies::own_body, crate::proofs::Bodies::pattern_body, crate::proofs::Bodies::lent_body, crate::proofs::Bodies::ask_any))]
 pub fn next_lent(c: Numbers, body: &[u8; 76], lent: &[u8], tx: &mut [u8]) -> Next
     ensures { (result ≡ next_of (ask_of (model_of c body.now)) (body_of (model_of c body.now) lent.now) tx.old) × (tx.new ≡ put_into (ask_of (model_of c body.now)) (body_of (model_of c body.now) lent.now) tx.old) }
 {
