@@ -8,7 +8,7 @@ use mathlib.Core.Path.{◌≡◌, refl, ap, ◌∙◌, subst, ap₂}
 use mathlib.Core.Bool.{Bool, true, false}
 use mathlib.Core.List.Perm
 use mathlib.Core.List.{List, [], ◌∷◌, ◌++◌, Perm, perm_append_singleton}
-use lib.Dec.{ltb, eqb}
+use lib.Dec.{ltb}
 use lib.ListN.{length, get_or}
 use Rattle.laws.proofs.Choice.{by_if}
 use Rattle.field.specs.Field.{mark}
