@@ -114,7 +114,7 @@ fn with_second(sending: bool, name: &[u8], v: u32, b: u32) -> Option<u32> {
 }
 
 // The header's words with the field set, and no value also where that is too large.
-pub fn with(sending: bool, name: &[u8], v: u32, word: u64) -> Result<u64, NoValue> {
+pub(crate) fn with(sending: bool, name: &[u8], v: u32, word: u64) -> Result<u64, NoValue> {
     let a = low(word);
     let b = high(word);
     match name {

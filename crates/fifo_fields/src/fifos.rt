@@ -3,7 +3,7 @@ use fifo::{ControlWord, FifoControl, FifoStatus, StatusWord};
 use named::{fitting, flag};
 
 // A field of either control word. `fifo_size` is FSIZE + 1.
-pub fn shared_control<R: ControlWord>(r: R, name: &[u8]) -> Option<u32> {
+pub(crate) fn shared_control<R: ControlWord>(r: R, name: &[u8]) -> Option<u32> {
     match name {
         b"txatie" => Some(r.txatie() as u32),
         b"txen" => Some(r.txen() as u32),
@@ -19,7 +19,7 @@ pub fn shared_control<R: ControlWord>(r: R, name: &[u8]) -> Option<u32> {
 }
 
 // A size's values begin with 1, and one above 32 is set as 32.
-pub fn with_shared_control<R: ControlWord>(r: R, name: &[u8], v: u32) -> Option<R> {
+pub(crate) fn with_shared_control<R: ControlWord>(r: R, name: &[u8], v: u32) -> Option<R> {
     match name {
         b"txatie" => Some(r.with_txatie(flag(v)?)),
         b"txen" => Some(r.with_txen(flag(v)?)),
@@ -62,7 +62,7 @@ pub fn with_control(w: u32, name: &[u8], v: u32) -> Option<u32> {
 }
 
 // A field of either status word.
-pub fn shared_status<R: StatusWord>(r: R, name: &[u8]) -> Option<u32> {
+pub(crate) fn shared_status<R: StatusWord>(r: R, name: &[u8]) -> Option<u32> {
     match name {
         b"txatif" => Some(r.txatif() as u32),
         b"txerr" => Some(r.txerr() as u32),
@@ -72,7 +72,7 @@ pub fn shared_status<R: StatusWord>(r: R, name: &[u8]) -> Option<u32> {
     }
 }
 
-pub fn with_shared_status<R: StatusWord>(r: R, name: &[u8], v: u32) -> Option<R> {
+pub(crate) fn with_shared_status<R: StatusWord>(r: R, name: &[u8], v: u32) -> Option<R> {
     match name {
         b"txatif" => Some(r.with_txatif(flag(v)?)),
         b"txerr" => Some(r.with_txerr(flag(v)?)),

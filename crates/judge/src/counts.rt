@@ -19,7 +19,7 @@ fn tell_class(to: Streams, k: usize, n: u64) {
 }
 
 impl Counts {
-    pub fn new() -> Counts {
+    pub(crate) fn new() -> Counts {
         Counts {
             agree: 0,
             outside: [0u64; 7],
@@ -27,22 +27,22 @@ impl Counts {
         }
     }
 
-    pub fn agree(&mut self) {
+    pub(crate) fn agree(&mut self) {
         self.agree = self.agree.saturating_add(1);
     }
 
-    pub fn outside(&mut self, class: Class) {
+    pub(crate) fn outside(&mut self, class: Class) {
         if let Some(n) = self.outside.get_mut(class as usize) {
             *n = n.saturating_add(1);
         }
     }
 
-    pub fn differ(&mut self) {
+    pub(crate) fn differ(&mut self) {
         self.differ = self.differ.saturating_add(1);
     }
 
     // The classes outside that there are, each with its count; and how many cases there are.
-    pub fn tell(&self, to: Streams) {
+    pub(crate) fn tell(&self, to: Streams) {
         let mut outside: u64 = 0;
         for (k, n) in self.outside.iter().enumerate() {
             if 0 < *n {

@@ -1,6 +1,8 @@
 // Transcript text, put into a lent buffer from its front on; what does not fit is left out.
 #![tactic(auto)]
 
+ghost use Rattle.std.specs.Prelude.{◌≡◌, ◌-◌, length, take};
+
 use call::{Found, Outcome, Report, Rewrite};
 use header::Header;
 use message::Frame;
@@ -68,20 +70,32 @@ pub struct Writer<'a> {
 }
 
 impl<'a> Writer<'a> {
-    pub fn new(out: &'a mut [u8]) -> Writer<'a> {
+    pub fn new(out: &'a mut [u8]) -> Writer<'a>
+        ensures empty { result.len ≡ 0 }
+        ensures same_buffer { result.out.ghost_name ≡ out.entry.ghost_name }
+        ensures as_it_was { result.out.now ≡ out.old }
+    {
         Writer { out, len: 0 }
     }
 
-    pub fn text(&self) -> &[u8] {
+    pub fn text(&self) -> &[u8]
+        ensures { result.now ≡ take self.now.len self.now.out.now }
+    {
         text::front(self.out, self.len)
     }
 
-    pub fn clear(&mut self) {
+    pub fn clear(&mut self)
+        ensures empty { self.new.len ≡ 0 }
+        ensures same_buffer { self.new.out.ghost_name ≡ self.old.out.ghost_name }
+        ensures as_it_was { self.new.out.now ≡ self.old.out.now }
+    {
         self.len = 0;
     }
 
     // How many bytes more fit.
-    pub fn room(&self) -> usize {
+    pub fn room(&self) -> usize
+        ensures { result ≡ length self.now.out.now - self.now.len }
+    {
         self.out.len().saturating_sub(self.len)
     }
 

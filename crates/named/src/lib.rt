@@ -1,7 +1,8 @@
 // A field that a transcript names: why it has no value, and the values that fit it.
 #![tactic(auto)]
 
-ghost use Rattle.std.specs.Prelude.{◌<◌, ◌^◌, IfSome};
+ghost use Rattle.std.specs.Prelude.{◌≡◌, ◌<◌, ◌^◌, IfSome};
+ghost use Rattle.named.specs.Flag.{flag_of};
 
 // Why reading or setting a field gives no word.
 #[derive(Clone, Copy, PartialEq, Eq, Debug)]
@@ -24,7 +25,10 @@ pub fn fitting(v: u32, bits: u32) -> Option<u32>
 }
 
 // A value that one bit holds.
-pub fn flag(v: u32) -> Option<bool> {
+#[tactic(auto, unfolding(crate::specs::Flag::flag_of))]
+pub fn flag(v: u32) -> Option<bool>
+    ensures { result ≡ flag_of v }
+{
     match v {
         0 => Some(false),
         1 => Some(true),

@@ -70,7 +70,7 @@ impl<'a> Filled<'a> {
 
 // Standard input, and which bytes of the piece that was read last are left.
 #[derive(Drop)]
-pub struct Reader<'a> {
+struct Reader<'a> {
     streams: Streams,
     piece: &'a mut [u8],
     at: usize,
@@ -79,7 +79,7 @@ pub struct Reader<'a> {
 
 impl<'a> Reader<'a> {
     // Before the first line.
-    pub fn new(streams: Streams, piece: &'a mut [u8]) -> Reader<'a> {
+    fn new(streams: Streams, piece: &'a mut [u8]) -> Reader<'a> {
         Reader {
             streams,
             piece,
@@ -116,7 +116,7 @@ impl<'a> Reader<'a> {
 
     // The next line, without the spaces at its ends and with single spaces between its words, and without a carriage return before its
     // newline; none at the input's end. No input has so many bytes that the turns run out.
-    pub fn next_line<'b>(&mut self, line: &'b mut [u8]) -> Option<Line<'b>> {
+    fn next_line<'b>(&mut self, line: &'b mut [u8]) -> Option<Line<'b>> {
         let mut filled = Filled {
             buffer: line,
             len: 0,

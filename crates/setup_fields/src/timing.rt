@@ -3,7 +3,7 @@ use bit_timing::{BitTime, TransmitterDelayCompensation, signed};
 use named::{fitting, flag};
 
 // CiNBTCFG or CiDBTCFG.
-pub fn bit_time<R: BitTime>(r: R, name: &[u8]) -> Option<u32> {
+pub(crate) fn bit_time<R: BitTime>(r: R, name: &[u8]) -> Option<u32> {
     match name {
         b"sjw" => Some(r.sjw()),
         b"tseg2" => Some(r.tseg2()),
@@ -13,7 +13,7 @@ pub fn bit_time<R: BitTime>(r: R, name: &[u8]) -> Option<u32> {
     }
 }
 
-pub fn with_bit_time<R: BitTime>(r: R, name: &[u8], v: u32) -> Option<R> {
+pub(crate) fn with_bit_time<R: BitTime>(r: R, name: &[u8], v: u32) -> Option<R> {
     match name {
         b"sjw" => Some(r.with_sjw(fitting(v, R::BITS)?)),
         b"tseg2" => Some(r.with_tseg2(fitting(v, R::BITS)?)),

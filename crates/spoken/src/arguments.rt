@@ -1,4 +1,6 @@
 // What the words of a line say.
+ghost use Rattle.std.specs.Prelude.{◌≡◌, ◌==◌, ◌≤◌, ◌<◌, ◌↔◌, ℕ, IsTrue, get_or, length, min, replicate, take};
+
 use crate::Fault;
 use crate::entries::entry;
 
@@ -47,7 +49,12 @@ fn argument(letter: u8, w: &[u8], lent: &mut [u8]) -> Option<u64> {
 
 impl<'a> Arguments<'a> {
     // Of no line yet; the bytes of one will be in the lent buffer.
-    pub fn new(lent: &'a mut [u8]) -> Arguments<'a> {
+    pub fn new(lent: &'a mut [u8]) -> Arguments<'a>
+        ensures numbers { result.numbers ≡ replicate 24 0 }
+        ensures last { result.last ≡ 0 }
+        ensures lent { result.lent.ghost_name ≡ lent.entry.ghost_name }
+        ensures as_it_was { result.lent.now ≡ lent.old }
+    {
         Arguments {
             numbers: [0u64; 24],
             lent,
@@ -56,36 +63,50 @@ impl<'a> Arguments<'a> {
     }
 
     // Argument k, 0 where there is none.
-    pub fn number(&self, k: usize) -> u64 {
+    pub fn number(&self, k: usize) -> u64
+        ensures { result ≡ get_or self.now.numbers k 0 }
+    {
         self.numbers.get(k).copied().unwrap_or(0)
     }
 
     // The largest number where it is larger.
-    pub fn word(&self, k: usize) -> u32 {
+    pub fn word(&self, k: usize) -> u32
+        ensures { result ≡ min (get_or self.now.numbers k 0) u32.MAX }
+    {
         u32::try_from(self.number(k)).unwrap_or(u32::MAX)
     }
 
-    pub fn is_on(&self, k: usize) -> bool {
+    pub fn is_on(&self, k: usize) -> bool
+        ensures { result ≡ (get_or self.now.numbers k 0 == 1) }
+    {
         self.number(k) == 1
     }
 
     // Whether the arguments from `from` up to `to` are each 0 or 1.
-    pub fn are_flags(&self, from: usize, to: usize) -> bool {
+    pub fn are_flags(&self, from: usize, to: usize) -> bool
+        ensures { IsTrue result ↔ ((k : ℕ) → from ≤ k → k < to → get_or self.now.numbers k 0 ≤ 1) }
+    {
         (from..to).all(|k| self.number(k) <= 1)
     }
 
     // The bytes that argument k is.
-    pub fn payload(&self, k: usize) -> &[u8] {
+    pub fn payload(&self, k: usize) -> &[u8]
+        ensures { result.now ≡ take (get_or self.now.numbers k 0) self.now.lent.now }
+    {
         text::front(self.lent, self.number(k) as usize)
     }
 
     // The bytes that the last argument is.
-    pub fn bytes(&self) -> &[u8] {
+    pub fn bytes(&self) -> &[u8]
+        ensures { result.now ≡ take self.now.last self.now.lent.now }
+    {
         text::front(self.lent, self.last)
     }
 
     // The last argument's number.
-    pub fn last(&self) -> usize {
+    pub fn last(&self) -> usize
+        ensures { result ≡ self.now.last }
+    {
         self.last
     }
 
@@ -97,7 +118,7 @@ impl<'a> Arguments<'a> {
     }
 
     // Those of a line whose row has a letter for each.
-    pub fn fill(&mut self, line: &[u8], shape: &[u8]) -> Result<(), Fault> {
+    pub(crate) fn fill(&mut self, line: &[u8], shape: &[u8]) -> Result<(), Fault> {
         if text::count(line) != shape.len() + 1 {
             return Err(Fault::Count);
         }
@@ -110,7 +131,7 @@ impl<'a> Arguments<'a> {
     }
 
     // Those of a line whose row is we: the last one is all its entries.
-    pub fn fill_list(&mut self, line: &[u8]) -> Result<(), Fault> {
+    pub(crate) fn fill_list(&mut self, line: &[u8]) -> Result<(), Fault> {
         let words = text::count(line);
         if words < 2 || 258 < words {
             return Err(Fault::Count);

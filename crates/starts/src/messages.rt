@@ -23,7 +23,7 @@ pub fn header_of(id: u64, flags: u64) -> Header {
 }
 
 // Identifier and flags are the arguments from k on.
-pub fn header_at(a: &Arguments<'_>, k: usize) -> Header
+pub(crate) fn header_at(a: &Arguments<'_>, k: usize) -> Header
     requires { k ≤ 1 }
 {
     header_of(a.number(k), a.number(k + 1))

@@ -1,6 +1,8 @@
 // Words of a line, and what a word says. A line has single spaces between its words and none at its ends.
 #![tactic(auto)]
 
+ghost use Rattle.std.specs.Prelude.{◌≡◌, ◌≤◌, IfSome, length, take};
+
 mod number;
 
 pub use number::{EXTENDED, bytes, decimal, flags, hex, identifier};
@@ -30,7 +32,9 @@ pub fn count(line: &[u8]) -> usize {
 }
 
 // Which word of a list this is.
-pub fn place(list: &[u8], name: &[u8]) -> Option<usize> {
+pub fn place(list: &[u8], name: &[u8]) -> Option<usize>
+    ensures { IfSome result (λ k. (k ≤ length list.now) × (length name.now ≤ length list.now)) }
+{
     list.split(is_space).position(|it| it == name)
 }
 
@@ -40,6 +44,8 @@ pub fn is(line: &[u8], k: usize, name: &[u8]) -> bool {
 }
 
 // The first n bytes, all where there are fewer.
-pub fn front(s: &[u8], n: usize) -> &[u8] {
+pub fn front(s: &[u8], n: usize) -> &[u8]
+    ensures { result.now ≡ take n s.now }
+{
     s.get(..n).unwrap_or(s)
 }
