@@ -1,1 +1,2 @@
 pub mod Classes
+pub mod Seen

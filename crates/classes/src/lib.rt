@@ -2,7 +2,8 @@
 // result that are written there.
 #![tactic(auto)]
 
-ghost use Rattle.std.specs.Prelude.{◌≤◌};
+ghost use Rattle.std.specs.Prelude.{◌≡◌, ◌≢◌, ◌+◌, ◌≤◌, false, get_or, min, IsFalse};
+ghost use Rattle.classes.specs.Seen.{IsRead};
 
 use spoken::{Arguments, CallName};
 
@@ -142,7 +143,12 @@ fn refuses(line: &[u8], address: u32) -> bool {
 
 impl Seen {
     // A case whose call has these arguments.
-    pub fn new(name: CallName, a: &Arguments<'_>) -> Seen {
+    pub fn new(name: CallName, a: &Arguments<'_>) -> Seen
+        ensures call { (result.name ≡ name) × (result.address ≡ min (get_or a.now.numbers 0 0) u32.MAX) }
+        ensures exchanges { (result.asked ≡ 0) × (result.delay ≡ false) }
+        ensures words { (result.user ≡ 0) × (result.second ≡ 0) }
+        ensures tests { (result.cut ≡ false) × (result.long ≡ false) × (result.stamped ≡ false) }
+    {
         Seen {
             name,
             wide: is_wide(name, a),
@@ -159,7 +165,9 @@ impl Seen {
     }
 
     // How many bytes a RAM read asks for.
-    pub fn read(self) -> Option<usize> {
+    pub fn read(self) -> Option<usize>
+        ensures { IsRead self result }
+    {
         if self.name == CallName::ReadRam && self.size < 0xFFFF_FFFF {
             return Some(self.size as usize);
         }
@@ -167,13 +175,23 @@ impl Seen {
     }
 
     // After an exchange, `> SENT WANT`: CiTDC is read by 300c.
-    pub fn ask(&mut self, line: &[u8]) {
+    pub fn ask(&mut self, line: &[u8])
+        ensures counted { self.new.asked ≡ min (self.old.asked + 1) u32.MAX }
+        ensures others { self.new ≡ record self.old { asked = self.new.asked; delay = self.new.delay } }
+    {
         self.asked = self.asked.saturating_add(1);
         self.delay = text::is(line, 1, b"300c") && text::is(line, 2, b"4");
     }
 
     // After the answer to an exchange.
-    pub fn answer(&mut self, rx: &[u8]) {
+    pub fn answer(&mut self, rx: &[u8])
+        ensures call { (self.new.name ≡ self.old.name) × (self.new.wide ≡ self.old.wide) }
+        ensures arguments { (self.new.address ≡ self.old.address) × (self.new.size ≡ self.old.size) }
+        ensures exchanges { (self.new.asked ≡ self.old.asked) × (self.new.delay ≡ self.old.delay) }
+        ensures cut { IsFalse self.old.delay → self.new.cut ≡ self.old.cut }
+        ensures second { self.old.asked ≢ 4 → self.new.second ≡ self.old.second }
+        ensures long { self.old.asked ≢ 5 → (self.new.long ≡ self.old.long) × (self.new.stamped ≡ self.old.stamped) }
+    {
         if self.delay {
             self.cut = is_cut(self.size, word_at(rx, 0));
         }

@@ -6,6 +6,9 @@ mod messages;
 mod scrubbing;
 mod setup;
 
+ghost use Rattle.std.specs.Prelude.{IfOk};
+ghost use Rattle.starts.specs.Starts.{IsStarted};
+
 use driver::Call;
 use messages::header_at;
 pub use messages::header_of;
@@ -15,13 +18,17 @@ use spoken::{Arguments, CallName, Fault};
 pub const ROOM: usize = 2048;
 
 // A part that is longer than the RAM is refused whatever buffer is lent, and by its range.
-fn read_call(a: &Arguments<'_>) -> Call {
+fn read_call(a: &Arguments<'_>) -> Call
+    ensures { IsStarted result }
+{
     let n = a.number(1) as usize;
     driver::read_ram(a.word(0), n.max(ROOM), 0, n)
 }
 
 // The call of this name. A scrub starts at the place.
-pub fn start(name: CallName, a: &Arguments<'_>, place: usize) -> Call {
+pub fn start(name: CallName, a: &Arguments<'_>, place: usize) -> Call
+    ensures { IsStarted result }
+{
     match name {
         CallName::Reset => driver::reset(),
         CallName::GetOpMode => driver::get_op_mode(),
@@ -62,7 +69,9 @@ pub fn start(name: CallName, a: &Arguments<'_>, place: usize) -> Call {
 }
 
 // The call of a line, started.
-pub fn call_of(line: &[u8], place: usize) -> Result<Call, Fault> {
+pub fn call_of(line: &[u8], place: usize) -> Result<Call, Fault>
+    ensures { IfOk result IsStarted }
+{
     let mut lent = [0u8; 64];
     let mut a = Arguments::new(&mut lent);
     let name = spoken::understood(line, &mut a)?;

@@ -2,6 +2,7 @@
 ghost use Rattle.std.specs.Prelude.{◌≡◌, ◌≤◌, length, take};
 ghost use Rattle.driver.specs.Calls.{Scrub, started};
 ghost use Rattle.driver.specs.Numbers.{call_of};
+ghost use Rattle.starts.specs.Starts.{IsStarted};
 
 use driver::{Call, Scrubber, Watch};
 use spoken::Arguments;
@@ -47,7 +48,9 @@ fn scrub_front(s: Scrubber, list: [Watch; 256], n: usize, rewrite: bool) -> Call
 }
 
 // One step.
-pub fn scrub_call(a: &Arguments<'_>, place: usize) -> Call {
+pub fn scrub_call(a: &Arguments<'_>, place: usize) -> Call
+    ensures { IsStarted result }
+{
     scrub_front(
         Scrubber { place },
         list_of(a.bytes()),

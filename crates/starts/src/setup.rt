@@ -2,6 +2,7 @@
 // numbers of FIFOs (20).
 ghost use Rattle.std.specs.Prelude.{◌≡◌, ◌≤◌, ◌<◌, ltb};
 ghost use Rattle.bit_timing.specs.Signed.{is_small, seven_of};
+ghost use Rattle.starts.specs.Starts.{IsStarted};
 
 use bit_timing::signed;
 use driver::{
@@ -12,7 +13,9 @@ use driver::{
 use spoken::Arguments;
 
 // A call that is refused 24: there is no mode 8.
-fn unsettable() -> Call {
+fn unsettable() -> Call
+    ensures { IsStarted result }
+{
     driver::set_op_mode(8)
 }
 
@@ -23,7 +26,9 @@ fn oscillator(a: &Arguments<'_>) -> OscillatorConfiguration {
     }
 }
 
-pub fn oscillator_call(a: &Arguments<'_>) -> Call {
+pub fn oscillator_call(a: &Arguments<'_>) -> Call
+    ensures { IsStarted result }
+{
     if a.are_flags(0, 2) {
         return driver::configure_osc(oscillator(a));
     }
@@ -42,7 +47,9 @@ fn io(a: &Arguments<'_>, k: usize) -> IoConfiguration
     }
 }
 
-pub fn io_call(a: &Arguments<'_>) -> Call {
+pub fn io_call(a: &Arguments<'_>) -> Call
+    ensures { IsStarted result }
+{
     if a.are_flags(0, 4) {
         return driver::configure_io(io(a, 0));
     }
@@ -84,7 +91,9 @@ fn configure_flags(a: &Arguments<'_>) -> bool {
     a.are_flags(0, 6) && a.are_flags(15, 16) && a.are_flags(17, 20)
 }
 
-pub fn configure_call(a: &Arguments<'_>) -> Call {
+pub fn configure_call(a: &Arguments<'_>) -> Call
+    ensures { IsStarted result }
+{
     let s = Settings {
         oscillator: oscillator(a),
         io: io(a, 2),
@@ -107,7 +116,9 @@ fn spoilt(good: bool, n: u32) -> u32 {
 }
 
 // Size, payload size and mode; `good` is whether every yes or no of the mode is one.
-fn fifo_call(a: &Arguments<'_>, good: bool, mode: FifoMode) -> Call {
+fn fifo_call(a: &Arguments<'_>, good: bool, mode: FifoMode) -> Call
+    ensures { IsStarted result }
+{
     let c = FifoConfiguration {
         size: a.word(1),
         plsize: spoilt(good, a.word(2)),
@@ -116,7 +127,9 @@ fn fifo_call(a: &Arguments<'_>, good: bool, mode: FifoMode) -> Call {
     driver::configure_fifo(a.word(0), c)
 }
 
-pub fn tx_call(a: &Arguments<'_>) -> Call {
+pub fn tx_call(a: &Arguments<'_>) -> Call
+    ensures { IsStarted result }
+{
     let t = TxFifo {
         txpri: a.word(4),
         txat: a.word(5),
@@ -129,7 +142,9 @@ pub fn tx_call(a: &Arguments<'_>) -> Call {
     fifo_call(a, a.are_flags(6, 11), FifoMode::Transmit(t))
 }
 
-pub fn rx_call(a: &Arguments<'_>) -> Call {
+pub fn rx_call(a: &Arguments<'_>) -> Call
+    ensures { IsStarted result }
+{
     let r = RxFifo {
         rxtsen: a.is_on(4),
         rxovie: a.is_on(5),
@@ -164,7 +179,9 @@ fn filter_identifier(n: u64) -> Identifier {
     }
 }
 
-pub fn filter_call(a: &Arguments<'_>) -> Call {
+pub fn filter_call(a: &Arguments<'_>) -> Call
+    ensures { IsStarted result }
+{
     let c = FilterConfiguration {
         fifo: a.word(1),
         mode: filter_mode(a.number(2)),
@@ -174,7 +191,9 @@ pub fn filter_call(a: &Arguments<'_>) -> Call {
     driver::configure_filter(a.word(0), c)
 }
 
-pub fn queue_call(a: &Arguments<'_>) -> Call {
+pub fn queue_call(a: &Arguments<'_>) -> Call
+    ensures { IsStarted result }
+{
     driver::configure_tx_queue(Some(TxQueueConfiguration {
         size: a.word(0),
         plsize: spoilt(a.are_flags(4, 7), a.word(1)),
