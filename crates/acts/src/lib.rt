@@ -1,7 +1,8 @@
 // What stands between calls: bus steps, raw exchanges, what a FIFO or the transmit queue holds, a new chip. Each is done and written.
 #![tactic(auto)]
 
-ghost use Rattle.std.specs.Prelude.{◌≤◌};
+ghost use Rattle.std.specs.Prelude.{◌≡◌, ◌≤◌, replicate};
+ghost use Rattle.state.specs.Model.{reset};
 
 use bus::{Arrival, Sent, Undelivered, Unsent};
 use lines::Writer;
@@ -101,7 +102,9 @@ pub fn write_failed(to: Streams) {
 }
 
 impl Chip {
-    pub fn new(to: Streams) -> Chip {
+    pub fn new(to: Streams) -> Chip
+        ensures { result ≡ record { to = to; model = reset (replicate 2048 0) } }
+    {
         Chip {
             to,
             model: state::reset([0u8; 2048]),

@@ -1,6 +1,9 @@
 // One loop serves every call, over any line. A line is here the modelled chip, with a count of exchanges; of a board it is the SPI.
 #![tactic(auto)]
 
+ghost use Rattle.std.specs.Prelude.{◌≡◌, ℕ, Bool, List, is_ok};
+ghost use Rattle.looping.specs.Line.{Transferred};
+
 use driver::{Answer, Call, Next, Outcome};
 use model::Heard;
 use state::Model;
@@ -10,11 +13,19 @@ use state::Model;
 pub struct Failed;
 
 pub trait Line {
+    // Whether these bytes, sent with such a buffer lent, may be carried out or not, with this in the buffer, and leave the line like that.
+    ghost transferred: { Self → List ℕ → List ℕ → Bool → List ℕ → Self → Type 0 };
+
+    // Whether a wait may leave the line like that.
+    ghost waited: { Self → Self → Type 0 };
+
     // An exchange under one chip select: all of `tx` goes out, then all of `rx` is clocked in.
-    fn transfer(&mut self, tx: &[u8], rx: &mut [u8]) -> Result<(), Failed>;
+    fn transfer(&mut self, tx: &[u8], rx: &mut [u8]) -> Result<(), Failed>
+        ensures { transferred self.old tx.now rx.old (is_ok result) rx.new self.new };
 
     // For 500 microseconds.
-    fn wait(&mut self);
+    fn wait(&mut self)
+        ensures { waited self.old self.new };
 }
 
 #[derive(Clone, Copy)]
@@ -24,6 +35,10 @@ pub struct Chip {
 }
 
 impl Line for Chip {
+    ghost transferred = { Transferred };
+
+    ghost waited = { λ c d. d ≡ c };
+
     fn transfer(&mut self, tx: &[u8], rx: &mut [u8]) -> Result<(), Failed> {
         let x = model::exchange(self.model, tx, rx.len(), rx);
         self.model = x.model;
