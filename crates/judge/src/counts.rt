@@ -1,4 +1,6 @@
 // How many cases there are of each kind.
+ghost use Rattle.std.specs.Prelude.{◌≡◌, ◌+◌, min, replicate};
+
 use classes::Class;
 use output::Streams;
 
@@ -19,7 +21,9 @@ fn tell_class(to: Streams, k: usize, n: u64) {
 }
 
 impl Counts {
-    pub(crate) fn new() -> Counts {
+    pub(crate) fn new() -> Counts
+        ensures { result ≡ record { agree = 0; outside = replicate 7 0; differ = 0 } }
+    {
         Counts {
             agree: 0,
             outside: [0u64; 7],
@@ -27,17 +31,23 @@ impl Counts {
         }
     }
 
-    pub(crate) fn agree(&mut self) {
+    pub(crate) fn agree(&mut self)
+        ensures { self.new ≡ record self.old { agree = min (self.old.agree + 1) u64.MAX } }
+    {
         self.agree = self.agree.saturating_add(1);
     }
 
-    pub(crate) fn outside(&mut self, class: Class) {
+    pub(crate) fn outside(&mut self, class: Class)
+        ensures { (self.new.agree ≡ self.old.agree) × (self.new.differ ≡ self.old.differ) }
+    {
         if let Some(n) = self.outside.get_mut(class as usize) {
             *n = n.saturating_add(1);
         }
     }
 
-    pub(crate) fn differ(&mut self) {
+    pub(crate) fn differ(&mut self)
+        ensures { self.new ≡ record self.old { differ = min (self.old.differ + 1) u64.MAX } }
+    {
         self.differ = self.differ.saturating_add(1);
     }
 

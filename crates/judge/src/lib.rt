@@ -1,6 +1,10 @@
 // What is made of a transcript's lines: where its reader stands, which cases agree, and what is written of the others.
 #![tactic(auto)]
 
+ghost use Rattle.std.specs.Prelude.{◌≡◌, ◌≢◌, ◌+◌, ◌↔◌, ◌⊎◌, IsTrue, min};
+ghost use Rattle.classes.specs.Seen.{IsRead};
+ghost use Rattle.judge.specs.Judge.{is_end, Keeps, Stands, IsIdle, Fresh};
+
 mod counts;
 
 use classes::{Class, Seen};
@@ -59,7 +63,9 @@ fn told_of<'a>(line: &[u8], out: &'a [u8]) -> &'a [u8] {
 }
 
 // Whether a line ends the case before it.
-fn is_end(item: Result<Item, Fault>) -> bool {
+fn is_end(item: Result<Item, Fault>) -> bool
+    ensures { result ≡ is_end item }
+{
     matches!(item, Ok(Item::Blank | Item::Call | Item::Field | Item::Crc))
 }
 
@@ -86,7 +92,10 @@ pub fn hear(
 
 impl<'a> Judge<'a> {
     // Before the first line. Differences are noted in the lent buffer.
-    pub fn new(to: Streams, note: &'a mut [u8]) -> Judge<'a> {
+    pub fn new(to: Streams, note: &'a mut [u8]) -> Judge<'a>
+        ensures idle { IsIdle result }
+        ensures fresh { Fresh result }
+    {
         Judge {
             to,
             number: 0,
@@ -101,12 +110,16 @@ impl<'a> Judge<'a> {
         }
     }
 
-    pub fn got(&self) -> usize {
+    pub fn got(&self) -> usize
+        ensures { result ≡ self.now.got }
+    {
         self.got
     }
 
     // How many bytes the call reads from RAM.
-    pub fn read(&self) -> Option<usize> {
+    pub fn read(&self) -> Option<usize>
+        ensures { IsRead self.now.seen result }
+    {
         self.seen.read()
     }
 
@@ -121,12 +134,16 @@ impl<'a> Judge<'a> {
     }
 
     // Whether the call does what the transcript has so far.
-    pub fn is_followed(&self) -> bool {
+    pub fn is_followed(&self) -> bool
+        ensures { IsTrue result ↔ ((self.now.differs ≡ None) × (self.now.phase ≢ Phase.Lost)) }
+    {
         self.differs.is_none() && self.phase != Phase::Lost
     }
 
     // What a line has, and what the port does.
-    fn put_note(&mut self, line: &[u8], out: &[u8]) {
+    fn put_note(&mut self, line: &[u8], out: &[u8])
+        ensures { Stands self.old self.new }
+    {
         self.note.clear();
         self.note.put(b"- ");
         self.note.put(line);
@@ -135,7 +152,9 @@ impl<'a> Judge<'a> {
         self.note.put(b"\n");
     }
 
-    fn compare(&mut self, line: &[u8], out: &[u8]) {
+    fn compare(&mut self, line: &[u8], out: &[u8])
+        ensures { Keeps self.old self.new × (self.new.phase ≡ self.old.phase) }
+    {
         let told = told_of(line, out);
         if line != told {
             self.differs = Some(self.number);
@@ -143,7 +162,9 @@ impl<'a> Judge<'a> {
         }
     }
 
-    fn differ(&mut self, at: u64, start: u64) {
+    fn differ(&mut self, at: u64, start: u64)
+        ensures { Stands self.old self.new }
+    {
         self.to.write(b"line ");
         self.to.number(at);
         self.to.write(b" differs, in the case of line ");
@@ -153,7 +174,9 @@ impl<'a> Judge<'a> {
         self.counts.differ();
     }
 
-    fn count(&mut self) {
+    fn count(&mut self)
+        ensures { Stands self.old self.new }
+    {
         match self.differs {
             Some(at) => self.differ(at, self.start),
             None => self.counts.agree(),
@@ -161,7 +184,9 @@ impl<'a> Judge<'a> {
     }
 
     // A case ends: it is counted, and told where it differs. One without a result differs whatever its class.
-    fn close(&mut self) {
+    fn close(&mut self)
+        ensures { Keeps self.old self.new × IsIdle self.new }
+    {
         match self.phase {
             Phase::Idle => {}
             Phase::Lost => self.counts.differ(),
@@ -176,7 +201,9 @@ impl<'a> Judge<'a> {
     }
 
     // A line that is a case by itself.
-    fn single(&mut self, item: Result<Item, Fault>, line: &[u8]) {
+    fn single(&mut self, item: Result<Item, Fault>, line: &[u8])
+        ensures { Stands self.old self.new }
+    {
         let mut buffer = [0u8; 8192];
         let mut out = Writer::new(&mut buffer);
         if singles::single(item, line, &mut out).is_none() {
@@ -196,7 +223,12 @@ impl<'a> Judge<'a> {
 
     // A line is read: the case that it ends, or that it is, is counted. `out` is what the port does, where it is looked at: where the
     // case ends too early, nothing is held against it.
-    pub fn settle(&mut self, item: Result<Item, Fault>, line: &[u8], out: &[u8]) {
+    pub fn settle(&mut self, item: Result<Item, Fault>, line: &[u8], out: &[u8])
+        ensures number { self.new.number ≡ min (self.old.number + 1) u64.MAX }
+        ensures ended { IsTrue (is_end item) → IsIdle self.new }
+        ensures within { IsTrue (is_end item) ⊎ (self.new.phase ≡ self.old.phase) }
+        ensures others { Keeps (record self.old { number = self.new.number }) self.new }
+    {
         self.number = self.number.saturating_add(1);
         if self.is_due(item) {
             self.compare(if is_end(item) { b"" } else { line }, out);
