@@ -1,7 +1,8 @@
 // Transcript text, put into a lent buffer from its front on; what does not fit is left out.
-#![tactic(auto)]
+#![tactic(auto, using(crate::proofs::Appends::more, crate::proofs::Appends::none))]
 
 ghost use Rattle.std.specs.Prelude.{◌≡◌, ◌-◌, length, take};
+ghost use Rattle.lines.specs.Writer.{Appends};
 
 use call::{Found, Outcome, Report, Rewrite};
 use header::Header;
@@ -99,21 +100,28 @@ impl<'a> Writer<'a> {
         self.out.len().saturating_sub(self.len)
     }
 
-    pub fn byte(&mut self, b: u8) {
+    #[tactic(auto, unfolding(crate::specs::Writer::Appends))]
+    pub fn byte(&mut self, b: u8)
+        ensures { Appends self.old self.new }
+    {
         if self.len < self.out.len() {
             self.out[self.len] = b;
             self.len += 1;
         }
     }
 
-    pub fn put(&mut self, s: &[u8]) {
+    pub fn put(&mut self, s: &[u8])
+        ensures { Appends self.old self.new }
+    {
         for b in s {
             self.byte(*b);
         }
     }
 
     // Bytes in hex, `-` for none.
-    pub fn bytes(&mut self, s: &[u8]) {
+    pub fn bytes(&mut self, s: &[u8])
+        ensures { Appends self.old self.new }
+    {
         if s.is_empty() {
             self.byte(b'-');
         }
@@ -123,27 +131,35 @@ impl<'a> Writer<'a> {
         }
     }
 
-    pub fn decimal(&mut self, v: u64) {
+    pub fn decimal(&mut self, v: u64)
+        ensures { Appends self.old self.new }
+    {
         let mut digits = [0u8; 20];
         let k = io::decimal(v, &mut digits);
         self.put(&digits[..k]);
     }
 
     // With zeros in front up to `width` digits.
-    pub fn hex(&mut self, v: u64, width: usize) {
+    pub fn hex(&mut self, v: u64, width: usize)
+        ensures { Appends self.old self.new }
+    {
         let mut digits = [0u8; 16];
         let k = io::hex(v, width, &mut digits);
         self.put(&digits[..k]);
     }
 
     // An exchange: all bytes sent, the number of bytes wanted.
-    pub fn exchange(&mut self, sent: &[u8], want: usize) {
+    pub fn exchange(&mut self, sent: &[u8], want: usize)
+        ensures { Appends self.old self.new }
+    {
         self.put(b"> ");
         self.bytes(sent);
         self.value(Value::Decimal(want as u64));
     }
 
-    fn value(&mut self, v: Value) {
+    fn value(&mut self, v: Value)
+        ensures { Appends self.old self.new }
+    {
         self.byte(b' ');
         match v {
             Value::Dash => self.byte(b'-'),
@@ -152,7 +168,9 @@ impl<'a> Writer<'a> {
         }
     }
 
-    pub fn refusal(&mut self, r: Refusal) {
+    pub fn refusal(&mut self, r: Refusal)
+        ensures { Appends self.old self.new }
+    {
         self.put(b"refused ");
         self.decimal(numbers::number(r) as u64);
         if let Some(v) = refused_for(r) {
@@ -160,13 +178,17 @@ impl<'a> Writer<'a> {
         }
     }
 
-    fn identifier(&mut self, h: Header) {
+    fn identifier(&mut self, h: Header)
+        ensures { Appends self.old self.new }
+    {
         self.put(if h.extended { b"ext" } else { b"std" });
         self.value(Value::Hex(h.id as u64, 1));
     }
 
     // The letters of the flags that are on, `-` for none.
-    fn flags(&mut self, h: Header) {
+    fn flags(&mut self, h: Header)
+        ensures { Appends self.old self.new }
+    {
         if !h.fdf && !h.brs && !h.esi && !h.rtr {
             self.byte(b'-');
         }
@@ -178,7 +200,9 @@ impl<'a> Writer<'a> {
     }
 
     // What it is, its header with what follows, a timestamp in a message and SEQ in a frame, and its payload.
-    fn message(&mut self, what: &[u8], h: Header, v: Value, payload: &[u8]) {
+    fn message(&mut self, what: &[u8], h: Header, v: Value, payload: &[u8])
+        ensures { Appends self.old self.new }
+    {
         self.put(what);
         self.identifier(h);
         self.byte(b' ');
@@ -189,19 +213,25 @@ impl<'a> Writer<'a> {
     }
 
     // A received message tells its timestamp and, behind its payload, its DLC and the filter that took it.
-    fn received(&mut self, h: Header, stamp: Option<u32>, payload: &[u8], dlc: u8, filter: u8) {
+    fn received(&mut self, h: Header, stamp: Option<u32>, payload: &[u8], dlc: u8, filter: u8)
+        ensures { Appends self.old self.new }
+    {
         self.message(b"message ", h, time(stamp), payload);
         self.value(Value::Decimal(dlc as u64));
         self.value(Value::Decimal(filter as u64));
     }
 
-    fn found(&mut self, f: Found, buf: &[u8]) {
+    fn found(&mut self, f: Found, buf: &[u8])
+        ensures { Appends self.old self.new }
+    {
         let payload = text::front(buf, f.len as usize);
         self.received(f.header, f.stamp, payload, f.dlc, f.filter);
     }
 
     // A message to send, which tells its SEQ, or a received one.
-    pub fn frame(&mut self, sending: bool, f: Frame) {
+    pub fn frame(&mut self, sending: bool, f: Frame)
+        ensures { Appends self.old self.new }
+    {
         let p = f.payload;
         let payload = text::front(&p.bytes, p.len);
         if sending {
@@ -211,7 +241,9 @@ impl<'a> Writer<'a> {
         }
     }
 
-    fn plain(&mut self, o: Outcome) {
+    fn plain(&mut self, o: Outcome)
+        ensures { Appends self.old self.new }
+    {
         self.put(name_of(o));
         if let Some(v) = value_of(o) {
             self.value(v);
@@ -219,14 +251,18 @@ impl<'a> Writer<'a> {
     }
 
     // A checked word, and how many exchanges mismatched before it.
-    fn checked(&mut self, what: &[u8], w: u32, mismatches: u8) {
+    fn checked(&mut self, what: &[u8], w: u32, mismatches: u8)
+        ensures { Appends self.old self.new }
+    {
         self.put(what);
         self.value(Value::Hex(w as u64, 8));
         self.value(Value::Decimal(mismatches as u64));
     }
 
     // What came of a rewrite.
-    fn rewritten(&mut self, r: Rewrite) {
+    fn rewritten(&mut self, r: Rewrite)
+        ensures { Appends self.old self.new }
+    {
         match r {
             Rewrite::None => {}
             Rewrite::Back(w, mismatches) => self.checked(b" back", w, mismatches),
@@ -237,13 +273,17 @@ impl<'a> Writer<'a> {
         }
     }
 
-    fn addressed(&mut self, what: &[u8], address: u16) {
+    fn addressed(&mut self, what: &[u8], address: u16)
+        ensures { Appends self.old self.new }
+    {
         self.put(what);
         self.value(Value::Hex(address as u64, 1));
     }
 
     // What a scrub step reports.
-    fn report(&mut self, r: Report) {
+    fn report(&mut self, r: Report)
+        ensures { Appends self.old self.new }
+    {
         match r {
             Report::Agree {
                 address,
@@ -273,7 +313,9 @@ impl<'a> Writer<'a> {
     }
 
     // How a call ended. `buf` is what it filled.
-    pub fn result(&mut self, o: Outcome, buf: &[u8]) {
+    pub fn result(&mut self, o: Outcome, buf: &[u8])
+        ensures { Appends self.old self.new }
+    {
         match o {
             Outcome::Checked(w, mismatches) => self.checked(b"word", w, mismatches),
             Outcome::Message(f) => self.found(f, buf),
@@ -284,7 +326,9 @@ impl<'a> Writer<'a> {
     }
 
     // What a RAM read ends with.
-    pub fn read_result(&mut self, s: &[u8]) {
+    pub fn read_result(&mut self, s: &[u8])
+        ensures { Appends self.old self.new }
+    {
         self.put(b"bytes ");
         self.bytes(s);
     }

@@ -1,5 +1,7 @@
 // The port's side: what a call does now, as a transcript's line, and where an answer takes it.
-#![tactic(auto)]
+#![tactic(auto, using(lines::proofs::Appends::more))]
+
+ghost use Rattle.lines.specs.Writer.{Appends};
 
 use driver::{Answer, Call, Next, Outcome};
 use items::Item;
@@ -7,7 +9,9 @@ use lines::Writer;
 use spoken::{Arguments, CallName, Fault};
 
 // A RAM read of so many bytes ends with them.
-fn ended(call: Call, read: Option<usize>, rx: &[u8], out: &mut Writer<'_>) {
+fn ended(call: Call, read: Option<usize>, rx: &[u8], out: &mut Writer<'_>)
+    ensures { Appends out.old out.new }
+{
     let mut buf = [0u8; 2048];
     out.put(b"= ");
     match (driver::finish(call, rx, &mut buf), read) {
@@ -17,7 +21,9 @@ fn ended(call: Call, read: Option<usize>, rx: &[u8], out: &mut Writer<'_>) {
 }
 
 // What the call does now. `sent` is what a RAM write sends, `rx` what came last, and `read` how many bytes a RAM read asks for.
-pub fn put_line(call: Call, read: Option<usize>, sent: &[u8], rx: &[u8], out: &mut Writer<'_>) {
+pub fn put_line(call: Call, read: Option<usize>, sent: &[u8], rx: &[u8], out: &mut Writer<'_>)
+    ensures { Appends out.old out.new }
+{
     let mut tx = [0u8; 4200];
     match driver::next(call, sent, &mut tx) {
         Next::Transfer { n, want } => out.exchange(text::front(&tx, n), want),

@@ -1,0 +1,7 @@
+-- What the loop of `lines::Writer::put` keeps: it has only put more.
+-- Assumes nothing.
+use Rattle.lines.specs.Writer.{Appends}
+use Rattle.lines.proofs.Writer.put.Given as goal
+
+abbrev pub invariant-loop-b : goal.invariant-loop-b
+invariant-loop-b l = Appends l.fn.self l.self
