@@ -26,6 +26,13 @@ pub enum Ask {
     Nothing,
 }
 
+// A word to be read, of a register or of RAM.
+pub fn read_word(address: u16) -> Ask
+    ensures { result ≡ Ask.Read address 4 }
+{
+    Ask::Read { address, count: 4 }
+}
+
 // How the caller answers. What an exchange received is a slice beside it; a failed exchange was not carried out.
 #[derive(Clone, Copy)]
 pub enum Answer {
@@ -109,7 +116,6 @@ pub fn exchange_of(ask: Ask) -> Exchange
             body: 0,
             want: 0,
         },
-        Ask::Wait => idle(),
-        Ask::Nothing => idle(),
+        Ask::Wait | Ask::Nothing => idle(),
     }
 }

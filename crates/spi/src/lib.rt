@@ -8,8 +8,8 @@ mod range;
 mod refusal;
 mod reply;
 
-pub use ask::{Answer, Ask, Exchange, exchange_of};
+pub use ask::{Answer, Ask, Exchange, exchange_of, read_word};
 pub use instruction::{OpCode, checked_read, command, write_word};
-pub use range::{in_range, read_access, write_access};
+pub use range::{in_ram, in_range, ram_address, read_access, write_access};
 pub use refusal::Refusal;
 pub use reply::{CheckedWord, crc_reply, done_reply, pair_reply, wait_reply, word_reply};

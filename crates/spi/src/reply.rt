@@ -17,34 +17,16 @@ pub enum CheckedWord {
 pub fn word_reply(failed: Refusal, answer: Answer, rx: &[u8]) -> Result<u32, Refusal>
     ensures { result ≡ word_reply failed answer rx.now }
 {
-    match answer {
-        Answer::Exchanged => {
-            if rx.len() == 4 {
-                Ok(words::le_at(rx, 0))
-            } else {
-                Err(Refusal::WrongAnswer)
-            }
-        }
-        Answer::Failed => Err(failed),
-        Answer::Waited => Err(Refusal::WrongAnswer),
-    }
+    done_reply(failed, answer, rx.len(), 4)?;
+    Ok(words::le_at(rx, 0))
 }
 
 // Where two words were wanted.
 pub fn pair_reply(failed: Refusal, answer: Answer, rx: &[u8]) -> Result<(u32, u32), Refusal>
     ensures { result ≡ pair_reply failed answer rx.now }
 {
-    match answer {
-        Answer::Exchanged => {
-            if rx.len() == 8 {
-                Ok((words::le_at(rx, 0), words::le_at(rx, 4)))
-            } else {
-                Err(Refusal::WrongAnswer)
-            }
-        }
-        Answer::Failed => Err(failed),
-        Answer::Waited => Err(Refusal::WrongAnswer),
-    }
+    done_reply(failed, answer, rx.len(), 8)?;
+    Ok((words::le_at(rx, 0), words::le_at(rx, 4)))
 }
 
 // `got` bytes were received where `want` were wanted.
@@ -52,15 +34,9 @@ pub fn done_reply(failed: Refusal, answer: Answer, got: usize, want: usize) -> R
     ensures { result ≡ done_reply failed answer got want }
 {
     match answer {
-        Answer::Exchanged => {
-            if got == want {
-                Ok(())
-            } else {
-                Err(Refusal::WrongAnswer)
-            }
-        }
+        Answer::Exchanged if got == want => Ok(()),
+        Answer::Exchanged | Answer::Waited => Err(Refusal::WrongAnswer),
         Answer::Failed => Err(failed),
-        Answer::Waited => Err(Refusal::WrongAnswer),
     }
 }
 
@@ -69,15 +45,8 @@ pub fn wait_reply(answer: Answer, got: usize) -> Result<(), Refusal>
     ensures { result ≡ wait_reply answer got }
 {
     match answer {
-        Answer::Exchanged => Err(Refusal::WrongAnswer),
-        Answer::Failed => Err(Refusal::WrongAnswer),
-        Answer::Waited => {
-            if got == 0 {
-                Ok(())
-            } else {
-                Err(Refusal::WrongAnswer)
-            }
-        }
+        Answer::Waited if got == 0 => Ok(()),
+        _ => Err(Refusal::WrongAnswer),
     }
 }
 
@@ -88,27 +57,15 @@ fn crc_good(address: u16, rx: &[u8]) -> bool
     ensures { result ≡ crc_good address rx.now }
 {
     let c = checked_read(address);
-    let start = 0;
-    let end = 4;
-    crc::update(crc::update(crc::START, &c), &rx[start..end]) == words::be_at(rx, 4)
+    crc::update(crc::update(crc::START, &c), &rx[..4]) == words::be_at(rx, 4)
 }
 
 pub fn crc_reply(failed: Refusal, address: u16, answer: Answer, rx: &[u8]) -> CheckedWord
     ensures { result ≡ crc_reply failed address answer rx.now }
 {
-    match answer {
-        Answer::Exchanged => {
-            if rx.len() == 6 {
-                if crc_good(address, rx) {
-                    CheckedWord::Word(words::le_at(rx, 0))
-                } else {
-                    CheckedWord::Mismatch
-                }
-            } else {
-                CheckedWord::Bad(Refusal::WrongAnswer)
-            }
-        }
-        Answer::Failed => CheckedWord::Bad(failed),
-        Answer::Waited => CheckedWord::Bad(Refusal::WrongAnswer),
+    match done_reply(failed, answer, rx.len(), 6) {
+        Ok(()) if crc_good(address, rx) => CheckedWord::Word(words::le_at(rx, 0)),
+        Ok(()) => CheckedWord::Mismatch,
+        Err(why) => CheckedWord::Bad(why),
     }
 }

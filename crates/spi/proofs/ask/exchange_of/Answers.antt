@@ -24,7 +24,3 @@ returns-in-Body c = simp (c.command_head-in-Body.ensures, c.in-Body.is)
 pub returns-in-Reset : goal.returns-in-Reset
 unfolding exchange_of zeroed command_of be_bytes le_bytes
 returns-in-Reset c = simp (c.command_head-in-Reset.ensures, c.in-Reset.is)
-
-pub returns-in-Nothing : goal.returns-in-Nothing
-unfolding exchange_of zeroed command_of be_bytes le_bytes
-returns-in-Nothing c = simp (c.idle-in-Nothing.ensures, c.in-Nothing.is)
