@@ -14,7 +14,7 @@ use crate::{
 };
 use fifo::{ControlWord, FifoControl, TxQueueControl, is_fifo};
 use filter::{FilterControl, FilterMask, FilterObject};
-use header::{eid_of, sid_of};
+use header::{eid_of, sid_of, top_id};
 use plan::{Change, change_at, change_of};
 use spi::Refusal;
 
@@ -212,12 +212,6 @@ fn one_kind(mode: FilterMode) -> bool
     ensures { result ≡ one_kind mode }
 {
     !matches!(mode, FilterMode::Both)
-}
-
-fn top_id(extended: bool) -> u32
-    ensures { result ≡ top_id extended }
-{
-    if extended { 0x1FFF_FFFF } else { 0x7FF }
 }
 
 fn is_identifier(i: Identifier) -> bool

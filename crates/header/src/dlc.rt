@@ -1,5 +1,5 @@
 // Data length codes and the payload lengths that they mean.
-ghost use Rattle.std.specs.Prelude.{◌≡◌, true, ◌≤◌};
+ghost use Rattle.std.specs.Prelude.{◌≡◌, ◌≤◌};
 ghost use Rattle.header.specs.Dlc.{dlcs, length_of, received_length, dlc_of};
 
 // What DLC 0 to 15 mean, in bytes.
@@ -17,51 +17,20 @@ fn count(fdf: bool) -> usize
 pub fn len_for_dlc(dlc: usize, fdf: bool) -> Option<usize>
     ensures { result ≡ length_of fdf dlc }
 {
-    if dlc < count(fdf) {
-        Some(LENGTHS[dlc])
-    } else {
-        None
-    }
+    LENGTHS[..count(fdf)].get(dlc).copied()
 }
 
 // In a frame received: a classic frame with a DLC above 8 has 8 bytes. There is no DLC above 15, and such a number means no byte.
+#[tactic(auto, using(crate::proofs::Dlcs::received_le), unfolding(crate::specs::Dlc::received_length))]
 pub fn received_len(dlc: usize, fdf: bool) -> usize
     ensures { (result ≡ received_length fdf dlc) × (result ≤ 64) }
 {
-    if 15 < dlc {
-        return 0;
-    }
-    if fdf {
-        return LENGTHS[dlc];
-    }
-    if dlc <= 8 { dlc } else { 8 }
+    let n = LENGTHS.get(dlc).copied().unwrap_or(0);
+    if fdf { n } else { n.min(8) }
 }
 
-// The DLC of an FD frame's payload.
-fn fd_dlc(len: usize) -> Option<usize>
-    ensures { result ≡ dlc_of true len }
-{
-    if len <= 8 {
-        return Some(len);
-    }
-    match len {
-        12 => Some(9),
-        16 => Some(10),
-        20 => Some(11),
-        24 => Some(12),
-        32 => Some(13),
-        48 => Some(14),
-        64 => Some(15),
-        _ => None,
-    }
-}
-
-#[tactic(auto, using(crate::proofs::Search::early, crate::proofs::Search::classic))]
 pub fn dlc_for_len(len: usize, fdf: bool) -> Option<usize>
     ensures { result ≡ dlc_of fdf len }
 {
-    if fdf {
-        return fd_dlc(len);
-    }
-    if len <= 8 { Some(len) } else { None }
+    LENGTHS[..count(fdf)].iter().position(|&n| n == len)
 }

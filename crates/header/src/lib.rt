@@ -21,6 +21,13 @@ pub struct Header {
     pub esi: bool,
 }
 
+// The largest identifier.
+pub fn top_id(extended: bool) -> u32
+    ensures { result ≡ top_id extended }
+{
+    if extended { 0x1FFF_FFFF } else { 0x7FF }
+}
+
 // An extended identifier gives SID its top 11 bits and EID its low 18; a standard one is SID, and EID is 0.
 pub fn sid_of(extended: bool, id: u32) -> u32
     requires { id ≤ top_id extended }
@@ -93,7 +100,7 @@ pub fn header_of(a: u32, b: u32) -> Header
 {
     let extended = field::bit(b, 4);
     Header {
-        extended: extended,
+        extended,
         id: identifier(extended, a),
         rtr: field::bit(b, 5),
         brs: field::bit(b, 6),

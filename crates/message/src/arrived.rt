@@ -5,8 +5,8 @@ ghost use Rattle.header.specs.Header.{DLC, FILHIT, top_id};
 ghost use Rattle.message.specs.Message.{arrival_check, arriving};
 ghost use Rattle.message.specs.Structs.{object_in};
 
-use crate::{object, tx};
-use header::{Header, first_word, received_len, received_word};
+use crate::object;
+use header::{Header, first_word, received_len, received_word, top_id};
 use spi::Refusal;
 
 // What a frame with a payload of n bytes is refused for.
@@ -14,7 +14,7 @@ use spi::Refusal;
 pub fn check_arrival(h: Header, dlc: u32, n: usize) -> Result<(), Refusal>
     ensures { result ≡ arrival_check h dlc n }
 {
-    if tx::top_id(h.extended) < h.id {
+    if top_id(h.extended) < h.id {
         return Err(Refusal::BadIdentifier);
     }
     if 15 < dlc {

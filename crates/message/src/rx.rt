@@ -55,11 +55,7 @@ fn stamp_in(stamped: bool, b: &[u8]) -> Option<u32>
     requires { body_at stamped ≤ length b.now }
     ensures { result ≡ (if stamped then Some (le_at b.now 8) else None) }
 {
-    if stamped {
-        Some(words::le_at(b, 8))
-    } else {
-        None
-    }
+    stamped.then(|| words::le_at(b, 8))
 }
 
 fn seq_in(sending: bool, w: u32) -> u32
@@ -80,17 +76,13 @@ fn frame_in(sending: bool, stamped: bool, start: usize, n: usize, b: &[u8]) -> F
     ensures { result ≡ frame_of (message_in sending stamped n b.now) }
 {
     let w = words::le_at(b, 4);
-    let h = header_of(words::le_at(b, 0), w);
-    let end = start + n;
-    let s = stamp_in(stamped, b);
-    let p = hold(&b[start..end]);
     Frame {
-        header: h,
+        header: header_of(words::le_at(b, 0), w),
         dlc: dlc_of(w),
         filter: filter_in(sending, w),
         seq: seq_in(sending, w),
-        stamp: s,
-        payload: p,
+        stamp: stamp_in(stamped, b),
+        payload: hold(&b[start..start + n]),
     }
 }
 

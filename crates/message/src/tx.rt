@@ -1,18 +1,11 @@
 // A message to send: tested, and written as an object.
 ghost use Rattle.std.specs.Prelude.{◌≡◌};
-ghost use Rattle.header.specs.Header.{top_id};
 ghost use Rattle.message.specs.Message.{to_write, check_of, encoding};
 ghost use Rattle.message.specs.Structs.{encoded_as, encoded_in};
 
 use crate::object;
-use header::{Header, dlc_for_len, first_word, second_word};
+use header::{Header, dlc_for_len, first_word, second_word, top_id};
 use spi::Refusal;
-
-pub fn top_id(extended: bool) -> u32
-    ensures { result ≡ top_id extended }
-{
-    if extended { 0x1FFF_FFFF } else { 0x7FF }
-}
 
 // The DLC of a message with a payload of n bytes, or its refusal.
 #[tactic(auto, unfolding(crate::specs::Message::check_of))]
