@@ -1,8 +1,7 @@
 // Has-next, peek and get, from one exchange to the next.
 #![tactic(auto)]
 
-ghost use Rattle.std.specs.Prelude.{◌≡◌, if◌then◌else◌};
-ghost use Rattle.spi.specs.Ram.{in_range};
+ghost use Rattle.std.specs.Prelude.{◌≡◌};
 ghost use Rattle.spi.specs.Reply.{word_reply};
 ghost use Rattle.spi.specs.Talk.{on_word, on_pair, on_done};
 ghost use Rattle.spi.specs.declared.refusal.Refusal.{Refusal};
@@ -12,7 +11,7 @@ ghost use Rattle.fetch.specs.Step.{after_control, after_status, after_address, a
 ghost use Rattle.fetch.specs.Numbers.{found_in, fetch_at, standing, started, stage_by, moved_to, Goes};
 
 use fifo::{ControlWord, FifoControl, FifoStatus};
-use spi::{Answer, Refusal};
+use spi::{Answer, Refusal, in_ram, ram_address};
 
 #[derive(Clone, Copy)]
 pub enum Want {
@@ -133,28 +132,12 @@ fn after_status(c: FetchNumbers, reply: Result<u32, Refusal>) -> Result<FetchNum
     Ok(FetchNumbers { stage, ..c })
 }
 
-// Where so many bytes are to be read: 3 for those that are not in the RAM.
-#[tactic(auto, using(spi::proofs::Laws::range_told))]
-fn in_ram(address: u32, n: usize) -> Result<u16, Refusal>
-    ensures { result ≡ (if in_range address n then Ok address else Err (Refusal.InvalidRamAddress address)) }
-{
-    if spi::in_range(address, n) {
-        Ok(address as u16)
-    } else {
-        Err(Refusal::InvalidRamAddress(address))
-    }
-}
-
 // The object lies 0x400 above the user address.
-#[tactic(auto, unfolding(crate::specs::Step::after_address))]
+#[tactic(auto, unfolding(crate::specs::Step::after_address, spi::specs::Ram::ram_address))]
 fn after_address(c: FetchNumbers, reply: Result<u32, Refusal>) -> Result<FetchNumbers, Refusal>
     ensures { Goes c result (on_word FetchAt.Refused reply after_address) }
 {
-    let u = reply?;
-    if 0xFBFF < u {
-        return Err(Refusal::BadUserAddress);
-    }
-    let m = in_ram(u + 0x400, 8)?;
+    let m = ram_address(reply?, 8)?;
     Ok(FetchNumbers {
         stage: FetchStage::Header,
         m,

@@ -5,7 +5,6 @@ ghost use Rattle.std.specs.Prelude.{◌≡◌, true, [], min, length};
 ghost use Rattle.field.specs.Field.{read, mark};
 ghost use Rattle.fifo.specs.Control.{UINC};
 ghost use Rattle.header.specs.Header.{DLC, FILHIT, header_of};
-ghost use Rattle.spi.specs.declared.ask.Ask.{Ask};
 ghost use Rattle.fetch.specs.Numbers.{stamp_in};
 ghost use Rattle.rx_fifo.specs.Step.{ask_of, has_next_start, lent_start, peek_start, get_start, step_of};
 ghost use Rattle.rx_fifo.specs.Outcome.{filled_by, finished_as};
@@ -15,7 +14,7 @@ use call::{Found, Outcome};
 use fetch::{FetchNumbers, FetchStage, Want};
 use field::Numbered;
 use fifo::{ControlWord, FifoControl, FifoStatus, UserAddress};
-use spi::{Answer, Ask, Refusal};
+use spi::{Answer, Ask, Refusal, read_word};
 
 mod held;
 
@@ -54,12 +53,6 @@ pub fn get_start(fifo: u8, room: usize, body: &mut [u8; 76]) -> FetchNumbers
     ensures { fetch_of result body.new ≡ get_start fifo room }
 {
     lent_start(Want::Get, fifo, room, body)
-}
-
-fn read_word(address: u16) -> Ask
-    ensures { result ≡ Ask.Read address 4 }
-{
-    Ask::Read { address, count: 4 }
 }
 
 fn with_uinc(w: u32) -> u32

@@ -1,6 +1,6 @@
 // Transmit: a push, and where it is done a request, by which the FIFO is to send what it holds: control is read, and written with
 // TXREQ 1.
-ghost use Rattle.std.specs.Prelude.{◌≡◌, ℕ, []};
+ghost use Rattle.std.specs.Prelude.{◌≡◌, ℕ, [], Err};
 ghost use Rattle.plan.specs.Change.{modified};
 ghost use Rattle.plan.specs.Step.{ask_of as plan_ask, outcome_of as plan_outcome};
 ghost use Rattle.tx_fifo.specs.Step.{is_done};
@@ -11,7 +11,7 @@ use call::Outcome;
 use field::Numbered;
 use fifo::{ControlWord, FifoControl, is_fifo};
 use header::Header;
-use spi::{Answer, Ask, Refusal, done_reply, word_reply};
+use spi::{Answer, Ask, Refusal, done_reply, read_word, word_reply};
 use tx_fifo::{PushNumbers, PushStage, push_ask, push_done, push_outcome, push_start, push_step};
 
 // What the request waits for: control as read, the answer to its write. `Late`: an answer came when it was done.
@@ -66,10 +66,7 @@ fn request_ask(p: PushNumbers, request: RequestStage) -> Ask
     ensures { result ≡ plan_ask (request_of request p) }
 {
     match request {
-        RequestStage::Read => Ask::Read {
-            address: FifoControl::address(p.fifo),
-            count: 4,
-        },
+        RequestStage::Read => read_word(FifoControl::address(p.fifo)),
         RequestStage::Write => Ask::Word {
             address: FifoControl::address(p.fifo),
             word: p.w,
@@ -126,20 +123,23 @@ fn advanced(
     Ok(TransmitNumbers { push, request })
 }
 
+fn refused(p: PushNumbers, why: Refusal) -> TransmitNumbers
+    ensures { result ≡ settled p (Err why) }
+{
+    TransmitNumbers {
+        push: PushNumbers {
+            stage: PushStage::Done,
+            why,
+            ..p
+        },
+        request: RequestStage::Refused,
+    }
+}
+
 fn request_step(p: PushNumbers, request: RequestStage, answer: Answer, rx: &[u8]) -> TransmitNumbers
     ensures { RequestSteps p request answer rx.now result }
 {
-    match advanced(p, request, answer, rx) {
-        Ok(next) => next,
-        Err(why) => TransmitNumbers {
-            push: PushNumbers {
-                stage: PushStage::Done,
-                why,
-                ..p
-            },
-            request: RequestStage::Refused,
-        },
-    }
+    advanced(p, request, answer, rx).unwrap_or_else(|why| refused(p, why))
 }
 
 pub fn transmit_step(c: TransmitNumbers, answer: Answer, rx: &[u8]) -> TransmitNumbers

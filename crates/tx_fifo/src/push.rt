@@ -15,7 +15,7 @@ use field::{Numbered, Single};
 use fifo::{ControlWord, FifoControl, FifoStatus, UserAddress, is_fifo};
 use header::Header;
 use message::{clear, encode};
-use spi::{Answer, Ask, Refusal, done_reply, in_range, word_reply};
+use spi::{Answer, Ask, Refusal, done_reply, ram_address, read_word, word_reply};
 
 // What the call waits for: the answer to one of its exchanges, in their order; what was read stands beside it. `Enabled` is the queue's
 // first one, the `Bare` ones are those of an unchecked push before its `Commit`.
@@ -175,19 +175,12 @@ fn after_status(v: u32) -> Result<PushStage, Refusal>
     }
 }
 
-// The RAM address for the user address u. Up to 0xFBFF the sum fits an address of 16 bits.
-#[tactic(auto, unfolding(crate::specs::Step::after_address))]
-fn ram_address(len: usize, u: u32) -> Result<u16, Refusal>
+// The RAM address for the user address u.
+#[tactic(auto, unfolding(crate::specs::Step::after_address, spi::specs::Ram::ram_address))]
+fn after_address(len: usize, u: u32) -> Result<u16, Refusal>
     ensures { (to : ℕ → PushAt) → on_word PushAt.Refused result to ≡ after_address len to u }
 {
-    if 0xFBFF < u {
-        return Err(Refusal::BadUserAddress);
-    }
-    let a = u + 0x400;
-    if !in_range(a, len) {
-        return Err(Refusal::InvalidRamAddress(a));
-    }
-    Ok(a as u16)
+    ram_address(u, len)
 }
 
 // The call after an answer, or what it is refused for.
@@ -207,13 +200,13 @@ fn advanced(c: PushNumbers, answer: Answer, rx: &[u8]) -> Result<PushNumbers, Re
         }
         PushStage::Status => after_status(word?)?,
         PushStage::Address => {
-            next.m = ram_address(c.len, word?)?;
+            next.m = after_address(c.len, word?)?;
             PushStage::Write
         }
         PushStage::Write => in_ram.map(|_| PushStage::Commit)?,
         PushStage::Commit => written.map(|_| PushStage::Done)?,
         PushStage::BareAddress => {
-            next.m = ram_address(c.len, word?)?;
+            next.m = after_address(c.len, word?)?;
             PushStage::BareWrite
         }
         PushStage::BareWrite => in_ram.map(|_| PushStage::BareControl)?,
@@ -229,20 +222,11 @@ fn advanced(c: PushNumbers, answer: Answer, rx: &[u8]) -> Result<PushNumbers, Re
 pub fn push_step(c: PushNumbers, answer: Answer, rx: &[u8]) -> PushNumbers
     ensures { PushSteps c answer rx.now result }
 {
-    match advanced(c, answer, rx) {
-        Ok(next) => next,
-        Err(why) => PushNumbers {
-            stage: PushStage::Refused,
-            why,
-            ..c
-        },
-    }
-}
-
-fn read_word(address: u16) -> Ask
-    ensures { result ≡ Ask.Read address 4 }
-{
-    Ask::Read { address, count: 4 }
+    advanced(c, answer, rx).unwrap_or_else(|why| PushNumbers {
+        stage: PushStage::Refused,
+        why,
+        ..c
+    })
 }
 
 #[tactic(auto, unfolding(crate::specs::Step::ask_of))]
