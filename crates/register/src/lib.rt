@@ -112,19 +112,13 @@ pub fn register_ask(c: RegisterNumbers) -> Ask
 {
     match c.stage {
         RegisterStage::Reset => Ask::Reset,
-        RegisterStage::Read => Ask::Read {
-            address: c.m,
-            count: 4,
-        },
+        RegisterStage::Read => spi::read_word(c.m),
         RegisterStage::Write => Ask::Word {
             address: c.m,
             word: c.w,
         },
         RegisterStage::Checked => Ask::Checked { address: c.m },
-        RegisterStage::Mode => Ask::Read {
-            address: CanControl::address(),
-            count: 4,
-        },
+        RegisterStage::Mode => spi::read_word(CanControl::address()),
         _ => Ask::Nothing,
     }
 }
