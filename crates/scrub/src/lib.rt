@@ -99,12 +99,11 @@ pub fn scrub_ask(c: ScrubNumbers) -> Ask
     ensures { result ≡ ask_of (scrub_of c) }
 {
     match c.stage {
-        ScrubStage::Visit => Ask::Checked { address: c.m },
         ScrubStage::Write => Ask::Word {
             address: c.m,
             word: word_back(c.w, c.a, c.b),
         },
-        ScrubStage::Back => Ask::Checked { address: c.m },
+        ScrubStage::Visit | ScrubStage::Back => Ask::Checked { address: c.m },
         _ => Ask::Nothing,
     }
 }
