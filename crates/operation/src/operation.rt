@@ -34,10 +34,7 @@ fn read_at(a: u32, want: usize) -> Operation
     if want != 4 {
         return Operation::None;
     }
-    match register_at(a) {
-        Some(r) => Operation::Read(r),
-        None => Operation::None,
-    }
+    register_at(a).map_or(Operation::None, Operation::Read)
 }
 
 #[tactic(auto, unfolding(crate::specs::Operation::write_at))]
@@ -51,10 +48,7 @@ fn write_at(a: u32, s: &[u8]) -> Operation
     if s.len() != 6 {
         return Operation::None;
     }
-    match register_at(a) {
-        Some(r) => Operation::Write(r, words::le_at(s, 2)),
-        None => Operation::None,
-    }
+    register_at(a).map_or(Operation::None, |r| Operation::Write(r, words::le_at(s, 2)))
 }
 
 #[tactic(auto, unfolding(crate::specs::Operation::checked_at))]
@@ -64,10 +58,7 @@ fn checked_at(a: u32, s: &[u8], want: usize) -> Operation
     if s.len() != 3 || s[2] != 4 || want != 6 {
         return Operation::None;
     }
-    match register_at(a) {
-        Some(r) => Operation::Checked(r),
-        None => Operation::None,
-    }
+    register_at(a).map_or(Operation::None, Operation::Checked)
 }
 
 #[tactic(auto, unfolding(crate::specs::Operation::reset_at))]
