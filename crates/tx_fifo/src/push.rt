@@ -15,7 +15,7 @@ use field::{Numbered, Single};
 use fifo::{ControlWord, FifoControl, FifoStatus, UserAddress, is_fifo};
 use header::Header;
 use message::{clear, encode};
-use spi::{Answer, Ask, Refusal, done_reply, ram_address, read_word, word_reply};
+use spi::{Answer, Ask, Refusal, done_reply, read_word, word_reply};
 
 // What the call waits for: the answer to one of its exchanges, in their order; what was read stands beside it. `Enabled` is the queue's
 // first one, the `Bare` ones are those of an unchecked push before its `Commit`.
@@ -177,10 +177,10 @@ fn after_status(v: u32) -> Result<PushStage, Refusal>
 
 // The RAM address for the user address u.
 #[tactic(auto, unfolding(crate::specs::Step::after_address, spi::specs::Ram::ram_address))]
-fn after_address(len: usize, u: u32) -> Result<u16, Refusal>
+fn ram_address(len: usize, u: u32) -> Result<u16, Refusal>
     ensures { (to : ℕ → PushAt) → on_word PushAt.Refused result to ≡ after_address len to u }
 {
-    ram_address(u, len)
+    spi::ram_address(u, len)
 }
 
 // The call after an answer, or what it is refused for.
@@ -200,13 +200,13 @@ fn advanced(c: PushNumbers, answer: Answer, rx: &[u8]) -> Result<PushNumbers, Re
         }
         PushStage::Status => after_status(word?)?,
         PushStage::Address => {
-            next.m = after_address(c.len, word?)?;
+            next.m = ram_address(c.len, word?)?;
             PushStage::Write
         }
         PushStage::Write => in_ram.map(|_| PushStage::Commit)?,
         PushStage::Commit => written.map(|_| PushStage::Done)?,
         PushStage::BareAddress => {
-            next.m = after_address(c.len, word?)?;
+            next.m = ram_address(c.len, word?)?;
             PushStage::BareWrite
         }
         PushStage::BareWrite => in_ram.map(|_| PushStage::BareControl)?,
