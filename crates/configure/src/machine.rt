@@ -13,19 +13,13 @@ use chip::OscillatorControl;
 use configuration::CanControl;
 use field::Single;
 use plan::{Item, Poll, echo_word, is_shown, is_there, late, modified_word};
-use spi::{Answer, Ask, Refusal, done_reply, wait_reply, word_reply};
+use spi::{Answer, Ask, Refusal, done_reply, read_word, wait_reply, word_reply};
 
 // The RAM's first word, where the echo is made.
 const ECHO: u16 = 0x400;
 
 // How many items a plan has room for.
 const ITEMS: u8 = 15;
-
-fn read_word(address: u16) -> Ask
-    ensures { result ≡ Ask.Read address 4 }
-{
-    Ask::Read { address, count: 4 }
-}
 
 #[tactic(auto, unfolding(crate::specs::Numbers::plan_in))]
 pub fn plan_ask(c: PlanNumbers) -> Ask
@@ -38,9 +32,8 @@ pub fn plan_ask(c: PlanNumbers) -> Ask
             word: c.w,
         },
         PlanStage::ModePoll => read_word(CanControl::address()),
-        PlanStage::ModeWait => Ask::Wait,
         PlanStage::PllPoll => read_word(OscillatorControl::address()),
-        PlanStage::PllWait => Ask::Wait,
+        PlanStage::ModeWait | PlanStage::PllWait => Ask::Wait,
         PlanStage::EchoWrite => Ask::Word {
             address: ECHO,
             word: echo_word(c.more),
