@@ -13,7 +13,7 @@ use watch::{Scrubber, Watch};
 fn fifo_number(n: u32) -> u8
     ensures { result ≡ fifo_number n }
 {
-    if n < 256 { n as u8 } else { 0 }
+    u8::try_from(n).unwrap_or(0)
 }
 
 #[tactic(auto, unfolding(crate::specs::Numbers::call_of, crate::specs::Numbers::model_of))]

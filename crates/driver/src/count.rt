@@ -55,13 +55,10 @@ fn push_turns(c: PushNumbers, behind: u32) -> u32
     match c.stage {
         PushStage::Enabled => 6 + behind,
         PushStage::Control => 5 + behind,
-        PushStage::Status => 4 + behind,
-        PushStage::Address => 3 + behind,
-        PushStage::Write => 2 + behind,
+        PushStage::Status | PushStage::BareAddress => 4 + behind,
+        PushStage::Address | PushStage::BareWrite => 3 + behind,
+        PushStage::Write | PushStage::BareControl => 2 + behind,
         PushStage::Commit => 1 + behind,
-        PushStage::BareAddress => 4 + behind,
-        PushStage::BareWrite => 3 + behind,
-        PushStage::BareControl => 2 + behind,
         PushStage::Done => behind,
         PushStage::Refused => 0,
     }
@@ -83,21 +80,19 @@ fn stage_turns(p: PushNumbers, stage: RequestStage) -> u32
 fn request_turns(c: TransmitNumbers) -> u32
     ensures { (result ≡ plan_left (transmit_in c []).request) × (result < 1000) }
 {
-    let p = c.push;
-    let stage = c.request;
-    if tx_fifo::push_done(p) {
-        stage_turns(p, stage)
+    if tx_fifo::push_done(c.push) {
+        stage_turns(c.push, c.request)
+    } else if is_fifo(c.push.fifo as u32) {
+        2
     } else {
-        if is_fifo(p.fifo as u32) { 2 } else { 0 }
+        0
     }
 }
 
 fn transmit_turns(c: TransmitNumbers) -> u32
     ensures { result ≡ push_left (push_at c.push) (plan_left (transmit_in c []).request) }
 {
-    let p = c.push;
-    let n = request_turns(c);
-    push_turns(p, n)
+    push_turns(c.push, request_turns(c))
 }
 
 fn fetch_turns(c: FetchNumbers) -> u32
