@@ -32,10 +32,7 @@ pub struct Exchanged {
 fn told(heard: Heard, m: Model) -> Exchanged
     ensures { result ≡ record { heard = heard; model = m } }
 {
-    Exchanged {
-        heard: heard,
-        model: m,
-    }
+    Exchanged { heard, model: m }
 }
 
 fn fresh(m: Model) -> Model
@@ -90,8 +87,7 @@ fn wrote_ram(m: Model, at: usize, sent: &[u8]) -> Model
     requires { 2 ≤ length sent.now }
     ensures { result ≡ written m at (drop 2 sent.now) }
 {
-    let start = 2;
-    state::written(m, at, &sent[start..])
+    state::written(m, at, &sent[2..])
 }
 
 #[tactic(auto, unfolding(crate::specs::Exchange::lent, crate::specs::Exchange::exchange, crate::specs::Exchange::performed))]

@@ -102,7 +102,7 @@ fn increased(frozen: u32, f: Fifo) -> Fifo
 pub fn overflowed(over: bool, f: Fifo) -> Fifo
     ensures { result ≡ overflowed over f }
 {
-    Fifo { over: over, ..f }
+    Fifo { over, ..f }
 }
 
 #[tactic(auto, unfolding(crate::specs::Ring::sent))]

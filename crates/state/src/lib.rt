@@ -70,7 +70,7 @@ fn fixed_reset() -> Fixed
     Fixed {
         configuring: true,
         queue: true,
-        frozen: frozen,
+        frozen,
     }
 }
 
@@ -104,7 +104,7 @@ pub fn reset(ram: [u8; 2048]) -> Model
         setup: setup_reset(),
         fifo: [Fifo::fresh(FifoControl::RESET); 32],
         queue: Queue::fresh(TxQueueControl::RESET),
-        ram: ram,
+        ram,
     }
 }
 
@@ -127,11 +127,7 @@ pub fn set_word(words: &mut [u32], k: usize, w: u32)
 pub fn fifo_at(m: Model, n: u8) -> Fifo
     ensures { result ≡ fifo_at m n }
 {
-    if n < 32 {
-        m.fifo[n as usize]
-    } else {
-        Fifo::fresh(0)
-    }
+    m.fifo.get(n as usize).copied().unwrap_or(Fifo::fresh(0))
 }
 
 pub fn frozen_at(m: Model, n: u8) -> u32
@@ -143,13 +139,13 @@ pub fn frozen_at(m: Model, n: u8) -> u32
 pub fn with_fixed(m: Model, fixed: Fixed) -> Model
     ensures { result ≡ with_fixed m fixed }
 {
-    Model { fixed: fixed, ..m }
+    Model { fixed, ..m }
 }
 
 pub fn with_setup(m: Model, setup: Setup) -> Model
     ensures { result ≡ with_setup m setup }
 {
-    Model { setup: setup, ..m }
+    Model { setup, ..m }
 }
 
 pub fn with_fifo(m: Model, n: u8, f: Fifo) -> Model
