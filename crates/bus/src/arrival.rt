@@ -41,20 +41,13 @@ pub struct Delivered {
 fn told(delivery: Result<(), Undelivered>, m: Model) -> Delivered
     ensures { result ≡ delivered delivery m }
 {
-    Delivered {
-        delivery: delivery,
-        model: m,
-    }
+    Delivered { delivery, model: m }
 }
 
 fn stamp_of(m: Model, n: u8, time: u32) -> Option<u32>
     ensures { result ≡ stamp_for m n time }
 {
-    if ring::stamped(frozen_at(m, n)) {
-        Some(time)
-    } else {
-        None
-    }
+    ring::stamped(frozen_at(m, n)).then_some(time)
 }
 
 // The object behind those held.
