@@ -5,6 +5,7 @@
 use acts::Chip;
 use lines::Writer;
 use output::Streams;
+use reading::Line;
 use script::{Between, Entry};
 use spoken::{Arguments, Fault};
 
@@ -68,8 +69,9 @@ impl Drive<'_> {
         self.notes.byte(b'\n');
     }
 
-    fn line(&mut self, line: &[u8], long: bool) {
-        let entry = script::entry_of(line, long, &mut self.said);
+    fn line(&mut self, line: Line<'_>) {
+        let entry = script::entry_of(line, &mut self.said);
+        let said = line.text;
         self.number = self.number.saturating_add(1);
         if script::ends(entry) {
             self.run_call();
@@ -77,10 +79,10 @@ impl Drive<'_> {
         }
         match entry {
             Ok(Entry::Blank) => {}
-            Ok(Entry::Note(Ok(_))) => self.noted(line),
-            Ok(Entry::Call) => self.opened(line),
-            Ok(Entry::Note(Err(f))) | Err(f) => self.refused(f, line),
-            Ok(Entry::Step(step)) => self.step(step, line),
+            Ok(Entry::Note(Ok(_))) => self.noted(said),
+            Ok(Entry::Call) => self.opened(said),
+            Ok(Entry::Note(Err(f))) | Err(f) => self.refused(f, said),
+            Ok(Entry::Step(step)) => self.step(step, said),
         }
     }
 }
@@ -100,6 +102,6 @@ fn main(rt: HostRuntime) {
         notes: Writer::new(&mut notes),
         said: Arguments::new(&mut lent),
     };
-    reading::each_line(to, &mut buffer, |line, long| drive.line(line, long));
+    reading::each_line(to, &mut buffer, |line| drive.line(line));
     drive.run_call();
 }

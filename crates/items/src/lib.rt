@@ -1,6 +1,7 @@
 // What a line of a transcript is by itself.
 #![tactic(auto)]
 
+use reading::Line;
 use spoken::{Arguments, Fault};
 
 #[derive(Clone, Copy, PartialEq, Eq, Debug)]
@@ -45,15 +46,16 @@ fn other(line: &[u8]) -> Result<Item, Fault> {
 }
 
 // A line that is too long is a call that is not understood, or nothing.
-pub fn item_of(line: &[u8], long: bool, rx: &mut [u8]) -> Result<Item, Fault> {
-    match text::word(line, 0) {
+pub fn item_of(line: Line<'_>, rx: &mut [u8]) -> Result<Item, Fault> {
+    let Line { text: said, long } = line;
+    match text::word(said, 0) {
         b"" => Ok(Item::Blank),
         b"call" => Ok(Item::Call),
         _ if long => Err(Fault::Long),
-        b"<" => got(line, rx),
-        b"=" => result(line),
+        b"<" => got(said, rx),
+        b"=" => result(said),
         b"field" => Ok(Item::Field),
         b"crc" => Ok(Item::Crc),
-        _ => other(line),
+        _ => other(said),
     }
 }

@@ -8,13 +8,29 @@ use output::Streams;
 #[derive(Clone, Copy)]
 pub struct Counts {
     agree: u64,
+    // In the order of CLASSES.
     outside: [u64; 7],
     differ: u64,
 }
 
-fn tell_class(to: Streams, k: usize, n: u64) {
+// The classes by their names, in the order in which they are told.
+const CLASSES: [(Class, &[u8]); 7] = [
+    (Class::BadSetting, b"24"),
+    (Class::BadUserAddress, b"25"),
+    (Class::BeyondSlot, b"35"),
+    (Class::LastByte, b"D1"),
+    (Class::Tdco, b"D2"),
+    (Class::Length, b"D3"),
+    (Class::Absent, b"absent"),
+];
+
+fn place_of(class: Class) -> Option<usize> {
+    CLASSES.iter().position(|(c, _)| *c == class)
+}
+
+fn tell_class(to: Streams, name: &[u8], n: u64) {
     to.write(b"outside ");
-    to.write(text::word(b"24 25 35 D1 D2 D3 absent", k));
+    to.write(name);
     to.write(b": ");
     to.number(n);
     to.write(b"\n");
@@ -40,7 +56,10 @@ impl Counts {
     pub(crate) fn outside(&mut self, class: Class)
         ensures { (self.new.agree ≡ self.old.agree) × (self.new.differ ≡ self.old.differ) }
     {
-        if let Some(n) = self.outside.get_mut(class as usize) {
+        let Some(k) = place_of(class) else {
+            return;
+        };
+        if let Some(n) = self.outside.get_mut(k) {
             *n = n.saturating_add(1);
         }
     }
@@ -54,9 +73,9 @@ impl Counts {
     // The classes outside that there are, each with its count; and how many cases there are.
     pub(crate) fn tell(&self, to: Streams) {
         let mut outside: u64 = 0;
-        for (k, n) in self.outside.iter().enumerate() {
+        for (n, (_, name)) in self.outside.iter().zip(CLASSES) {
             if 0 < *n {
-                tell_class(to, k, *n);
+                tell_class(to, name, *n);
             }
             outside = outside.saturating_add(*n);
         }

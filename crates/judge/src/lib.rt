@@ -12,6 +12,7 @@ use counts::Counts;
 use items::Item;
 use lines::Writer;
 use output::Streams;
+use reading::Line;
 use spoken::{Arguments, CallName, Fault};
 
 // Where the transcript's reader stands in a case.
@@ -74,19 +75,16 @@ fn is_done(item: Result<Item, Fault>) -> bool {
     matches!(item, Ok(Item::Sent | Item::Wait | Item::Result))
 }
 
-// What a call's line says; its words go to the arguments.
+// What a call's line says, where it is one; its words go to the arguments.
 pub fn hear(
     item: Result<Item, Fault>,
-    line: &[u8],
-    long: bool,
+    line: Line<'_>,
     a: &mut Arguments<'_>,
-) -> Result<CallName, Fault> {
-    if long {
-        return Err(Fault::Long);
-    }
+) -> Option<Result<CallName, Fault>> {
     match item {
-        Ok(Item::Call) => spoken::understood(line, a),
-        _ => Err(Fault::Name),
+        Ok(Item::Call) if line.long => Some(Err(Fault::Long)),
+        Ok(Item::Call) => Some(spoken::understood(line.text, a)),
+        _ => None,
     }
 }
 
@@ -200,6 +198,11 @@ impl<'a> Judge<'a> {
         self.differs = None;
     }
 
+    fn error(&self, fault: Fault, line: &[u8]) {
+        self.to.error(self.number);
+        faults::told(self.to, self.number, fault, line);
+    }
+
     // A line that is a case by itself.
     fn single(&mut self, item: Result<Item, Fault>, line: &[u8])
         ensures { Stands self.old self.new }
@@ -207,8 +210,7 @@ impl<'a> Judge<'a> {
         let mut buffer = [0u8; 8192];
         let mut out = Writer::new(&mut buffer);
         if singles::single(item, line, &mut out).is_none() {
-            self.to.error(self.number);
-            faults::told(self.to, self.number, Fault::Count, line);
+            self.error(Fault::Count, line);
             return self.counts.differ();
         }
         if let Some(class) = singles::class(item, line) {
@@ -242,19 +244,18 @@ impl<'a> Judge<'a> {
     }
 
     fn lose(&mut self, fault: Fault, line: &[u8]) {
-        self.to.error(self.number);
-        faults::told(self.to, self.number, fault, line);
+        self.error(fault, line);
         if self.phase != Phase::Idle {
             self.phase = Phase::Lost;
         }
     }
 
-    fn begin(&mut self, heard: Result<CallName, Fault>, line: &[u8]) {
+    fn begin(&mut self, heard: Option<Result<CallName, Fault>>, line: &[u8]) {
         self.start = self.number;
         self.phase = Phase::Turn;
         self.class = None;
         self.differs = None;
-        if let Err(f) = heard {
+        if let Some(Err(f)) = heard {
             self.lose(f, line);
         }
     }
@@ -282,24 +283,24 @@ impl<'a> Judge<'a> {
     fn see(
         &mut self,
         item: Result<Item, Fault>,
-        heard: Result<CallName, Fault>,
+        heard: Option<Result<CallName, Fault>>,
         line: &[u8],
         a: &Arguments<'_>,
         rx: &[u8],
     ) {
         match (heard, item) {
-            (Ok(name), _) => self.seen = Seen::new(name, a),
+            (Some(Ok(name)), _) => self.seen = Seen::new(name, a),
             (_, Ok(Item::Sent)) => self.seen.ask(line),
             (_, Ok(Item::Got(n))) => self.seen.answer(text::front(rx, n)),
             _ => {}
         }
     }
 
-    // After a line, `heard` being what a call's line says.
+    // After a line, `heard` being what it says if it is a call's.
     pub fn after(
         &mut self,
         item: Result<Item, Fault>,
-        heard: Result<CallName, Fault>,
+        heard: Option<Result<CallName, Fault>>,
         line: &[u8],
         a: &Arguments<'_>,
         rx: &[u8],

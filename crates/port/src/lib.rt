@@ -6,7 +6,7 @@ ghost use Rattle.lines.specs.Writer.{Appends};
 use driver::{Answer, Call, Next, Outcome};
 use items::Item;
 use lines::Writer;
-use spoken::{Arguments, CallName, Fault};
+use spoken::Fault;
 
 // A RAM read of so many bytes ends with them.
 fn ended(call: Call, read: Option<usize>, rx: &[u8], out: &mut Writer<'_>)
@@ -33,31 +33,20 @@ pub fn put_line(call: Call, read: Option<usize>, sent: &[u8], rx: &[u8], out: &m
     }
 }
 
-// What a line of the transcript means to the call: its name, or what it is answered.
-#[derive(Clone, Copy)]
-pub enum Step {
-    Begin(CallName),
-    Answer(Answer),
-}
-
-// A call's line begins it, and what it is answered goes to it.
-pub fn step_of(item: Result<Item, Fault>, heard: Result<CallName, Fault>) -> Option<Step> {
-    if let Ok(name) = heard {
-        return Some(Step::Begin(name));
-    }
+// What a line of the transcript answers its call.
+pub fn answer_of(item: Result<Item, Fault>) -> Option<Answer> {
     match item {
-        Ok(Item::Got(_)) => Some(Step::Answer(Answer::Exchanged)),
-        Ok(Item::Failed) => Some(Step::Answer(Answer::Failed)),
-        Ok(Item::Wait) => Some(Step::Answer(Answer::Waited)),
+        Ok(Item::Got(_)) => Some(Answer::Exchanged),
+        Ok(Item::Failed) => Some(Answer::Failed),
+        Ok(Item::Wait) => Some(Answer::Waited),
         _ => None,
     }
 }
 
-// The call after a step, `a` being the arguments of its line. A scrub starts at the first entry, and no byte stands beside the answer to a wait.
-pub fn moved(call: Call, step: Step, a: &Arguments<'_>, rx: &[u8]) -> Call {
-    match step {
-        Step::Begin(name) => starts::start(name, a, 0),
-        Step::Answer(Answer::Waited) => driver::answer(call, Answer::Waited, b""),
-        Step::Answer(answer) => driver::answer(call, answer, rx),
+// The call after an answer. No byte stands beside the answer to a wait.
+pub fn answered(call: Call, answer: Answer, rx: &[u8]) -> Call {
+    match answer {
+        Answer::Waited => driver::answer(call, answer, b""),
+        _ => driver::answer(call, answer, rx),
     }
 }

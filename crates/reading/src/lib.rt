@@ -139,7 +139,7 @@ impl<'a> Reader<'a> {
 }
 
 // Each line of standard input, in order, put into the buffer. No input has so many that the turns run out.
-pub fn each_line<F: FnMut(&[u8], bool)>(streams: Streams, buffer: &mut [u8], mut visit: F)
+pub fn each_line<F: FnMut(Line<'_>)>(streams: Streams, buffer: &mut [u8], mut visit: F)
     requires { F.IsAlwaysCallable visit }
 {
     let mut piece = io::large_buffer();
@@ -148,6 +148,6 @@ pub fn each_line<F: FnMut(&[u8], bool)>(streams: Streams, buffer: &mut [u8], mut
         let Some(line) = input.next_line(buffer) else {
             return;
         };
-        visit(line.text, line.long);
+        visit(line);
     }
 }

@@ -6,12 +6,14 @@ use items::Item;
 use judge::Judge;
 use lines::Writer;
 use output::Streams;
-use spoken::{Arguments, Fault};
+use reading::Line;
+use spoken::{Arguments, CallName, Fault};
 
 #[derive(Drop)]
 struct Replay<'a> {
     judge: Judge<'a>,
-    call: Call,
+    // The last call that was understood.
+    call: Option<Call>,
     // What the call's line says, and the bytes that came.
     said: Arguments<'a>,
     rx: [u8; 4200],
@@ -23,10 +25,13 @@ impl Replay<'_> {
     // What the port does now, where that is looked at.
     fn put_line(&mut self, item: Result<Item, Fault>) {
         self.out.clear();
+        let Some(call) = self.call else {
+            return;
+        };
         if self.judge.is_due(item) {
             let rx = text::front(&self.rx, self.judge.got());
             port::put_line(
-                self.call,
+                call,
                 self.judge.read(),
                 self.said.bytes(),
                 rx,
@@ -35,19 +40,32 @@ impl Replay<'_> {
         }
     }
 
-    fn line(&mut self, line: &[u8], long: bool) {
-        let item = items::item_of(line, long, &mut self.rx);
-        self.put_line(item);
-        self.judge.settle(item, line, self.out.text());
-        let heard = judge::hear(item, line, long, &mut self.said);
-        self.judge.after(item, heard, line, &self.said, &self.rx);
-        // Answers go to the call as long as it does what the transcript has.
-        if !self.judge.is_followed() {
-            return;
+    // The call after a line: it begins there, or is answered. A scrub starts at the first entry.
+    fn moved(
+        &self,
+        item: Result<Item, Fault>,
+        heard: Option<Result<CallName, Fault>>,
+    ) -> Option<Call> {
+        if let Some(Ok(name)) = heard {
+            return Some(starts::start(name, &self.said, 0));
         }
-        if let Some(step) = port::step_of(item, heard) {
-            let rx = text::front(&self.rx, self.judge.got());
-            self.call = port::moved(self.call, step, &self.said, rx);
+        let Some(answer) = port::answer_of(item) else {
+            return self.call;
+        };
+        let rx = text::front(&self.rx, self.judge.got());
+        Some(port::answered(self.call?, answer, rx))
+    }
+
+    fn line(&mut self, line: Line<'_>) {
+        let item = items::item_of(line, &mut self.rx);
+        self.put_line(item);
+        self.judge.settle(item, line.text, self.out.text());
+        let heard = judge::hear(item, line, &mut self.said);
+        self.judge
+            .after(item, heard, line.text, &self.said, &self.rx);
+        // Answers go to the call as long as it does what the transcript has.
+        if self.judge.is_followed() {
+            self.call = self.moved(item, heard);
         }
     }
 }
@@ -60,12 +78,12 @@ fn main(rt: HostRuntime) {
     let mut lent = [0u8; 4200];
     let mut replay = Replay {
         judge: Judge::new(to, &mut note),
-        call: driver::reset(),
+        call: None,
         said: Arguments::new(&mut lent),
         rx: [0u8; 4200],
         out: Writer::new(&mut out),
     };
-    reading::each_line(to, &mut buffer, |line, long| replay.line(line, long));
-    replay.line(b"", false);
+    reading::each_line(to, &mut buffer, |line| replay.line(line));
+    replay.line(Line::default());
     replay.judge.tell();
 }

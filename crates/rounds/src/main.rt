@@ -131,7 +131,7 @@ fn play(to: Streams, n: u32) {
     tell(to, rounds.good, b" messages\n");
 }
 
-// None where it is no number, or too large a one.
+// 0 where it is no number, or too large a one.
 fn rounds_of(s: &[u8]) -> u32 {
     text::decimal(s)
         .and_then(|n| u32::try_from(n).ok())

@@ -1,6 +1,7 @@
 // What a line of a script is.
 #![tactic(auto)]
 
+use reading::Line;
 use spoken::{Arguments, Fault};
 
 // A bus step. A frame that arrives has its DLC on the line, or the one that its payload's length has.
@@ -101,17 +102,18 @@ fn long_entry(first: u8) -> Result<Entry, Fault> {
 }
 
 // What a line's words say goes to the arguments.
-pub fn entry_of(line: &[u8], long: bool, a: &mut Arguments<'_>) -> Result<Entry, Fault> {
-    match line.first() {
+pub fn entry_of(line: Line<'_>, a: &mut Arguments<'_>) -> Result<Entry, Fault> {
+    let Line { text: said, long } = line;
+    match said.first() {
         None => Ok(Entry::Blank),
         Some(first) if long => long_entry(*first),
         Some(b'#') => Ok(Entry::Blank),
-        Some(b'@') => Ok(Entry::Note(noted(line, a))),
-        Some(_) if text::is(line, 0, b"call") => {
-            spoken::understood(line, a)?;
+        Some(b'@') => Ok(Entry::Note(noted(said, a))),
+        Some(_) if text::is(said, 0, b"call") => {
+            spoken::understood(said, a)?;
             Ok(Entry::Call)
         }
-        Some(_) => Ok(Entry::Step(step(line, a)?)),
+        Some(_) => Ok(Entry::Step(step(said, a)?)),
     }
 }
 

@@ -9,11 +9,12 @@ use model::Heard;
 use script::Note;
 use spoken::{Arguments, CallName};
 
-// What the @ lines say of one exchange: whether it fails, and how many bytes are given instead of what the chip answers.
+// What the @ lines say of one exchange: nothing, so many bytes given instead of what the chip answers, or that it fails.
 #[derive(Clone, Copy)]
-struct Told {
-    fails: bool,
-    given: Option<usize>,
+enum Told {
+    Nothing,
+    Given(usize),
+    Fails,
 }
 
 // A call on the chip: its @ lines, each ended by a newline; what a RAM write sends; how many bytes a RAM read asks for.
@@ -31,18 +32,15 @@ struct Stage<'c, 'a, 'o> {
 }
 
 impl Stage<'_, '_, '_> {
-    // Of two lines that give an answer the last holds.
+    // Of two lines that give an answer the last holds; an exchange that fails is given none.
     fn noted(&mut self, told: Told, note: &[u8]) -> Told {
         let mut lent = [0u8; 32768];
         let mut a = Arguments::new(&mut lent);
         match script::note_of(note, &mut a) {
-            Ok(Note::Fail) => Told {
-                fails: true,
-                given: told.given,
-            },
-            Ok(Note::Answer) => Told {
-                fails: told.fails,
-                given: text::bytes(text::word(note, 2), &mut self.rx).or(told.given),
+            Ok(Note::Fail) => Told::Fails,
+            Ok(Note::Answer) => match (told, text::bytes(text::word(note, 2), &mut self.rx)) {
+                (Told::Nothing | Told::Given(_), Some(n)) => Told::Given(n),
+                _ => told,
             },
             Ok(Note::Bus(step)) => {
                 self.chip.bus_step(step, text::rest(note, 1), &a);
@@ -54,10 +52,7 @@ impl Stage<'_, '_, '_> {
 
     // What the @ lines say of the exchange that is made: bus steps are done in the order written.
     fn told(&mut self) -> Told {
-        let mut told = Told {
-            fails: false,
-            given: None,
-        };
+        let mut told = Told::Nothing;
         let notes = self.notes;
         for note in notes.split(|b| *b == b'\n') {
             if script::exchange_of(note) == Some(self.made) {
@@ -104,12 +99,10 @@ impl Stage<'_, '_, '_> {
         self.made = self.made.saturating_add(1);
         let told = self.told();
         self.chip.to.write_line(self.out.text());
-        if told.fails {
-            return self.failed();
-        }
-        match told.given {
-            Some(n) => self.answered(sent, want, n),
-            None => self.carried(sent, want),
+        match told {
+            Told::Fails => self.failed(),
+            Told::Given(n) => self.answered(sent, want, n),
+            Told::Nothing => self.carried(sent, want),
         }
     }
 

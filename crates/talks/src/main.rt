@@ -5,20 +5,20 @@
 #![tactic(auto)]
 
 use classes::Seen;
-use driver::Call;
+use driver::{Call, Next};
 use items::Item;
 use lines::Writer;
 use output::Streams;
+use reading::Line;
 use spoken::{Arguments, CallName, Fault};
 
 #[derive(Drop)]
 struct Talks<'a> {
     to: Streams,
-    call: Call,
     // The number of the line that was read last, counted from 1.
     number: u64,
-    // What is known of the last call, where its line was understood.
-    seen: Option<Seen>,
+    // The last call and what is known of it, where its line was understood.
+    last: Option<(Call, Seen)>,
     // What the call's line says, and the bytes that came.
     said: Arguments<'a>,
     rx: [u8; 4200],
@@ -33,31 +33,46 @@ fn got_of(item: Item) -> usize {
     }
 }
 
+fn waits(call: Call, sent: &[u8]) -> bool {
+    let mut tx = [0u8; 4200];
+    matches!(driver::next(call, sent, &mut tx), Next::Wait)
+}
+
 impl Talks<'_> {
     // What a line is, or what is wrong with it.
-    fn judged(&self, item: Item, heard: Result<CallName, Fault>) -> Result<Item, Fault> {
+    fn judged(
+        &self,
+        item: Item,
+        heard: Option<Result<CallName, Fault>>,
+    ) -> Result<Item, Fault> {
+        if let Some(Err(fault)) = heard {
+            return Err(fault);
+        }
         match item {
-            Item::Blank => Ok(item),
-            Item::Call => heard.map(|_| item),
-            Item::Got(_) | Item::Failed | Item::Wait if self.seen.is_some() => Ok(item),
+            Item::Blank | Item::Call => Ok(item),
+            Item::Got(_) | Item::Failed | Item::Wait if self.last.is_some() => Ok(item),
             Item::Got(_) | Item::Failed | Item::Wait => Err(Fault::Alone),
             _ => Err(Fault::Place),
         }
     }
 
     // What the call does after this line, where it does something: a wait is not written here, since its line comes with the answers.
-    fn moved(&mut self, item: Item, heard: Result<CallName, Fault>) {
-        let Some(step) = port::step_of(Ok(item), heard) else {
+    fn moved(&mut self, item: Item) {
+        let Some((before, seen)) = self.last else {
             return;
         };
         let rx = text::front(&self.rx, got_of(item));
-        let read = self.seen.and_then(|seen| seen.read());
-        self.call = port::moved(self.call, step, &self.said, rx);
-        self.out.clear();
-        port::put_line(self.call, read, self.said.bytes(), rx, &mut self.out);
-        if self.out.text().first() != Some(&b'w') {
-            self.to.write_line(self.out.text());
+        let call = match port::answer_of(Ok(item)) {
+            Some(answer) => port::answered(before, answer, rx),
+            None => before,
+        };
+        self.last = Some((call, seen));
+        if waits(call, self.said.bytes()) {
+            return;
         }
+        self.out.clear();
+        port::put_line(call, seen.read(), self.said.bytes(), rx, &mut self.out);
+        self.to.write_line(self.out.text());
     }
 
     fn refused(&self, fault: Fault, line: &[u8]) {
@@ -65,19 +80,27 @@ impl Talks<'_> {
         faults::told(self.to, self.number, fault, line);
     }
 
-    fn line(&mut self, line: &[u8], long: bool) {
-        let item = items::item_of(line, long, &mut self.rx);
-        let heard = judge::hear(item, line, long, &mut self.said);
+    fn begin(&mut self, name: CallName) {
+        let call = starts::start(name, &self.said, 0);
+        self.last = Some((call, Seen::new(name, &self.said)));
+    }
+
+    fn line(&mut self, line: Line<'_>) {
+        let item = items::item_of(line, &mut self.rx);
+        let heard = judge::hear(item, line, &mut self.said);
         self.number = self.number.saturating_add(1);
-        if let Ok(Item::Call) = item {
-            self.seen = heard.ok().map(|name| Seen::new(name, &self.said));
+        match heard {
+            Some(Ok(name)) => self.begin(name),
+            Some(Err(_)) => self.last = None,
+            None => {}
         }
         match item.and_then(|item| self.judged(item, heard)) {
+            Ok(Item::Blank) => self.to.write_line(line.text),
             Ok(item) => {
-                self.to.write_line(line);
-                self.moved(item, heard);
+                self.to.write_line(line.text);
+                self.moved(item);
             }
-            Err(fault) => self.refused(fault, line),
+            Err(fault) => self.refused(fault, line.text),
         }
     }
 }
@@ -89,12 +112,11 @@ fn main(rt: HostRuntime) {
     let mut lent = [0u8; 4200];
     let mut talks = Talks {
         to,
-        call: driver::reset(),
         number: 0,
-        seen: None,
+        last: None,
         said: Arguments::new(&mut lent),
         rx: [0u8; 4200],
         out: Writer::new(&mut out),
     };
-    reading::each_line(to, &mut buffer, |line, long| talks.line(line, long));
+    reading::each_line(to, &mut buffer, |line| talks.line(line));
 }
