@@ -17,11 +17,7 @@ pub enum NoValue {
 pub fn fitting(v: u32, bits: u32) -> Option<u32>
     ensures { IfSome result (λ x. x < 2 ^ bits) }
 {
-    if bits < 32 && 1 << bits <= v {
-        None
-    } else {
-        Some(v)
-    }
+    (32 <= bits || v < 1 << bits).then_some(v)
 }
 
 // A value that one bit holds.

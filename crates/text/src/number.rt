@@ -66,7 +66,8 @@ pub fn bytes(s: &[u8], out: &mut [u8]) -> Option<usize> {
     for (place, pair) in out.iter_mut().zip(s.chunks_exact(2)) {
         *place = byte(pair)?;
     }
-    if n <= out.len() { Some(n) } else { None }
+    let fits = n <= out.len();
+    fits.then_some(n)
 }
 
 // FDF 1, BRS 2, ESI 4, RTR 8, or `-`: each letter stands for more than those before it together.
@@ -87,7 +88,7 @@ fn with_flag(sum: u64, letter: &u8) -> Option<u64> {
         b'r' => 8,
         _ => return None,
     };
-    if sum < flag { Some(sum + flag) } else { None }
+    (sum < flag).then(|| sum + flag)
 }
 
 // What is added to an extended identifier in its number.
