@@ -98,9 +98,7 @@ fn show_forms(to: Streams, name: &[u8]) {
 pub fn told(to: Streams, number: u64, fault: Fault, line: &[u8]) {
     let words = named(line);
     to.tell(b"line ");
-    let mut digits = [0u8; 20];
-    let k = io::decimal(number, &mut digits);
-    to.tell(&digits[..k]);
+    to.tell_number(number);
     to.tell(b": ");
     reason(to, fault, words);
     to.tell(b"\n");

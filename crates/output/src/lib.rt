@@ -10,6 +10,15 @@ pub struct Streams {
     pub stderr: Stderr,
 }
 
+// A number's decimal digits.
+fn in_digits<F: FnOnce(&[u8])>(n: u64, put: F)
+    requires { (s : _) → F.pre put s }
+{
+    let mut digits = [0u8; 20];
+    let k = io::decimal(n, &mut digits);
+    put(&digits[..k]);
+}
+
 impl Streams {
     pub fn new(rt: HostRuntime) -> Streams {
         Streams {
@@ -29,9 +38,7 @@ impl Streams {
     }
 
     pub fn number(self, n: u64) {
-        let mut digits = [0u8; 20];
-        let k = io::decimal(n, &mut digits);
-        self.write(&digits[..k]);
+        in_digits(n, |s| self.write(s));
     }
 
     // A line that is not understood, by its number.
@@ -44,5 +51,9 @@ impl Streams {
     // On standard error.
     pub fn tell(self, s: &[u8]) {
         let _ = self.stderr.write_all(s);
+    }
+
+    pub fn tell_number(self, n: u64) {
+        in_digits(n, |s| self.tell(s));
     }
 }
