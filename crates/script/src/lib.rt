@@ -71,13 +71,24 @@ pub fn exchange_of(line: &[u8]) -> Option<u64> {
     text::decimal(text::word(line, 0).get(1..)?)
 }
 
+// A bus step, or what has one of these rows.
+fn or_bus<T: Copy, F: Fn(Bus) -> T>(
+    line: &[u8],
+    rows: &[(&[u8], &[u8], T)],
+    bus: F,
+    a: &mut Arguments<'_>,
+) -> Result<T, Fault>
+    requires { F.IsAlwaysCallable bus }
+{
+    match spoken::row_of(line, &BUS, a) {
+        Err(Fault::Name) => spoken::row_of(line, rows, a),
+        step => Ok(bus(step?)),
+    }
+}
+
 // What an @ line says; its words go to the arguments.
 pub fn note_of(line: &[u8], a: &mut Arguments<'_>) -> Result<Note, Fault> {
-    let said = text::rest(line, 1);
-    match spoken::row_of(said, &BUS, a) {
-        Err(Fault::Name) => spoken::row_of(said, &NOTES, a),
-        step => Ok(Note::Bus(step?)),
-    }
+    or_bus(text::rest(line, 1), &NOTES, Note::Bus, a)
 }
 
 fn noted(line: &[u8], a: &mut Arguments<'_>) -> Result<Note, Fault> {
@@ -86,10 +97,7 @@ fn noted(line: &[u8], a: &mut Arguments<'_>) -> Result<Note, Fault> {
 }
 
 fn step(line: &[u8], a: &mut Arguments<'_>) -> Result<Between, Fault> {
-    match spoken::row_of(line, &BUS, a) {
-        Err(Fault::Name) => spoken::row_of(line, &STEPS, a),
-        step => Ok(Between::Bus(step?)),
-    }
+    or_bus(line, &STEPS, Between::Bus, a)
 }
 
 // Of a line that is too long only the front is there, which is no more than a comment or an error.
