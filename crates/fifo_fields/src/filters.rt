@@ -52,14 +52,8 @@ pub fn with_mask(w: u32, name: &[u8], v: u32) -> Option<u32> {
 pub fn control(w: u32, name: &[u8]) -> Option<u32> {
     let r = FilterControl(w);
     Some(match name {
-        b"f0bp" => r.target(0),
-        b"f1bp" => r.target(1),
-        b"f2bp" => r.target(2),
-        b"f3bp" => r.target(3),
-        b"flten0" => r.enabled(0) as u32,
-        b"flten1" => r.enabled(1) as u32,
-        b"flten2" => r.enabled(2) as u32,
-        b"flten3" => r.enabled(3) as u32,
+        [b'f', k @ b'0'..=b'3', b'b', b'p'] => r.target(*k - b'0'),
+        [b'f', b'l', b't', b'e', b'n', k @ b'0'..=b'3'] => r.enabled(*k - b'0') as u32,
         _ => return None,
     })
 }
@@ -67,14 +61,8 @@ pub fn control(w: u32, name: &[u8]) -> Option<u32> {
 pub fn with_control(w: u32, name: &[u8], v: u32) -> Option<u32> {
     let r = FilterControl(w);
     let set = match name {
-        b"f0bp" => r.with_target(0, fitting(v, 5)?),
-        b"f1bp" => r.with_target(1, fitting(v, 5)?),
-        b"f2bp" => r.with_target(2, fitting(v, 5)?),
-        b"f3bp" => r.with_target(3, fitting(v, 5)?),
-        b"flten0" => r.with_enabled(0, flag(v)?),
-        b"flten1" => r.with_enabled(1, flag(v)?),
-        b"flten2" => r.with_enabled(2, flag(v)?),
-        b"flten3" => r.with_enabled(3, flag(v)?),
+        [b'f', k @ b'0'..=b'3', b'b', b'p'] => r.with_target(*k - b'0', fitting(v, 5)?),
+        [b'f', b'l', b't', b'e', b'n', k @ b'0'..=b'3'] => r.with_enabled(*k - b'0', flag(v)?),
         _ => return None,
     };
     Some(set.0)

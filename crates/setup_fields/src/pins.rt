@@ -36,14 +36,10 @@ pub fn with_oscillator(w: u32, name: &[u8], v: u32) -> Option<u32> {
 pub fn pins(w: u32, name: &[u8]) -> Option<u32> {
     let r = IoControl(w);
     let on = match name {
-        b"tris0" => r.tris(0),
-        b"tris1" => r.tris(1),
-        b"lat0" => r.lat(0),
-        b"lat1" => r.lat(1),
-        b"gpio0" => r.gpio(0),
-        b"gpio1" => r.gpio(1),
-        b"pm0" => r.pm(0),
-        b"pm1" => r.pm(1),
+        [b't', b'r', b'i', b's', k @ b'0'..=b'1'] => r.tris(*k - b'0'),
+        [b'l', b'a', b't', k @ b'0'..=b'1'] => r.lat(*k - b'0'),
+        [b'g', b'p', b'i', b'o', k @ b'0'..=b'1'] => r.gpio(*k - b'0'),
+        [b'p', b'm', k @ b'0'..=b'1'] => r.pm(*k - b'0'),
         b"xstbyen" => r.xstbyen(),
         b"txcanod" => r.txcanod(),
         b"sof" => r.sof(),
@@ -57,14 +53,10 @@ pub fn with_pins(w: u32, name: &[u8], v: u32) -> Option<u32> {
     let r = IoControl(w);
     let on = flag(v)?;
     let set = match name {
-        b"tris0" => r.with_tris(0, on),
-        b"tris1" => r.with_tris(1, on),
-        b"lat0" => r.with_lat(0, on),
-        b"lat1" => r.with_lat(1, on),
-        b"gpio0" => r.with_gpio(0, on),
-        b"gpio1" => r.with_gpio(1, on),
-        b"pm0" => r.with_pm(0, on),
-        b"pm1" => r.with_pm(1, on),
+        [b't', b'r', b'i', b's', k @ b'0'..=b'1'] => r.with_tris(*k - b'0', on),
+        [b'l', b'a', b't', k @ b'0'..=b'1'] => r.with_lat(*k - b'0', on),
+        [b'g', b'p', b'i', b'o', k @ b'0'..=b'1'] => r.with_gpio(*k - b'0', on),
+        [b'p', b'm', k @ b'0'..=b'1'] => r.with_pm(*k - b'0', on),
         b"xstbyen" => r.with_xstbyen(on),
         b"txcanod" => r.with_txcanod(on),
         b"sof" => r.with_sof(on),
