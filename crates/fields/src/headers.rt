@@ -26,8 +26,7 @@ fn flag_word(name: &[u8]) -> u32 {
 // In the port a classic frame to send with a DLC above 8 is none, so SEQ is read as an FD frame's.
 fn seq_in(b: u32) -> u32 {
     let mut object = [0u8; 72];
-    let word = words::le_bytes(b | flag_word(b"fdf"));
-    parts::put_at(&mut object, 4, &word);
+    object[4..8].copy_from_slice(&(b | flag_word(b"fdf")).to_le_bytes());
     message::decode(true, false, &object).map_or(0, |frame| frame.seq)
 }
 
@@ -40,7 +39,7 @@ fn high(word: u64) -> u32 {
 }
 
 fn joined(a: u32, b: u32) -> u64 {
-    (b as u64) << 32 | a as u64
+    u64::from(b) << 32 | u64::from(a)
 }
 
 pub fn read(sending: bool, name: &[u8], word: u64) -> Result<u32, NoValue> {
