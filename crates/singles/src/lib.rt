@@ -44,17 +44,27 @@ fn question(line: &[u8], k: usize) -> &[u8] {
     line.strip_suffix(text::word(line, k)).unwrap_or(line)
 }
 
+// A field's value or word is put; of one that is not carried, nothing.
+fn put_value<F: FnOnce(u64)>(value: Result<u64, NoValue>, put: F) -> Option<()>
+    requires { (v : _) → F.pre put v }
+{
+    match value {
+        Ok(v) => put(v),
+        Err(NoValue::Absent) => {}
+        Err(NoValue::Unknown) => return None,
+    }
+    Some(())
+}
+
 // `field REGISTER NAME WORD -> VALUE`, a field read.
 fn read_line(line: &[u8], out: &mut Writer<'_>) -> Option<()> {
     let word = double(text::word(line, 3))?;
     text::decimal(text::word(line, 5))?;
     out.put(question(line, 5));
-    match fields::field_read(text::word(line, 1), text::word(line, 2), word) {
-        Ok(v) => out.decimal(v),
-        Err(NoValue::Absent) => {}
-        Err(NoValue::Unknown) => return None,
-    }
-    Some(())
+    put_value(
+        fields::field_read(text::word(line, 1), text::word(line, 2), word),
+        |v| out.decimal(v),
+    )
 }
 
 // `field REGISTER NAME VALUE WORD -> WORD`, a field set.
@@ -64,12 +74,10 @@ fn set_line(line: &[u8], out: &mut Writer<'_>) -> Option<()> {
     double(text::word(line, 6))?;
     out.put(question(line, 6));
     let width = text::word(line, 4).len();
-    match fields::field_set(text::word(line, 1), text::word(line, 2), v, word) {
-        Ok(x) => out.hex(x, width),
-        Err(NoValue::Absent) => {}
-        Err(NoValue::Unknown) => return None,
-    }
-    Some(())
+    put_value(
+        fields::field_set(text::word(line, 1), text::word(line, 2), v, word),
+        |x| out.hex(x, width),
+    )
 }
 
 fn field_line(line: &[u8], out: &mut Writer<'_>) -> Option<()> {
