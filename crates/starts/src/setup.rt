@@ -122,7 +122,7 @@ fn fifo_call(a: &Arguments<'_>, good: bool, mode: FifoMode) -> Call
     let c = FifoConfiguration {
         size: a.word(1),
         plsize: spoilt(good, a.word(2)),
-        mode: mode,
+        mode,
     };
     driver::configure_fifo(a.word(0), c)
 }
