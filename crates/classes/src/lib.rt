@@ -168,10 +168,7 @@ impl Seen {
     pub fn read(self) -> Option<usize>
         ensures { IsRead self result }
     {
-        if self.name == CallName::ReadRam && self.size < 0xFFFF_FFFF {
-            return Some(self.size as usize);
-        }
-        None
+        (self.name == CallName::ReadRam && self.size < 0xFFFF_FFFF).then(|| self.size as usize)
     }
 
     // After an exchange, `> SENT WANT`: CiTDC is read by 300c.

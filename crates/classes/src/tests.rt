@@ -30,7 +30,7 @@ pub fn is_last(address: u32, n: u64) -> bool
 pub fn is_cut(tdco: u64, w: u32) -> bool
     ensures { result ≡ is_cut tdco w }
 {
-    (w / 0x4000 % 2) as u64 != tdco / 64 % 2
+    field::bit(w, 14) != (tdco / 64 % 2 == 1)
 }
 
 #[tactic(auto, unfolding(crate::specs::Classes::is_beyond))]
