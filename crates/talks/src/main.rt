@@ -40,11 +40,7 @@ fn waits(call: Call, sent: &[u8]) -> bool {
 
 impl Talks<'_> {
     // What a line is, or what is wrong with it.
-    fn judged(
-        &self,
-        item: Item,
-        heard: Option<Result<CallName, Fault>>,
-    ) -> Result<Item, Fault> {
+    fn judged(&self, item: Item, heard: Option<Result<CallName, Fault>>) -> Result<Item, Fault> {
         if let Some(Err(fault)) = heard {
             return Err(fault);
         }
