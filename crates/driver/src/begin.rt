@@ -248,6 +248,6 @@ pub fn get(fifo: u32, room: usize) -> Call
 pub fn scrub(s: Scrubber, list: &[Watch], rewrite: bool) -> Call
     ensures { call_of result ≡ started (Scrub s.place list.now rewrite) }
 {
-    let p = scrub::scrub_begin(s.place, watch::scrub_start(s, list), rewrite);
+    let p = scrub::scrub_begin(watch::scrub_start(s, list), rewrite);
     begun(Family::Scrub(p), [0u8; 76])
 }

@@ -29,6 +29,7 @@ use Rattle.transmit.specs.Transmit.{transmit_outcome}
 use Rattle.fetch.specs.FetchAt.{FetchAt}
 use Rattle.rx_fifo.specs.Outcome as found
 use Rattle.watch.specs.declared.Begun.{Begun}
+use Rattle.watch.specs.declared.TurnedDown.{TurnedDown}
 use Rattle.watch.specs.Watch.{start_of}
 use Rattle.scrub.specs.Scrub.{Scrub, ScrubAt}
 use Rattle.scrub.specs.Step as scrub
@@ -240,10 +241,10 @@ addressed_none : (a : ℕ) (r : RegisterCall) → seen_in r ≡ 0 → seen_in (r
 unfolding register.addressed
 addressed_none a r e = by_if (λ x. seen_in x ≡ 0) (ltb a (2 ^ 12)) (λ t. e) (λ t. refl)
 
-begun_none : (p : ℕ) (b : Result Begun Refusal) (rewrite : Bool) → count_in (scrub.begins p b rewrite).at ≡ 0
+begun_none : (b : Result Begun TurnedDown) (rewrite : Bool) → count_in (scrub.begins b rewrite).at ≡ 0
 unfolding scrub.begins
-begun_none p (Ok b) rewrite = refl
-begun_none p (Err r) rewrite = refl
+begun_none (Ok b) rewrite = refl
+begun_none (Err t) rewrite = refl
 
 look_none : (x : Look) → None (looks x).at
 unfolding of_register of_ram of_scrub
@@ -251,7 +252,7 @@ look_none (Look.Register a) = addressed_none a (RegisterCall.Read a) refl
 look_none (Look.Checked a) = addressed_none a (RegisterCall.Checked a 0) refl
 look_none Look.OpMode = refl
 look_none (Look.Ram a place count buf) = tt
-look_none (Look.Scrub place list rewrite) = begun_none place (start_of place list) rewrite
+look_none (Look.Scrub place list rewrite) = begun_none (start_of place list) rewrite
 
 start_none : (k : Command) → None (started k).at
 unfolding of_plan of_push of_transmit of_fetch

@@ -23,6 +23,7 @@ use Rattle.register.specs.Step as register
 use Rattle.register.specs.Laws.{heard, checked_after}
 use Rattle.watch.specs.declared.Watch.{Watch}
 use Rattle.watch.specs.declared.Begun.{Begun}
+use Rattle.watch.specs.declared.TurnedDown.{TurnedDown}
 use Rattle.watch.specs.Watch.{start_of}
 use Rattle.watch.proofs.Laws as watch
 use Rattle.scrub.specs.Scrub.{Scrub, ScrubAt}
@@ -143,13 +144,13 @@ module _ (w : Watch) (l : w.address < 2 ^ 12) where
       told (run step_of s xs).at xs r h g.at
 
 -- as it was begun
-tells_begun : (p : ℕ) (ws : List Watch) (rewrite : Bool) (xs : List (Answer × List ℕ)) (r : Report) (b : Result Begun Refusal) → start_of p ws ≡ b
-    → outcome_of (run step_of (begins p b rewrite) xs) ≡ Outcome.Scrubbed r → Tells r xs
+tells_begun : (p : ℕ) (ws : List Watch) (rewrite : Bool) (xs : List (Answer × List ℕ)) (r : Report) (b : Result Begun TurnedDown) → start_of p ws ≡ b
+    → outcome_of (run step_of (begins b rewrite) xs) ≡ Outcome.Scrubbed r → Tells r xs
 unfolding begins
-tells_begun p ws rewrite xs r (Ok b) e h = tells_so (entry_of b) (short _ ((watch.laws).due_carried p ws b e)) (begins p (Ok b) rewrite) xs r refl refl h
-tells_begun p ws rewrite xs r (Err o) e h =
-    let l : Late p (run step_of (begins p (Err o) rewrite) xs) = late p (begins p (Err o) rewrite) (record { place = refl; why = o; at = refl }) xs in
-    absurd (late_told (run step_of (begins p (Err o) rewrite) xs) r l.why l.at h)
+tells_begun p ws rewrite xs r (Ok b) e h = tells_so (entry_of b) (short _ ((watch.laws).due_carried p ws b e)) (begins (Ok b) rewrite) xs r refl refl h
+tells_begun p ws rewrite xs r (Err t) e h =
+    let l : Late t.place (run step_of (begins (Err t) rewrite) xs) = late t.place (begins (Err t) rewrite) (record { place = refl; why = t.why; at = refl }) xs in
+    absurd (late_told (run step_of (begins (Err t) rewrite) xs) r l.why l.at h)
 
 pub tells_as_read_lem : TellsAsRead
 tells_as_read_lem p ws rewrite xs r h = tells_begun p ws rewrite xs r (start_of p ws) refl h

@@ -22,6 +22,7 @@ use Rattle.call.specs.Outcome.{ended}
 use Rattle.register.specs.Step.{again}
 use Rattle.watch.specs.declared.Watch.{Watch}
 use Rattle.watch.specs.declared.Begun.{Begun}
+use Rattle.watch.specs.declared.TurnedDown.{TurnedDown}
 use Rattle.watch.specs.Watch.{all_carried, entry_in, start_of}
 use Rattle.scrub.specs.Scrub.{Scrub, ScrubAt}
 use Rattle.scrub.specs.Step.{agrees, begins, scrub_start, to, reports, differs, seen, unread, unwritten, step_at, step_of, ask_of, outcome_of}
@@ -99,9 +100,9 @@ outcome_talk s = (shown_at_lem s.at s).1
 pub scrub_start_talk : (p : ℕ) (ws : List Watch) (rewrite : Bool) → talk_of (scrub_start p ws rewrite) ≡ scrub_call p ws rewrite
 unfolding scrub_call start_of begins
 scrub_start_talk p ws rewrite =
-    if_ap (λ (b : Result Begun Refusal). talk_of (begins p b rewrite)) (eqb (length ws) 0) _ _
+    if_ap (λ (b : Result Begun TurnedDown). talk_of (begins b rewrite)) (eqb (length ws) 0) _ _
     ∙ ap (λ (t : Talk Outcome). if eqb (length ws) 0 then refused Refusal.EmptyList else t)
-    (if_ap (λ (b : Result Begun Refusal). talk_of (begins p b rewrite)) (not (all_carried ws)) _ _)
+    (if_ap (λ (b : Result Begun TurnedDown). talk_of (begins b rewrite)) (not (all_carried ws)) _ _)
 
 -- ---- how many exchanges
 

@@ -21,6 +21,7 @@ use Rattle.call.specs.declared.Report.{Report}
 use Rattle.call.specs.declared.Outcome.{Outcome}
 use Rattle.watch.specs.declared.Watch.{Watch}
 use Rattle.watch.specs.declared.Begun.{Begun}
+use Rattle.watch.specs.declared.TurnedDown.{TurnedDown}
 use Rattle.watch.specs.Watch.{blank, all_carried, place_in, entry_in, start_of}
 use Rattle.scrub.specs.Scrub.{Scrub, ScrubAt}
 use Rattle.scrub.specs.Step.{agrees, begins, scrub_start, to, reports, step_at, step_of, outcome_at, outcome_of}
@@ -102,9 +103,9 @@ module _ (p : ℕ) (ws : List Watch) (rewrite : Bool) where
   by_start : (Q : Scrub → Type 0) → ((s : Scrub) → Late p s → Q s) → ((s : Scrub) → Going p q (entry_in p ws) s → s.at ≡ ScrubAt.Visit 0 → Q s) → Q (scrub_start p ws rewrite)
   unfolding start_of begins
   by_start Q f g =
-      by_if (λ (b : Result Begun Refusal). Q (begins p b rewrite)) (eqb (length ws) 0) (λ e. f _ (record { place = refl; why = Refusal.EmptyList; at = refl }))
+      by_if (λ (b : Result Begun TurnedDown). Q (begins b rewrite)) (eqb (length ws) 0) (λ e. f _ (record { place = refl; why = Refusal.EmptyList; at = refl }))
       (λ e.
-      by_if (λ (b : Result Begun Refusal). Q (begins p b rewrite)) (not (all_carried ws)) (λ h. f _ (record { place = refl; why = Refusal.NotCarried; at = refl }))
+      by_if (λ (b : Result Begun TurnedDown). Q (begins b rewrite)) (not (all_carried ws)) (λ h. f _ (record { place = refl; why = Refusal.NotCarried; at = refl }))
       (λ h. g _ (record { behind = refl; entry = refl; waits = λ e. refl; tells = λ r e. cc }) refl))
 
   -- after any answers

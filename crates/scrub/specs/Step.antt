@@ -13,6 +13,7 @@ use Rattle.call.specs.declared.Outcome.{Outcome}
 use Rattle.register.specs.Step.{again}
 use Rattle.watch.specs.declared.Watch.{Watch}
 use Rattle.watch.specs.declared.Begun.{Begun}
+use Rattle.watch.specs.declared.TurnedDown.{TurnedDown}
 use Rattle.watch.specs.Watch.{blank, start_of}
 use Rattle.scrub.specs.Scrub.{Scrub, ScrubAt}
 
@@ -36,14 +37,14 @@ entry_of b = record { address = b.address; wanted = b.wanted; care = b.care }
 abbrev pub turned_down : (place : ℕ) → (rewrite : Bool) → Refusal → Scrub
 turned_down p rewrite why = record { place = p; next = p; entry = blank; rewrite = rewrite; at = ScrubAt.Refused why }
 
--- the step from a place on that the list began, told to rewrite or not: a visit is a checked read, of which none has mismatched yet
-unfoldable pub begins : (place : ℕ) → Result Begun Refusal → (rewrite : Bool) → Scrub
-begins p (Ok b) rewrite = record { place = p; next = b.next; entry = entry_of b; rewrite = rewrite; at = ScrubAt.Visit 0 }
-begins p (Err why) rewrite = turned_down p rewrite why
+-- the step that the list began, told to rewrite or not: a visit is a checked read, of which none has mismatched yet
+unfoldable pub begins : Result Begun TurnedDown → (rewrite : Bool) → Scrub
+begins (Ok b) rewrite = record { place = b.place; next = b.next; entry = entry_of b; rewrite = rewrite; at = ScrubAt.Visit 0 }
+begins (Err t) rewrite = turned_down t.place rewrite t.why
 
 -- a step over a list, from a place on
 abbrev pub scrub_start : (place : ℕ) → List Watch → (rewrite : Bool) → Scrub
-scrub_start p ws rewrite = begins p (start_of p ws) rewrite
+scrub_start p ws rewrite = begins (start_of p ws) rewrite
 
 -- ---- steps
 

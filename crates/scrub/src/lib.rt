@@ -14,7 +14,7 @@ ghost use Rattle.scrub.specs.Step.{agrees, rewritten, begins, to, reports, diffe
 
 use call::{Outcome, Report, Rewrite};
 use spi::{Answer, Ask, CheckedWord, Refusal};
-use watch::Begun;
+use watch::{Begun, TurnedDown};
 
 #[derive(Clone, Copy)]
 pub enum ScrubStage {
@@ -62,12 +62,12 @@ fn word_back(read: u32, wanted: u32, care: u32) -> u32
     read & !care | wanted & care
 }
 
-// A step from the place on, as the list began it, or why it did not: no exchange has mismatched yet.
+// A step as the list began it, or turned it down: no exchange has mismatched yet.
 #[tactic(auto, unfolding(crate::specs::Step::begins))]
-pub fn scrub_begin(place: usize, b: Result<Begun, Refusal>, rewrite: bool) -> ScrubNumbers
-    ensures { scrub_of result ≡ begins place b rewrite }
+pub fn scrub_begin(b: Result<Begun, TurnedDown>, rewrite: bool) -> ScrubNumbers
+    ensures { scrub_of result ≡ begins b rewrite }
 {
-    let stays = ScrubNumbers {
+    let blank = ScrubNumbers {
         stage: ScrubStage::Refused,
         rewrite,
         first: 0,
@@ -77,8 +77,8 @@ pub fn scrub_begin(place: usize, b: Result<Begun, Refusal>, rewrite: bool) -> Sc
         a: 0,
         b: 0,
         t: 0,
-        place,
-        next: place,
+        place: 0,
+        next: 0,
         why: Refusal::WrongAnswer,
     };
     match b {
@@ -87,10 +87,16 @@ pub fn scrub_begin(place: usize, b: Result<Begun, Refusal>, rewrite: bool) -> Sc
             m: b.address,
             a: b.wanted,
             b: b.care,
+            place: b.place,
             next: b.next,
-            ..stays
+            ..blank
         },
-        Err(why) => ScrubNumbers { why, ..stays },
+        Err(t) => ScrubNumbers {
+            place: t.place,
+            next: t.place,
+            why: t.why,
+            ..blank
+        },
     }
 }
 

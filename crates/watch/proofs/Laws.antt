@@ -20,7 +20,7 @@ is_due p ws b h = go (eqb (length ws) 0) (all_carried ws) refl refl
     go false false e f = let k = rw (e, f) at h in cc
     go false true e f =
         let k = rw (e, f) at h in
-        let z : visiting (place_in p (length ws) + 1) (entry_in p ws) ≡ b = cc in
+        let z : visiting p (place_in p (length ws) + 1) (entry_in p ws) ≡ b = cc in
         subst (λ (x : Begun). is_carried x.address ≡ true) z (due_carried_lem p ws e f)
 
 pub laws : Laws

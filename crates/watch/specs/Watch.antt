@@ -6,6 +6,7 @@ use Rattle.spi.specs.declared.refusal.Refusal.{Refusal}
 use Rattle.place.specs.Place.{is_carried}
 use Rattle.watch.specs.declared.Watch.{Watch}
 use Rattle.watch.specs.declared.Begun.{Begun}
+use Rattle.watch.specs.declared.TurnedDown.{TurnedDown}
 
 -- every entry's address is that of a register that is carried
 abbrev pub all_carried : List Watch → Bool
@@ -23,13 +24,17 @@ blank = record { address = 0; wanted = 0; care = 0 }
 abbrev pub entry_in : ℕ → List Watch → Watch
 entry_in p ws = get_or ws (place_in p (length ws)) blank
 
+-- refused before any exchange: the place stays
+abbrev pub turned_down : ℕ → Refusal → TurnedDown
+turned_down p why = record { place = p; why = why }
+
 -- a visit of entry w, behind which lies the place q
-abbrev pub visiting : (q : ℕ) → Watch → Begun
-visiting q w = record { next = q; address = w.address; wanted = w.wanted; care = w.care }
+abbrev pub visiting : (p q : ℕ) → Watch → Begun
+visiting p q w = record { place = p; next = q; address = w.address; wanted = w.wanted; care = w.care }
 
 -- refused before any exchange, 32 for an empty list, then 33 where any entry's address is no register's; or the visit that is due
-unfoldable pub start_of : ℕ → List Watch → Result Begun Refusal
+unfoldable pub start_of : ℕ → List Watch → Result Begun TurnedDown
 start_of p ws =
-    if eqb (length ws) 0 then Err Refusal.EmptyList
-    else if not (all_carried ws) then Err Refusal.NotCarried
-    else Ok (visiting (place_in p (length ws) + 1) (entry_in p ws))
+    if eqb (length ws) 0 then Err (turned_down p Refusal.EmptyList)
+    else if not (all_carried ws) then Err (turned_down p Refusal.NotCarried)
+    else Ok (visiting p (place_in p (length ws) + 1) (entry_in p ws))

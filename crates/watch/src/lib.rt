@@ -2,7 +2,7 @@
 #![tactic(auto)]
 
 ghost use Rattle.std.specs.Prelude.{◌≡◌};
-ghost use Rattle.watch.specs.Watch.{all_carried, place_in, start_of};
+ghost use Rattle.watch.specs.Watch.{all_carried, place_in, turned_down, start_of};
 
 use spi::Refusal;
 
@@ -20,13 +20,21 @@ pub struct Scrubber {
     pub place: usize,
 }
 
-// What a step that visits an entry begins with: the place behind the entry, and the entry.
+// What a step that visits an entry begins with: the scrubber's place, the place behind the entry, and the entry.
 #[derive(Clone, Copy)]
 pub struct Begun {
+    pub place: usize,
     pub next: usize,
     pub address: u16,
     pub wanted: u32,
     pub care: u32,
+}
+
+// A step that is refused before any exchange: the scrubber's place, which stays, and why.
+#[derive(Clone, Copy)]
+pub struct TurnedDown {
+    pub place: usize,
+    pub why: Refusal,
 }
 
 // A place beyond the end starts again at the first entry.
@@ -43,20 +51,27 @@ fn all_carried(list: &[Watch]) -> bool
     list.iter().all(|w| place::is_carried(w.address))
 }
 
+fn turned_down(place: usize, why: Refusal) -> TurnedDown
+    ensures { result ≡ turned_down place why }
+{
+    TurnedDown { place, why }
+}
+
 // Where a step over a list begins: 32 for an empty list, then 33.
 #[tactic(auto, using(crate::proofs::Lists::short_at), unfolding(crate::specs::Watch::start_of))]
-pub fn scrub_start(s: Scrubber, list: &[Watch]) -> Result<Begun, Refusal>
+pub fn scrub_start(s: Scrubber, list: &[Watch]) -> Result<Begun, TurnedDown>
     ensures { result ≡ start_of s.place list.now }
 {
     let place = place_in(s.place, list.len());
     let Some(w) = list.get(place) else {
-        return Err(Refusal::EmptyList);
+        return Err(turned_down(s.place, Refusal::EmptyList));
     };
     if !all_carried(list) {
-        return Err(Refusal::NotCarried);
+        return Err(turned_down(s.place, Refusal::NotCarried));
     }
     // A register's address has 12 bits.
     Ok(Begun {
+        place: s.place,
         next: place + 1,
         address: w.address as u16,
         wanted: w.wanted,
