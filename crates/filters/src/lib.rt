@@ -54,20 +54,26 @@ pub struct Filters<'a> {
     pub mask: &'a [u32; 32],
 }
 
-impl Filters<'_> {
-    // The control word that filter f has a byte of; of a filter that there is not, 0.
-    fn control_at(self, f: u8) -> FilterControl
-        ensures { result.0 ≡ control_at self.entry.control.now f }
-    {
-        let control = self.control;
-        FilterControl(control.get((f / 4) as usize).copied().unwrap_or(0))
-    }
+// The control word that filter f has a byte of; of a filter that there is not, 0.
+fn control_at(control: &[u32; 8], f: u8) -> FilterControl
+    ensures { result.0 ≡ control_at control.now f }
+{
+    FilterControl(control.get((f / 4) as usize).copied().unwrap_or(0))
+}
 
+// The FIFO that filter f gives its frames to.
+pub fn target_of(control: &[u32; 8], f: u8) -> u32
+    ensures { result ≡ target_of control.now f }
+{
+    control_at(control, f).target(f)
+}
+
+impl Filters<'_> {
     // The FIFO that filter f gives its frames to.
     pub fn target_of(self, f: u8) -> u32
         ensures { result ≡ target_of self.entry.control.now f }
     {
-        self.control_at(f).target(f)
+        target_of(self.control, f)
     }
 
     // Bit f is filter f.
@@ -76,7 +82,7 @@ impl Filters<'_> {
     {
         let mut w: u32 = 0;
         for f in 0..32u8 {
-            let enabled = self.control_at(f).enabled(f);
+            let enabled = control_at(self.control, f).enabled(f);
             let i = f as usize;
             if matching(enabled, self.object[i], self.mask[i], id) {
                 w |= 1 << f;
