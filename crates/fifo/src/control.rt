@@ -178,8 +178,7 @@ impl Register for FifoControl {
 
     ghost reset_is = { refl };
 
-    // The address in FIFO 1.
-    const ADDRESS: u16 = 0x05C;
+    const ADDRESS: u16 = FifoControl::FIRST;
 
     const RESET: u32 = 0x0060_0400;
 
@@ -207,6 +206,9 @@ impl Numbered for FifoControl {
 impl ControlWord for FifoControl {}
 
 impl FifoControl {
+    // The address in FIFO 1.
+    pub const FIRST: u16 = 0x05C;
+
     pub fn tfnrfnie(self) -> bool
         ensures { result ≡ flag TFNRFNIE self.0 }
     {

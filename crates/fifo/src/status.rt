@@ -71,8 +71,7 @@ impl Register for FifoStatus {
 
     ghost reset_is = { refl };
 
-    // The address in FIFO 1.
-    const ADDRESS: u16 = 0x060;
+    const ADDRESS: u16 = FifoStatus::FIRST;
 
     const RESET: u32 = 0x0000_0000;
 
@@ -100,6 +99,9 @@ impl Numbered for FifoStatus {
 impl StatusWord for FifoStatus {}
 
 impl FifoStatus {
+    // The address in FIFO 1.
+    pub const FIRST: u16 = 0x060;
+
     pub fn tfnrfnif(self) -> bool
         ensures { result ≡ flag TFNRFNIF self.0 }
     {

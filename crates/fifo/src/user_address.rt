@@ -24,6 +24,11 @@ pub trait UserAddressWord: Register {
 #[derive(Clone, Copy)]
 pub struct UserAddress(pub u32);
 
+impl UserAddress {
+    // The address in FIFO 1.
+    pub const FIRST: u16 = 0x064;
+}
+
 impl Register for UserAddress {
     ghost kind = { CiFIFOUA };
 
@@ -35,8 +40,7 @@ impl Register for UserAddress {
 
     ghost reset_is = { refl };
 
-    // The address in FIFO 1.
-    const ADDRESS: u16 = 0x064;
+    const ADDRESS: u16 = UserAddress::FIRST;
 
     const RESET: u32 = 0x0000_0000;
 

@@ -20,8 +20,7 @@ impl Register for FilterControl {
 
     ghost reset_is = { refl };
 
-    // The address of word 0.
-    const ADDRESS: u16 = 0x1D0;
+    const ADDRESS: u16 = FilterControl::FIRST;
 
     const RESET: u32 = 0x0000_0000;
 
@@ -47,6 +46,9 @@ impl Numbered for FilterControl {
 }
 
 impl FilterControl {
+    // The address of word 0.
+    pub const FIRST: u16 = 0x1D0;
+
     // The FIFO that filter m gives its messages to.
     pub fn target(self, m: u8) -> u32
         ensures { result ≡ read (FBP (m % 4)) self.0 }

@@ -20,8 +20,7 @@ impl Register for FilterMask {
 
     ghost reset_is = { refl };
 
-    // The address in filter 0.
-    const ADDRESS: u16 = 0x1F4;
+    const ADDRESS: u16 = FilterMask::FIRST;
 
     const RESET: u32 = 0x0000_0000;
 
@@ -47,6 +46,9 @@ impl Numbered for FilterMask {
 }
 
 impl FilterMask {
+    // The address in filter 0.
+    pub const FIRST: u16 = 0x1F4;
+
     pub fn msid(self) -> u32
         ensures { result ≡ read MSID self.0 }
     {

@@ -20,8 +20,7 @@ impl Register for FilterObject {
 
     ghost reset_is = { refl };
 
-    // The address in filter 0.
-    const ADDRESS: u16 = 0x1F0;
+    const ADDRESS: u16 = FilterObject::FIRST;
 
     const RESET: u32 = 0x0000_0000;
 
@@ -47,6 +46,9 @@ impl Numbered for FilterObject {
 }
 
 impl FilterObject {
+    // The address in filter 0.
+    pub const FIRST: u16 = 0x1F0;
+
     pub fn sid(self) -> u32
         ensures { result ≡ read SID self.0 }
     {
