@@ -1,27 +1,51 @@
 -- Seven bits and the number that they stand for.
 -- Assumes nothing.
-use mathlib.Core.Path.{◌≡◌, refl, ap}
-use Prim.Native.Nat.{ℕ, ◌-◌, ◌<◌}
+use mathlib.Core.Path.{◌≡◌, refl, sym, ap, ◌∙◌}
+use Prim.Native.Nat.{ℕ, suc, ◌-◌, ◌^◌, ◌<◌}
 use native.Mathlib.Omega.{arith}
+use lib.Bits.{bit_and, and_mask}
 use lib.IntN.{ℤ, pos, negsuc, ◌-ℤ◌}
-use mathlib.Core.Bool.{Bool, true, false}
+use lib.Signed.{lt_z}
+use mathlib.Core.Bool.{Bool, true, false, false≢true}
 use lib.Dec.{ltb}
 use borrow.Author.Tests.{lt-ltb, le-ltb, ltb-true, ltb-false}
 use Rattle.std.specs.Prelude.{if◌then◌else◌}
 use Rattle.laws.proofs.Choice.{by_if}
+use mir.Syntax.{w32}
+use mir.Val.{of_z, SFits}
 use Rattle.bit_timing.specs.Signed.{seven_of, number_of, Small, is_small}
 
--- the test of the range
+-- the test of the range, and what the code's two tests tell of it: a number below -64, and one not below
 pub small_told : (t : ℤ) → is_small t ≡ true → Small t
 small_told (pos n) e = ltb-true n 64 e
 small_told (negsuc n) e = ltb-true n 64 e
+
+pub told_small : (t : ℤ) → Small t → is_small t ≡ true
+told_small (pos n) h = lt-ltb n 64 h
+told_small (negsuc n) h = lt-ltb n 64 h
+
+pub below : (t : ℤ) → lt_z t (negsuc 63) ≡ true → is_small t ≡ false
+below (pos n) e = absurd (false≢true e)
+below (negsuc n) e = le-ltb n 64 (omega (arith, ltb-true 63 n e))
+
+pub not_below : (t : ℤ) → lt_z t (negsuc 63) ≡ false → lt_z t (pos 64) ≡ is_small t
+not_below (pos n) e = refl
+not_below (negsuc n) e = sym (lt-ltb n 64 (omega (arith, ltb-false 63 n e)))
 
 pub seven_lt : (t : ℤ) → Small t → seven_of t < 128
 seven_lt (pos n) h = omega arith
 seven_lt (negsuc n) h = omega arith
 
-less : (x : ℕ) → x < 128 → pos x -ℤ pos 128 ≡ negsuc (127 - x)
+-- the low seven bits of a small number's two's complement
+pub masked : (t : ℤ) → Small t → bit_and (of_z w32 t) 127 ≡ seven_of t
+masked (pos n) h = and_mask n 7 ∙ omega arith
+masked (negsuc n) h = and_mask (2 ^ 32 - suc n) 7 ∙ omega arith
+
+pub less : (x : ℕ) → x < 128 → pos x -ℤ pos 128 ≡ negsuc (127 - x)
 less x h = rw (lt-ltb x 128 h) (ap negsuc (omega arith))
+
+pub less_fits : (x : ℕ) → x < 128 → SFits w32 (pos x -ℤ pos 128)
+less_fits x h = rw (less x h) (record { sfits = omega arith })
 
 -- the laws: there and back
 pub number_seven : (t : ℤ) → Small t → number_of (seven_of t) ≡ t

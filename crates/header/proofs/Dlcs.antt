@@ -4,7 +4,7 @@ use Rattle.std.specs.Prelude.{Option, Some, None}
 use mathlib.Core.Path.{◌≡◌, refl, sym, ap, ◌∙◌}
 use mathlib.Core.Bool.{Bool, true, false, false≢true}
 use mathlib.Core.List.{List, [], ◌∷◌}
-use Prim.Native.Nat.{ℕ, zero, suc, ◌+◌, ◌-◌, ◌≤◌, ◌<◌}
+use Prim.Native.Nat.{ℕ, zero, suc, ◌+◌, ◌-◌, ◌≤◌, ◌<◌, min}
 use native.Mathlib.Nat.{le_of_suc-le-suc}
 use native.Mathlib.Omega.{arith}
 use lib.ListN.{length, get_or, take}
@@ -108,6 +108,27 @@ past : (xs : List ℕ) (d : ℕ) → length xs ≤ d → get_or xs d 0 ≡ 0
 past [] d h = refl
 past (x ∷ xs) zero h = absurd (omega arith)
 past (x ∷ xs) (suc d) h = past xs d (le_of_suc-le-suc h)
+
+pub received_past : (fdf : Bool) (d : ℕ) → 15 < d → 0 ≡ received_length fdf d
+unfolding received_length
+received_past true d h = sym (past lengths d h)
+received_past false d h = rw (past lengths d h)
+
+pub received_fd : (d : ℕ) → get_or lengths d 0 ≡ received_length true d
+unfolding received_length
+received_fd d = refl
+
+-- a classic DLC means itself up to 8, and from there on 8
+eight : ℕ → Bool
+eight d = eqb (min d 8) (min (get_or lengths d 0) 8)
+
+all_eight : every eight 16 ≡ true
+unfolding eight
+all_eight = refl
+
+pub received_classic : (d : ℕ) → d ≤ 15 → min d 8 ≡ received_length false d
+unfolding received_length eight
+received_classic d h = eqb-true _ _ (at eight 16 all_eight d (omega arith))
 
 -- what a DLC to send means it means on reception
 classic : ℕ → Bool
