@@ -13,6 +13,7 @@ use script::{Between, Bus};
 use spi::Refusal;
 use spoken::Arguments;
 use state::Model;
+use std::rt::Stdout;
 
 // The modelled chip, and where it is written what becomes of it.
 #[derive(Clone, Copy)]
@@ -87,18 +88,18 @@ pub fn received(heard: Heard, want: usize) -> usize {
 }
 
 // What came back from an exchange that was carried out, and 27 where it asked to leave Configuration and was not granted.
-pub fn write_received(to: Streams, heard: Heard, rx: &[u8], out: &mut Writer<'_>) {
+pub fn write_received(stdout: Stdout, heard: Heard, rx: &[u8], out: &mut Writer<'_>) {
     out.clear();
     out.put(b"< ");
     out.bytes(rx);
-    to.write_line(out.text());
+    output::write_line(stdout, out.text());
     if let Heard::NoLayout = heard {
-        to.write_line(b"* 27");
+        output::write_line(stdout, b"* 27");
     }
 }
 
-pub fn write_failed(to: Streams) {
-    to.write_line(b"!");
+pub fn write_failed(stdout: Stdout) {
+    output::write_line(stdout, b"!");
 }
 
 impl Chip {
@@ -170,9 +171,9 @@ impl Chip {
         let mut rx = [0u8; 2048];
         let x = model::exchange(self.model, sent, want, &mut rx);
         match x.heard {
-            Heard::Failed => write_failed(self.to),
+            Heard::Failed => write_failed(self.to.stdout),
             heard => write_received(
-                self.to,
+                self.to.stdout,
                 heard,
                 text::front(&rx, received(heard, want)),
                 &mut out,

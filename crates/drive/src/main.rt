@@ -48,7 +48,7 @@ impl Drive<'_> {
         let to = self.chip.to;
         to.error(self.number);
         to.write(b"\n");
-        faults::told(to, self.number, fault, line);
+        faults::told(to.stderr, self.number, fault, line);
     }
 
     fn opened(&mut self, line: &[u8]) {
@@ -102,6 +102,6 @@ fn main(rt: HostRuntime) {
         notes: Writer::new(&mut notes),
         said: Arguments::new(&mut lent),
     };
-    reading::each_line(to, &mut buffer, |line| drive.line(line));
+    reading::each_line(to.stdin, to.stderr, &mut buffer, |line| drive.line(line));
     drive.run_call();
 }

@@ -2,8 +2,9 @@
 #![tactic(auto)]
 
 use forms::FORMS;
-use output::Streams;
+use output::{tell, tell_number};
 use spoken::Fault;
+use std::rt::Stderr;
 
 mod forms;
 
@@ -16,14 +17,14 @@ fn plain(b: u8) -> u8 {
 }
 
 // A word, of a long one the front.
-fn show(to: Streams, w: &[u8]) {
+fn show(stderr: Stderr, w: &[u8]) {
     let mut out = [0u8; 40];
     for (place, b) in out.iter_mut().zip(w) {
         *place = plain(*b);
     }
-    to.tell(text::front(&out, w.len()));
+    tell(stderr, text::front(&out, w.len()));
     if 40 < w.len() {
-        to.tell(b"..");
+        tell(stderr, b"..");
     }
 }
 
@@ -35,13 +36,13 @@ fn named(line: &[u8]) -> &[u8] {
     }
 }
 
-fn unknown(to: Streams, w: &[u8]) {
+fn unknown(stderr: Stderr, w: &[u8]) {
     if w.is_empty() {
-        to.tell(b"a name is missing");
+        tell(stderr, b"a name is missing");
         return;
     }
-    to.tell(b"unknown word: ");
-    show(to, w);
+    tell(stderr, b"unknown word: ");
+    show(stderr, w);
 }
 
 // What a letter of a row stands for.
@@ -66,43 +67,43 @@ fn expected(letter: u8) -> &'static [u8] {
     }
 }
 
-fn wrong(to: Streams, w: &[u8], letter: u8) {
-    show(to, w);
-    to.tell(b" is not ");
-    to.tell(expected(letter));
+fn wrong(stderr: Stderr, w: &[u8], letter: u8) {
+    show(stderr, w);
+    tell(stderr, b" is not ");
+    tell(stderr, expected(letter));
 }
 
-fn reason(to: Streams, fault: Fault, words: &[u8]) {
+fn reason(stderr: Stderr, fault: Fault, words: &[u8]) {
     match fault {
-        Fault::Name => unknown(to, text::word(words, 0)),
-        Fault::Count => to.tell(b"it has another number of words than expected"),
-        Fault::Word(k, letter) => wrong(to, text::word(words, k), letter),
-        Fault::Long => to.tell(b"it is too long"),
-        Fault::Exchange => to.tell(b"behind its @ is no decimal number"),
-        Fault::Alone => to.tell(b"it is below no call that was understood"),
-        Fault::Room => to.tell(b"its call has no room for one more @ line"),
-        Fault::Place => to.tell(b"it is out of place"),
+        Fault::Name => unknown(stderr, text::word(words, 0)),
+        Fault::Count => tell(stderr, b"it has another number of words than expected"),
+        Fault::Word(k, letter) => wrong(stderr, text::word(words, k), letter),
+        Fault::Long => tell(stderr, b"it is too long"),
+        Fault::Exchange => tell(stderr, b"behind its @ is no decimal number"),
+        Fault::Alone => tell(stderr, b"it is below no call that was understood"),
+        Fault::Room => tell(stderr, b"its call has no room for one more @ line"),
+        Fault::Place => tell(stderr, b"it is out of place"),
     }
 }
 
 // The rows of a name.
-fn show_forms(to: Streams, name: &[u8]) {
+fn show_forms(stderr: Stderr, name: &[u8]) {
     for row in FORMS.iter().filter(|row| text::is(row, 0, name)) {
-        to.tell(b"    expected: ");
-        to.tell(row);
-        to.tell(b"\n");
+        tell(stderr, b"    expected: ");
+        tell(stderr, row);
+        tell(stderr, b"\n");
     }
 }
 
 // The line of this number is not understood. What a row has is told where a word or their number is wrong.
-pub fn told(to: Streams, number: u64, fault: Fault, line: &[u8]) {
+pub fn told(stderr: Stderr, number: u64, fault: Fault, line: &[u8]) {
     let words = named(line);
-    to.tell(b"line ");
-    to.tell_number(number);
-    to.tell(b": ");
-    reason(to, fault, words);
-    to.tell(b"\n");
+    tell(stderr, b"line ");
+    tell_number(stderr, number);
+    tell(stderr, b": ");
+    reason(stderr, fault, words);
+    tell(stderr, b"\n");
     if matches!(fault, Fault::Count | Fault::Word(..)) {
-        show_forms(to, text::word(words, 0));
+        show_forms(stderr, text::word(words, 0));
     }
 }

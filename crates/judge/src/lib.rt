@@ -200,7 +200,7 @@ impl<'a> Judge<'a> {
 
     fn error(&self, fault: Fault, line: &[u8]) {
         self.to.error(self.number);
-        faults::told(self.to, self.number, fault, line);
+        faults::told(self.to.stderr, self.number, fault, line);
     }
 
     // A line that is a case by itself.

@@ -10,6 +10,16 @@ pub struct Streams {
     pub stderr: Stderr,
 }
 
+// To standard output.
+pub fn write(stdout: Stdout, s: &[u8]) {
+    let _ = stdout.write_all(s);
+}
+
+pub fn write_line(stdout: Stdout, s: &[u8]) {
+    write(stdout, s);
+    write(stdout, b"\n");
+}
+
 // A number's decimal digits.
 fn in_digits<F: FnOnce(&[u8])>(n: u64, put: F)
     requires { (s : _) → F.pre put s }
@@ -17,6 +27,26 @@ fn in_digits<F: FnOnce(&[u8])>(n: u64, put: F)
     let mut digits = [0u8; 20];
     let k = io::decimal(n, &mut digits);
     put(&digits[..k]);
+}
+
+pub fn number(stdout: Stdout, n: u64) {
+    in_digits(n, |s| write(stdout, s));
+}
+
+// A line that is not understood, by its number.
+pub fn error(stdout: Stdout, at: u64) {
+    write(stdout, b"error ");
+    number(stdout, at);
+    write(stdout, b"\n");
+}
+
+// On standard error.
+pub fn tell(stderr: Stderr, s: &[u8]) {
+    let _ = stderr.write_all(s);
+}
+
+pub fn tell_number(stderr: Stderr, n: u64) {
+    in_digits(n, |s| tell(stderr, s));
 }
 
 impl Streams {
@@ -29,31 +59,26 @@ impl Streams {
     }
 
     pub fn write(self, s: &[u8]) {
-        let _ = self.stdout.write_all(s);
+        write(self.stdout, s);
     }
 
     pub fn write_line(self, s: &[u8]) {
-        self.write(s);
-        self.write(b"\n");
+        write_line(self.stdout, s);
     }
 
     pub fn number(self, n: u64) {
-        in_digits(n, |s| self.write(s));
+        number(self.stdout, n);
     }
 
-    // A line that is not understood, by its number.
     pub fn error(self, at: u64) {
-        self.write(b"error ");
-        self.number(at);
-        self.write(b"\n");
+        error(self.stdout, at);
     }
 
-    // On standard error.
     pub fn tell(self, s: &[u8]) {
-        let _ = self.stderr.write_all(s);
+        tell(self.stderr, s);
     }
 
     pub fn tell_number(self, n: u64) {
-        in_digits(n, |s| self.tell(s));
+        tell_number(self.stderr, n);
     }
 }

@@ -3,8 +3,8 @@
 
 ghost use Rattle.std.specs.Prelude.{◌≡◌, ◌==◌, ◌≤◌, length};
 
-use output::Streams;
 use std::io::Read;
+use std::rt::{Stderr, Stdin};
 
 // A line, or the front of one that is longer than the buffer.
 #[derive(Clone, Copy, Default)]
@@ -36,8 +36,7 @@ impl<'a> Filled<'a> {
 
     // A byte more: spaces that follow a space, or stand in front, are left out.
     fn push(&mut self, b: u8) {
-        let after_space = matches!(self.line(), [] | [.., b' ']);
-        if self.is_full() || b == b' ' && after_space {
+        if self.is_full() || b == b' ' && matches!(self.line(), [] | [.., b' ']) {
             return;
         }
         self.buffer[self.len] = b;
@@ -71,7 +70,8 @@ impl<'a> Filled<'a> {
 // Standard input, and which bytes of the piece that was read last are left.
 #[derive(Drop)]
 struct Reader<'a> {
-    streams: Streams,
+    stdin: Stdin,
+    stderr: Stderr,
     piece: &'a mut [u8],
     at: usize,
     have: usize,
@@ -79,9 +79,10 @@ struct Reader<'a> {
 
 impl<'a> Reader<'a> {
     // Before the first line.
-    fn new(streams: Streams, piece: &'a mut [u8]) -> Reader<'a> {
+    fn new(stdin: Stdin, stderr: Stderr, piece: &'a mut [u8]) -> Reader<'a> {
         Reader {
-            streams,
+            stdin,
+            stderr,
             piece,
             at: 0,
             have: 0,
@@ -90,11 +91,11 @@ impl<'a> Reader<'a> {
 
     // How many bytes of the next piece were read. A read that fails ends the input, and is told.
     fn fetched(&mut self) -> usize {
-        let mut input = self.streams.stdin;
+        let mut input = self.stdin;
         match input.read(self.piece) {
             Ok(n) => n,
             Err(_) => {
-                self.streams.tell(b"standard input can not be read\n");
+                output::tell(self.stderr, b"standard input can not be read\n");
                 0
             }
         }
@@ -139,11 +140,11 @@ impl<'a> Reader<'a> {
 }
 
 // Each line of standard input, in order, put into the buffer. No input has so many that the turns run out.
-pub fn each_line<F: FnMut(Line<'_>)>(streams: Streams, buffer: &mut [u8], mut visit: F)
+pub fn each_line<F: FnMut(Line<'_>)>(stdin: Stdin, stderr: Stderr, buffer: &mut [u8], mut visit: F)
     requires { F.IsAlwaysCallable visit }
 {
     let mut piece = io::large_buffer();
-    let mut input = Reader::new(streams, &mut piece);
+    let mut input = Reader::new(stdin, stderr, &mut piece);
     for _ in 0..u64::MAX {
         let Some(line) = input.next_line(buffer) else {
             return;

@@ -83,7 +83,7 @@ fn main(rt: HostRuntime) {
         rx: [0u8; 4200],
         out: Writer::new(&mut out),
     };
-    reading::each_line(to, &mut buffer, |line| replay.line(line));
+    reading::each_line(to.stdin, to.stderr, &mut buffer, |line| replay.line(line));
     replay.line(Line::default());
     replay.judge.tell();
 }

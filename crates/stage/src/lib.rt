@@ -63,16 +63,16 @@ impl Stage<'_, '_, '_> {
     }
 
     fn failed(&mut self) -> (Answer, usize) {
-        acts::write_failed(self.chip.to);
+        acts::write_failed(self.chip.to.stdout);
         self.got = 0;
         (Answer::Failed, 0)
     }
 
     fn received(&mut self, heard: Heard, n: usize) -> (Answer, usize) {
-        let to = self.chip.to;
+        let stdout = self.chip.to.stdout;
         let rx = text::front(&self.rx, n);
         let got = rx.len();
-        acts::write_received(to, heard, rx, &mut self.out);
+        acts::write_received(stdout, heard, rx, &mut self.out);
         self.got = got;
         (Answer::Exchanged, got)
     }
