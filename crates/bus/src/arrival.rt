@@ -1,9 +1,11 @@
 // A frame arrives for a FIFO.
-ghost use Rattle.std.specs.Prelude.{◌≡◌, ◌<◌, ◌≤◌, length};
+ghost use Rattle.std.specs.Prelude.{◌≡◌, not, ◌<◌, ◌≤◌, ltb, leb, length, if◌then◌else◌, Ok, Err, IfOk};
+ghost use Rattle.fifo.specs.Control.{payload_of};
 ghost use Rattle.field.specs.Field.{Fits};
 ghost use Rattle.header.specs.Header.{DLC, FILHIT, top_id};
-ghost use Rattle.ring.specs.Ring.{claimed};
+ghost use Rattle.ring.specs.Ring.{claimed, depth};
 ghost use Rattle.state.specs.Model.{fifo_at, with_fifo, written};
+ghost use Rattle.bus.specs.declared.arrival.Undelivered.{Undelivered};
 ghost use Rattle.bus.specs.Held.{slot_of};
 ghost use Rattle.bus.specs.Bus.{stamp_for, delivered, receives, appended, give, deliver_of};
 
@@ -67,27 +69,53 @@ fn receives(m: Model, n: u8) -> bool
     fifo::is_fifo(n as u32) && !ring::sending(frozen_at(m, n))
 }
 
-// An object of a payload of `len` bytes: turned down by the first cause, or appended behind those held.
+// The first cause for which FIFO n turns down a payload of `len` bytes, or none.
+fn cause(
+    configuring: bool,
+    receives: bool,
+    w: u32,
+    count: u8,
+    len: usize,
+) -> Result<(), Undelivered>
+    ensures first { result ≡ (if configuring then Err Undelivered.Configuration else if not receives then Err Undelivered.NotReceiving else if ltb (payload_of w) len then Err Undelivered.TooLong else if leb (depth w) count then Err Undelivered.Full else Ok tt) }
+    ensures room { IfOk result (λ u. count < 32) }
+{
+    if configuring {
+        return Err(Undelivered::Configuration);
+    }
+    if !receives {
+        return Err(Undelivered::NotReceiving);
+    }
+    if FifoControl(w).payload_size() < len {
+        return Err(Undelivered::TooLong);
+    }
+    if ring::depth(w) <= count as u32 {
+        return Err(Undelivered::Full);
+    }
+    Ok(())
+}
+
+// An object of a payload of `len` bytes: turned down by the first cause, or appended behind those held. One answer for each of
+// the three models that there may be: each copies its model.
 #[tactic(auto, unfolding(crate::specs::Bus::appended))]
 fn appended(m: Model, n: u8, len: usize, object: &[u8]) -> Delivered
     ensures { result ≡ appended m n len object.now }
 {
-    let w = frozen_at(m, n);
-    let f = fifo_at(m, n);
-    if m.fixed.configuring {
-        return told(Err(Undelivered::Configuration), m);
+    let delivery = cause(
+        m.fixed.configuring,
+        receives(m, n),
+        frozen_at(m, n),
+        fifo_at(m, n).count,
+        len,
+    );
+    match delivery {
+        Ok(()) => told(delivery, placed(m, n, object)),
+        Err(Undelivered::Full) => told(
+            delivery,
+            state::with_fifo(m, n, ring::overflowed(true, fifo_at(m, n))),
+        ),
+        Err(_) => told(delivery, m),
     }
-    if !receives(m, n) {
-        return told(Err(Undelivered::NotReceiving), m);
-    }
-    if FifoControl(w).payload_size() < len {
-        return told(Err(Undelivered::TooLong), m);
-    }
-    if ring::depth(w) <= f.count as u32 {
-        let full = state::with_fifo(m, n, ring::overflowed(true, f));
-        return told(Err(Undelivered::Full), full);
-    }
-    told(Ok(()), placed(m, n, object))
 }
 
 // A FIFO is given a frame that filter `hit` took.

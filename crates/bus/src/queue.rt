@@ -97,8 +97,9 @@ pub fn send_queue(m: Model) -> Sent
     }
     match winner(m) {
         Some(k) => {
+            let item = queue_item(m, k);
             let next = state::with_queue(m, ring::queue::sent(frozen_at(m, 0), k, q));
-            departure::taken(queue_item(m, k), next)
+            departure::taken(item, next)
         }
         None => departure::not_sent(Unsent::Nothing, m),
     }
