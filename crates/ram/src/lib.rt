@@ -153,7 +153,8 @@ fn is_echo(rx: &[u8]) -> bool
         return false;
     }
     for i in 0..32 {
-        if words::le_at(rx, 4 * i) != echo_word(i) {
+        let word = words::le_at(rx, 4 * i);
+        if word != echo_word(i) {
             return false;
         }
     }

@@ -33,9 +33,9 @@ fn got_of(item: Item) -> usize {
     }
 }
 
+// A wait puts no bytes, so that it needs no room for them.
 fn waits(call: Call, sent: &[u8]) -> bool {
-    let mut tx = [0u8; 4200];
-    matches!(driver::next(call, sent, &mut tx), Next::Wait)
+    matches!(driver::next(call, sent, &mut []), Next::Wait)
 }
 
 impl Talks<'_> {
@@ -73,7 +73,7 @@ impl Talks<'_> {
 
     fn refused(&self, fault: Fault, line: &[u8]) {
         self.to.error(self.number);
-        faults::told(self.to, self.number, fault, line);
+        faults::told(self.to.stderr, self.number, fault, line);
     }
 
     fn begin(&mut self, name: CallName) {
@@ -114,5 +114,5 @@ fn main(rt: HostRuntime) {
         rx: [0u8; 4200],
         out: Writer::new(&mut out),
     };
-    reading::each_line(to, &mut buffer, |line| talks.line(line));
+    reading::each_line(to.stdin, to.stderr, &mut buffer, |line| talks.line(line));
 }

@@ -19,17 +19,17 @@ returns-then-rx-ne-ECHO_LEN c = no_echo c.args.rx.now (λ e. c.if-rx-ne-ECHO_LEN
 pub loop-i-init : goal.loop-i-init
 loop-i-init c = no_words_back c.args.rx.now
 
-pub returns-then-le_at-echo_word : goal.returns-then-le_at-echo_word
-returns-then-le_at-echo_word c =
+pub returns-then-word-echo_word : goal.returns-then-word-echo_word
+returns-then-word-echo_word c =
     no_echo c.args.rx.now
     (λ e.
-    c.if-le_at-echo_word.true
-    (c.le_at.ensures ∙ ap (λ (s : List ℕ). le_at s (4 * c.loop-i.i)) e ∙ word_at c.loop-i.i (omega arith) ∙ sym c.echo_word.ensures))
+    c.if-word-echo_word.true
+    (c.le_at-word.ensures ∙ ap (λ (s : List ℕ). le_at s (4 * c.loop-i.i)) e ∙ word_at c.loop-i.i (omega arith) ∙ sym c.echo_word.ensures))
 
 pub loop-i-preserved : goal.loop-i-preserved
 loop-i-preserved c =
     next_back c.loop-i.i c.args.rx.now (omega arith) (λ k. omega (arith, c.type_inv.rx k)) c.loop-i.invariant
-    (sym c.le_at.ensures ∙ c.if-le_at-echo_word.false ∙ c.echo_word.ensures)
+    (sym c.le_at-word.ensures ∙ c.if-word-echo_word.false ∙ c.echo_word.ensures)
 
 pub returns : goal.returns
 returns c =
