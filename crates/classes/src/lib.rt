@@ -34,17 +34,17 @@ pub enum Class {
 // than the header, and whether a timestamp follows.
 #[derive(Clone, Copy)]
 pub struct Seen {
-    name: CallName,
-    wide: bool,
-    address: u32,
-    size: u64,
-    asked: u32,
-    delay: bool,
-    cut: bool,
-    user: u32,
-    second: u32,
-    long: bool,
-    stamped: bool,
+    pub name: CallName,
+    pub wide: bool,
+    pub address: u32,
+    pub size: u64,
+    pub asked: u32,
+    pub delay: bool,
+    pub cut: bool,
+    pub user: u32,
+    pub second: u32,
+    pub long: bool,
+    pub stamped: bool,
 }
 
 // Whether a setting is refused (24) that the Rust takes.

@@ -25,6 +25,12 @@ fn read_call(a: &Arguments<'_>) -> Call
     driver::read_ram(a.word(0), n.max(ROOM), 0, n)
 }
 
+fn unchecked_call(a: &Arguments<'_>) -> Call
+    ensures { IsStarted result }
+{
+    driver::queue_push_unchecked(header_at(a, 0), a.word(2), a.bytes())
+}
+
 // The call of this name. A scrub starts at the place.
 pub fn start(name: CallName, a: &Arguments<'_>, place: usize) -> Call
     ensures { IsStarted result }
@@ -59,11 +65,7 @@ pub fn start(name: CallName, a: &Arguments<'_>, place: usize) -> Call
         CallName::DisableTxQueue => driver::configure_tx_queue(None),
         CallName::ConfigureTxQueue => setup::queue_call(a),
         CallName::QueuePush => driver::queue_push(header_at(a, 0), a.word(2), a.bytes()),
-        CallName::QueuePushUnchecked => driver::queue_push_unchecked(
-            header_at(a, 0),
-            a.word(2),
-            a.bytes(),
-        ),
+        CallName::QueuePushUnchecked => unchecked_call(a),
         CallName::QueueRequest => driver::queue_request(),
     }
 }
