@@ -34,15 +34,17 @@ fn result(line: &[u8]) -> Result<Item, Fault> {
     Ok(Item::Result)
 }
 
-const OTHERS: [(&[u8], &[u8], Item); 3] = [
-    (b">", b"bd", Item::Sent),
-    (b"!", b"", Item::Failed),
-    (b"wait", b"d", Item::Wait),
-];
+fn sent(line: &[u8]) -> Result<Item, Fault> {
+    let mut scratch = [0u8; 4200];
+    let mut a = Arguments::new(&mut scratch);
+    spoken::row_of(line, &[(b">", b"bd", Item::Sent)], &mut a)
+}
+
+// Those without bytes, which need no room for them.
+const OTHERS: [(&[u8], &[u8], Item); 2] = [(b"!", b"", Item::Failed), (b"wait", b"d", Item::Wait)];
 
 fn other(line: &[u8]) -> Result<Item, Fault> {
-    let mut scratch = [0u8; 4200];
-    spoken::row_of(line, &OTHERS, &mut Arguments::new(&mut scratch))
+    spoken::row_of(line, &OTHERS, &mut Arguments::new(&mut []))
 }
 
 // A line that is too long is a call that is not understood, or nothing.
@@ -54,6 +56,7 @@ pub fn item_of(line: Line<'_>, rx: &mut [u8]) -> Result<Item, Fault> {
         _ if long => Err(Fault::Long),
         b"<" => got(said, rx),
         b"=" => result(said),
+        b">" => sent(said),
         b"field" => Ok(Item::Field),
         b"crc" => Ok(Item::Crc),
         _ => other(said),
