@@ -1,7 +1,8 @@
 // The calls on RAM: read, write, and the echo of 32 words by which the line is tried.
 #![tactic(auto)]
 
-ghost use Rattle.std.specs.Prelude.{◌≡◌, ◌<◌, ◌^◌, length};
+ghost use Rattle.std.specs.Prelude.{◌≡◌, ◌*◌, ◌<◌, ◌^◌, eqb, length};
+ghost use Rattle.words.specs.Words.{le_at};
 ghost use Rattle.spi.specs.declared.refusal.Refusal.{Refusal};
 ghost use Rattle.ram.specs.Echo.{echo_bytes, same};
 ghost use Rattle.ram.specs.Numbers.{at_stage, ram_of, gone};
@@ -145,6 +146,14 @@ pub fn ram_ask(c: RamNumbers) -> Ask
     }
 }
 
+// Whether word i of what came back is that of the echo.
+fn is_word(rx: &[u8], i: usize) -> bool
+    requires { (i < 32) × (length rx.now ≡ 128) }
+    ensures { result ≡ eqb (le_at rx.now (4 * i)) (2 ^ i) }
+{
+    words::le_at(rx, 4 * i) == echo_word(i)
+}
+
 // Whether what was read back is the pattern: word by word, so that no pattern is made.
 fn is_echo(rx: &[u8]) -> bool
     ensures { result ≡ same rx.now echo_bytes }
@@ -153,8 +162,7 @@ fn is_echo(rx: &[u8]) -> bool
         return false;
     }
     for i in 0..32 {
-        let word = words::le_at(rx, 4 * i);
-        if word != echo_word(i) {
+        if !is_word(rx, i) {
             return false;
         }
     }

@@ -36,7 +36,7 @@ impl<'a> Filled<'a> {
 
     // A byte more: spaces that follow a space, or stand in front, are left out.
     fn push(&mut self, b: u8) {
-        if self.is_full() || b == b' ' && matches!(self.line(), [] | [.., b' ']) {
+        if b == b' ' && matches!(self.line(), [] | [.., b' ']) || self.is_full() {
             return;
         }
         self.buffer[self.len] = b;
